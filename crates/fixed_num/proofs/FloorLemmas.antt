@@ -1,0 +1,69 @@
+-- Quotients rounded down.
+use Rattle.std.proofs.Common.{◌*ℤ◌, ◌+ℤ◌, ◌≡◌, ℕ, zero, suc, ◌+◌, ◌<◌, ◌≤◌, arith, ℤ, pos, ◌<ℤ◌, ◌≤ℤ◌, ap}
+use borrow.Author.Differences.{up, down, same_in, at_most_in, sum_is_lem, product_is, lt_out, le_out}
+use Rattle.fixed_num.specs.Floors.{floor_of}
+use Rattle.fixed_num.specs.Sums.{sum_below}
+use Rattle.fixed_num.proofs.SumLemmas.{sum_below-zero, sum_below-suc}
+use Rattle.fixed_num.proofs.SignedLemmas.{signed_arith, at_most_from_scaled, int_div_euclid-parts}
+
+-- a floor is the greatest whole number that is not above the quotient
+pub floor_of-greatest : (a q : ℤ) (k : ℕ) → 0 < k → (q *ℤ pos k) ≤ℤ a → q ≤ℤ floor_of a k
+floor_of-greatest a q k h l =
+    let f = floor_of a k in
+    let p = int_div_euclid-parts a k h in
+    let m = product_is q (pos k) in
+    let o = le_out (q *ℤ pos k) a l in
+    at_most_in q f (at_most_from_scaled (up q + down f) (up f + down q) k (omega (arith, p, m, o)))
+
+pub floor_of-le : (a : ℤ) (k : ℕ) → 0 < k → (floor_of a k *ℤ pos k) ≤ℤ a
+floor_of-le a k h = at_most_in (floor_of a k *ℤ pos k) a (omega (arith, int_div_euclid-parts a k h, product_is (floor_of a k) (pos k)))
+
+pub floor_of_unique : (a q : ℤ) (k : ℕ) → 0 < k → (q *ℤ pos k) ≤ℤ a → a <ℤ (q *ℤ pos k +ℤ pos k) → q ≡ floor_of a k
+floor_of_unique a q k h l u =
+    let f = floor_of a k in
+    let p = int_div_euclid-parts a k h in
+    let m = product_is q (pos k) in
+    let o = le_out (q *ℤ pos k) a l in
+    let t = lt_out a (q *ℤ pos k +ℤ pos k) u in
+    let s = sum_is_lem (q *ℤ pos k) (pos k) in
+    let one : up q + down f ≤ up f + down q = at_most_from_scaled (up q + down f) (up f + down q) k (omega (arith, p, m, o)) in
+    let two : up f + down q ≤ up q + down f = at_most_from_scaled (up f + down q) (up q + down f) k (omega (arith, p, m, t, s)) in
+    same_in q f (omega arith)
+
+-- the floors of two numbers add up to at most the floor of their sum
+pub floor_of-add : (a b : ℤ) (k : ℕ) → 0 < k → (floor_of a k +ℤ floor_of b k) ≤ℤ floor_of (a +ℤ b) k
+floor_of-add a b k h =
+    let x = floor_of a k in
+    let y = floor_of b k in
+    let z = floor_of (a +ℤ b) k in
+    let p = int_div_euclid-parts a k h in
+    let q = int_div_euclid-parts b k h in
+    let r = int_div_euclid-parts (a +ℤ b) k h in
+    let s = sum_is_lem a b in
+    let t = sum_is_lem x y in
+    let l : up x + up y + down z ≤ up z + down x + down y = at_most_from_scaled (up x + up y + down z) (up z + down x + down y) k (omega (arith, p, q, r, s)) in
+    at_most_in (x +ℤ y) z (omega (arith, t, l))
+
+-- a greater number has no lesser floor
+pub floor_of_mono : (a b : ℤ) (k : ℕ) → 0 < k → a ≤ℤ b → floor_of a k ≤ℤ floor_of b k
+floor_of_mono a b k h l =
+    let x = floor_of a k in
+    let y = floor_of b k in
+    let p = int_div_euclid-parts a k h in
+    let q = int_div_euclid-parts b k h in
+    let o = le_out a b l in
+    at_most_in x y (at_most_from_scaled (up x + down y) (up y + down x) k (omega (arith, p, q, o)))
+
+floor_of-zero : (k : ℕ) → floor_of (pos 0) k ≡ pos 0
+floor_of-zero k = ap pos (omega arith)
+
+-- the floors of the parts add up to at most the floor of the sum
+pub sum_below-floor_of : (n : ℕ) (f : ℕ → ℤ) (k : ℕ) → 0 < k → sum_below n (λ i. floor_of (f i) k) ≤ℤ floor_of (sum_below n f) k
+sum_below-floor_of zero f k h = rw (sum_below-zero (λ i. floor_of (f i) k), sum_below-zero f) (omega (arith, signed_arith))
+sum_below-floor_of (suc n) f k h =
+    rw (sum_below-suc n (λ i. floor_of (f i) k), sum_below-suc n f) (
+    let ih = le_out (sum_below n (λ i. floor_of (f i) k)) (floor_of (sum_below n f) k) (sum_below-floor_of n f k h) in
+    let st = le_out (floor_of (sum_below n f) k +ℤ floor_of (f n) k) (floor_of (sum_below n f +ℤ f n) k) (floor_of-add (sum_below n f) (f n) k h) in
+    let s = sum_is_lem (sum_below n (λ i. floor_of (f i) k)) (floor_of (f n) k) in
+    let t = sum_is_lem (floor_of (sum_below n f) k) (floor_of (f n) k) in
+    at_most_in (sum_below n (λ i. floor_of (f i) k) +ℤ floor_of (f n) k) (floor_of (sum_below n f +ℤ f n) k) (omega (arith, ih, st, s, t)))

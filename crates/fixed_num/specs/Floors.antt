@@ -1,0 +1,21 @@
+-- Quotients of whole numbers, rounded down and up.
+use Rattle.std.specs.Prelude.{ℕ, ℤ, pos, neg_ℤ, ◌*ℤ◌, ◌≤ℤ◌}
+use Rattle.std.specs.Int.{int_div_euclid}
+
+-- a / n, rounded toward minus infinity
+abbrev pub floor_of : ℤ → ℕ → ℤ
+floor_of a n = int_div_euclid a (pos n)
+
+-- a / n, rounded toward plus infinity
+abbrev pub ceil_of : ℤ → ℕ → ℤ
+ceil_of a n = neg_ℤ (int_div_euclid (neg_ℤ a) (pos n))
+
+-- q is the greatest whole number with b * q at most a
+pub record IsFloor (a b q : ℤ) : Type 0 where
+  pub reached : (b *ℤ q) ≤ℤ a
+  pub greatest : (r : ℤ) → (b *ℤ r) ≤ℤ a → r ≤ℤ q
+
+-- q is the least whole number with b * q at least a
+pub record IsCeil (a b q : ℤ) : Type 0 where
+  pub reached : a ≤ℤ (b *ℤ q)
+  pub least : (r : ℤ) → a ≤ℤ (b *ℤ r) → q ≤ℤ r
