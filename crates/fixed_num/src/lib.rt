@@ -1,5 +1,14 @@
-//! Counts of 10^-12, their sums, quotients and texts.
+//! Exact numbers: counts of 10^-12, their sums, quotients and texts, and a counter of steps.
 #![tactic(auto)]
 
-/// Nothing yet.
-pub fn nothing() {}
+mod divide;
+mod fixed;
+mod line;
+mod steps;
+mod sum;
+
+pub use divide::{ceil_div, floor_div};
+pub use fixed::{Fixed, TooLarge};
+pub use line::Line;
+pub use steps::Steps;
+pub use sum::Sum;
