@@ -1,7 +1,7 @@
--- Quotients rounded down.
-use Rattle.std.proofs.Common.{◌*ℤ◌, ◌+ℤ◌, ◌≡◌, ℕ, zero, suc, ◌+◌, ◌<◌, ◌≤◌, arith, ℤ, pos, ◌<ℤ◌, ◌≤ℤ◌, ap}
-use borrow.Author.Differences.{up, down, same_in, at_most_in, sum_is_lem, product_is, lt_out, le_out}
-use Rattle.fixed_num.specs.Floors.{floor_of}
+-- Quotients rounded down and up.
+use Rattle.std.proofs.Common.{◌*ℤ◌, ◌+ℤ◌, ◌≡◌, ℕ, zero, suc, ◌+◌, ◌*◌, ◌<◌, ◌≤◌, arith, ℤ, pos, negsuc, neg_ℤ, ◌<ℤ◌, ◌≤ℤ◌, ap, sym, subst, unsigned_abs}
+use borrow.Author.Differences.{up, down, same_in, at_most_in, sum_is_lem, neg_is, product_is, lt_out, le_out}
+use Rattle.fixed_num.specs.Floors.{floor_of, ceil_of, IsFloor, IsCeil}
 use Rattle.fixed_num.specs.Sums.{sum_below}
 use Rattle.fixed_num.proofs.SumLemmas.{sum_below-zero, sum_below-suc}
 use Rattle.fixed_num.proofs.SignedLemmas.{signed_arith, at_most_from_scaled, int_div_euclid-parts}
@@ -67,3 +67,39 @@ sum_below-floor_of (suc n) f k h =
     let s = sum_is_lem (sum_below n (λ i. floor_of (f i) k)) (floor_of (f n) k) in
     let t = sum_is_lem (floor_of (sum_below n f) k) (floor_of (f n) k) in
     at_most_in (sum_below n (λ i. floor_of (f i) k) +ℤ floor_of (f n) k) (floor_of (sum_below n f +ℤ f n) k) (omega (arith, ih, st, s, t)))
+
+-- the floor of a / k is the greatest whole number q with k * q at most a
+pub IsFloor-floor_of : (a : ℤ) (k : ℕ) → 0 < k → IsFloor a (pos k) (floor_of a k)
+IsFloor-floor_of a k h =
+    let f = floor_of a k in
+    let p = int_div_euclid-parts a k h in
+    record {
+      reached = at_most_in (pos k *ℤ f) a (omega (arith, p, product_is (pos k) f));
+      greatest = λ r l. at_most_in r f (at_most_from_scaled (up r + down f) (up f + down r) k (omega (arith, p, product_is (pos k) r, le_out (pos k *ℤ r) a l)));
+    }
+
+-- the ceiling of a / k is the least whole number q with k * q at least a
+pub IsCeil-ceil_of : (a : ℤ) (k : ℕ) → 0 < k → IsCeil a (pos k) (ceil_of a k)
+IsCeil-ceil_of a k h =
+    let f = floor_of (neg_ℤ a) k in
+    let p = int_div_euclid-parts (neg_ℤ a) k h in
+    let n = neg_is a in
+    let m = neg_is f in
+    let u = ap (λ (t : ℕ). k * t) m.0 in
+    let d = ap (λ (t : ℕ). k * t) m.1 in
+    record {
+      reached = at_most_in a (pos k *ℤ neg_ℤ f) (omega (arith, p, n, u, d, product_is (pos k) (neg_ℤ f)));
+      least = λ r l.
+          let o = le_out a (pos k *ℤ r) l in
+          let below : down r + down f ≤ up r + up f = at_most_from_scaled (down r + down f) (up r + up f) k (omega (arith, p, n, product_is (pos k) r, o)) in
+          at_most_in (neg_ℤ f) r (omega (arith, m, below));
+    }
+
+-- the same, where the divisor is a whole number above 0
+pub IsFloor_from : (a b q : ℤ) → pos 0 <ℤ b → q ≡ floor_of a (unsigned_abs b) → IsFloor a b q
+IsFloor_from a (pos k) q h e = subst (IsFloor a (pos k)) (sym e) (IsFloor-floor_of a k (omega (arith, lt_out (pos 0) (pos k) h)))
+IsFloor_from a (negsuc k) q h e = absurd (omega (arith, lt_out (pos 0) (negsuc k) h))
+
+pub IsCeil_from : (a b q : ℤ) → pos 0 <ℤ b → q ≡ ceil_of a (unsigned_abs b) → IsCeil a b q
+IsCeil_from a (pos k) q h e = subst (IsCeil a (pos k)) (sym e) (IsCeil-ceil_of a k (omega (arith, lt_out (pos 0) (pos k) h)))
+IsCeil_from a (negsuc k) q h e = absurd (omega (arith, lt_out (pos 0) (negsuc k) h))
