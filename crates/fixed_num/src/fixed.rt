@@ -1,5 +1,5 @@
 //! A count of 10^-12.
-ghost use Rattle.std.specs.Prelude.{◌≡◌, ◌^◌, ◌<◌, ◌≤◌, ◌↔◌, unsigned_abs, IfOk, OnOk, IsErr};
+ghost use Rattle.std.specs.Prelude.{◌≡◌, ◌^◌, ◌<◌, ◌≤◌, ◌↔◌, pos, unsigned_abs, IfOk, OnOk, IsErr};
 
 use std::error::Error;
 use std::fmt;
@@ -38,6 +38,12 @@ impl Model for Fixed {
 impl Fixed {
     /// The least absolute value of a count that is too large.
     const LIMIT: u128 = 100_000_000_000_000_000_000;
+
+    pub fn zero() -> Fixed
+        ensures { result ≡ pos 0 }
+    {
+        Fixed { number: 0 }
+    }
 
     pub fn from_count(count: i128) -> Result<Fixed, TooLarge>
         ensures value { IfOk result (λ fixed. fixed ≡ count) }
