@@ -64,3 +64,26 @@ impl Fixed {
         self.number
     }
 }
+
+#[cfg(test)]
+mod tests {
+    use super::*;
+
+    #[test]
+    fn takes_counts_below_the_limit(rt: HostRuntime) {
+        assert_eq!(rt; Fixed::zero().count(), 0);
+        for (count, fits) in [
+            (99_999_999_999_999_999_999, true),
+            (100_000_000_000_000_000_000, false),
+            (-99_999_999_999_999_999_999, true),
+            (-100_000_000_000_000_000_000, false),
+            (-1, true),
+            (i128::MIN, false),
+        ] {
+            match Fixed::from_count(count) {
+                Ok(fixed) => assert_eq!(rt; (fixed.count(), fits), (count, true)),
+                Err(TooLarge) => assert!(rt; !fits, "{count}"),
+            }
+        }
+    }
+}
