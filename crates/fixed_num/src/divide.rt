@@ -3,7 +3,6 @@ ghost use Rattle.std.specs.Prelude.{◌≡◌, ◌^◌, ◌≤◌, pos, ◌<ℤ�
 ghost use Rattle.fixed_num.specs.Floors.{floor_of, ceil_of, IsFloor, IsCeil};
 
 /// `a / b`, rounded toward minus infinity.
-#[tactic(auto, using(crate::proofs::FloorLemmas::IsFloor_from))]
 pub fn floor_div(a: i128, b: i128) -> i128
     requires positive { pos 0 <ℤ b }
     requires small { unsigned_abs a ≤ 10 ^ 37 }
@@ -15,7 +14,6 @@ pub fn floor_div(a: i128, b: i128) -> i128
 }
 
 /// `a / b`, rounded toward plus infinity.
-#[tactic(auto, using(crate::proofs::FloorLemmas::IsCeil_from))]
 pub fn ceil_div(a: i128, b: i128) -> i128
     requires positive { pos 0 <ℤ b }
     requires small { unsigned_abs a ≤ 10 ^ 37 }
