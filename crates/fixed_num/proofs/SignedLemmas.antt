@@ -1,18 +1,19 @@
 -- Whole numbers for `omega`, which reads one as the difference of two natural numbers, `up z - down z`.
 use Rattle.std.proofs.Common.{◌*ℤ◌, ◌≡◌, ℕ, ◌+◌, ◌*◌, ◌^◌, ◌<◌, ◌≤◌, arith, ℤ, pos, negsuc, to_z, of_z, to_z-of_z, unsigned_abs}
-use Rattle.std.specs.Int.{w128, int_div_euclid}
+use Rattle.std.specs.Int.{w128}
 use Rattle.std.proofs.lemmas.Int.{ints, clamps, fits_signed_from_abs, unsigned_abs-mul}
 use Rattle.std.proofs.lemmas.Nat.{mul-le}
 use Rattle.std.proofs.Math.Nat.{lt_of_mul-lt-mul_right}
 use borrow.Author.Differences.{up, down}
+use Rattle.fixed_num.specs.Floors.{floor_of}
 
 -- the absolute value
 pub unsigned_abs-parts : (z : ℤ) → unsigned_abs z ≡ up z + down z
 unsigned_abs-parts (pos a) = omega arith
 unsigned_abs-parts (negsuc a) = omega arith
 
--- the quotient q rounded down has k * q ≤ a < k * (q + 1)
-pub int_div_euclid-parts : (a : ℤ) (k : ℕ) → 0 < k → (k * up (int_div_euclid a (pos k)) + down a ≤ up a + k * down (int_div_euclid a (pos k))) × (up a + k * down (int_div_euclid a (pos k)) < k * up (int_div_euclid a (pos k)) + k + down a)
+-- the quotient q rounded down has q * k ≤ a < q * k + k
+pub int_div_euclid-parts : (a : ℤ) (k : ℕ) → 0 < k → (up (floor_of a k) * k + down a ≤ down (floor_of a k) * k + up a) × (down (floor_of a k) * k + up a < up (floor_of a k) * k + down a + k)
 int_div_euclid-parts (pos a) k some = omega arith
 int_div_euclid-parts (negsuc a) k some = omega arith
 

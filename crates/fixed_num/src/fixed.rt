@@ -68,9 +68,10 @@ impl Fixed {
 #[cfg(test)]
 mod tests {
     use super::*;
+    use std::test::Fail;
 
     #[test]
-    fn takes_counts_below_the_limit(rt: HostRuntime) {
+    fn takes_counts_below_the_limit(rt: HostRuntime) -> Result<(), Fail> {
         assert_eq!(rt; Fixed::zero().count(), 0);
         for (count, fits) in [
             (99_999_999_999_999_999_999, true),
@@ -85,5 +86,11 @@ mod tests {
                 Err(TooLarge) => assert!(rt; !fits, "{count}"),
             }
         }
+        let text = format!(in rt.alloc(); "{TooLarge}")?;
+        assert_eq!(rt;
+            text.as_str(),
+            "the count is not below 10^20 in absolute value"
+        );
+        Ok(())
     }
 }
