@@ -1,7 +1,7 @@
 -- Quotients rounded down and up.
-use Rattle.std.proofs.Common.{◌*ℤ◌, ◌+ℤ◌, ◌≡◌, ℕ, zero, suc, ◌+◌, ◌*◌, ◌<◌, ◌≤◌, arith, ℤ, pos, negsuc, neg_ℤ, ◌<ℤ◌, ◌≤ℤ◌, ap, sym, subst, unsigned_abs}
+use Rattle.std.proofs.Common.{◌*ℤ◌, ◌+ℤ◌, ◌≡◌, ℕ, zero, suc, ◌+◌, ◌*◌, ◌<◌, ◌≤◌, arith, ℤ, pos, negsuc, neg_ℤ, ◌<ℤ◌, ◌≤ℤ◌, ap, sym, subst}
 use borrow.Author.Differences.{up, down, same_in, at_most_in, sum_is_lem, neg_is, product_is, lt_out, le_out}
-use Rattle.fixed_num.specs.Floors.{floor_of, ceil_of, IsFloor, IsCeil}
+use Rattle.fixed_num.specs.Floors.{floor_of, ceil_of, floor_quotient, ceil_quotient, IsFloor, IsCeil}
 use Rattle.fixed_num.specs.Sums.{sum_below}
 use Rattle.fixed_num.proofs.SumLemmas.{sum_below-zero, sum_below-suc}
 use Rattle.fixed_num.proofs.SignedLemmas.{signed_arith, at_most_from_scaled, int_div_euclid-parts}
@@ -96,10 +96,10 @@ IsCeil-ceil_of a k h =
     }
 
 -- the same, where the divisor is a whole number above 0
-pub IsFloor_from : (a b q : ℤ) → pos 0 <ℤ b → q ≡ floor_of a (unsigned_abs b) → IsFloor a b q
+pub IsFloor_from : (a b q : ℤ) → pos 0 <ℤ b → q ≡ floor_quotient a b → IsFloor a b q
 IsFloor_from a (pos k) q h e = subst (IsFloor a (pos k)) (sym e) (IsFloor-floor_of a k (omega (arith, lt_out (pos 0) (pos k) h)))
 IsFloor_from a (negsuc k) q h e = absurd (omega (arith, lt_out (pos 0) (negsuc k) h))
 
-pub IsCeil_from : (a b q : ℤ) → pos 0 <ℤ b → q ≡ ceil_of a (unsigned_abs b) → IsCeil a b q
+pub IsCeil_from : (a b q : ℤ) → pos 0 <ℤ b → q ≡ ceil_quotient a b → IsCeil a b q
 IsCeil_from a (pos k) q h e = subst (IsCeil a (pos k)) (sym e) (IsCeil-ceil_of a k (omega (arith, lt_out (pos 0) (pos k) h)))
 IsCeil_from a (negsuc k) q h e = absurd (omega (arith, lt_out (pos 0) (negsuc k) h))

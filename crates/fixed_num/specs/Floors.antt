@@ -2,13 +2,20 @@
 use Rattle.std.specs.Prelude.{ℕ, ℤ, pos, neg_ℤ, ◌*ℤ◌, ◌≤ℤ◌}
 use Rattle.std.specs.Int.{int_div_euclid}
 
--- a / n, rounded toward minus infinity
-abbrev pub floor_of : ℤ → ℕ → ℤ
-floor_of a n = int_div_euclid a (pos n)
+-- a / b for b above 0, rounded toward minus infinity
+abbrev pub floor_quotient : ℤ → ℤ → ℤ
+floor_quotient a b = int_div_euclid a b
 
--- a / n, rounded toward plus infinity
+-- a / b for b above 0, rounded toward plus infinity
+abbrev pub ceil_quotient : ℤ → ℤ → ℤ
+ceil_quotient a b = neg_ℤ (floor_quotient (neg_ℤ a) b)
+
+-- the same, where the divisor is a natural number
+abbrev pub floor_of : ℤ → ℕ → ℤ
+floor_of a n = floor_quotient a (pos n)
+
 abbrev pub ceil_of : ℤ → ℕ → ℤ
-ceil_of a n = neg_ℤ (int_div_euclid (neg_ℤ a) (pos n))
+ceil_of a n = ceil_quotient a (pos n)
 
 -- q is the greatest whole number with b * q at most a
 pub record IsFloor (a b q : ℤ) : Type 0 where
