@@ -1,0 +1,27 @@
+-- What the layers above say of a desk: what its files hold, and what was said in a call.
+use Rattle.std.specs.Prelude.{◌≡◌, ◌⊎◌, ℕ, List, ◌++◌, drop, Some, IfSome, IsSomeAnd, option_map}
+use Rattle.plan_desk.specs.Desk.{Shown, ShowsSame, after_take_in, after_failed_take_in}
+
+-- the file of this name holds these bytes, where that is told
+abbrev pub HoldsBytes : Shown → List ℕ → List ℕ → Type 0
+HoldsBytes s name bytes = IfSome s.output.holds (λ holds. holds name ≡ Some bytes)
+
+-- The bytes of the file of this name are such, or it is not told what is read or what files hold. For a conclusion:
+-- not told makes it true.
+abbrev pub WhereToldHolds : Shown → List ℕ → (List ℕ → Type 0) → Type 0
+WhereToldHolds s name P = IfSome s.input.unread (λ _. IfSome s.output.holds (λ holds. IsSomeAnd (holds name) P))
+
+-- It is told what is read and what files hold, and the bytes of the file of this name are such. For a premise: not told
+-- makes it false.
+abbrev pub TellsSuch : Shown → List ℕ → (List ℕ → Type 0) → Type 0
+TellsSuch s name P = IsSomeAnd s.input.unread (λ _. IsSomeAnd s.output.holds (λ holds. IsSomeAnd (holds name) P))
+
+-- the text was said between these two, and nothing else, where that is told
+abbrev pub Says : List ℕ → Shown → Shown → Type 0
+Says text old new = new.said ≡ option_map (λ said. said ++ text) old.said
+
+-- What a read of a whole file leaves that came to no end: no file is taken in, or the one of this name is, and some
+-- first bytes of it were read
+abbrev pub StopsReading : List ℕ → (old new : Shown) → Type 0
+StopsReading name old new = ShowsSame new (after_failed_take_in old)
+    ⊎ ((bytes : List ℕ) × ((count : ℕ) × (HoldsBytes old name bytes × ShowsSame new (after_take_in name (drop count bytes) old))))

@@ -1,0 +1,7 @@
+pub mod Desk
+pub mod Faults
+pub mod Contents
+pub mod Calls
+pub mod Stored
+pub mod Mem
+pub mod Real

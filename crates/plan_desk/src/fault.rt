@@ -1,0 +1,31 @@
+// How faults are counted and kept.
+ghost use Rattle.std.specs.Prelude.{◌≡◌, ◌≤◌, List, IfSome, true};
+ghost use Rattle.plan_desk.specs.Desk.{Fault};
+ghost use Rattle.plan_desk.specs.Faults.{Rose, count_after};
+ghost use Rattle.plan_desk.specs.Mem.{fault_of, IsLastAt};
+ghost use Rattle.plan_desk.specs.Stored.{Stored};
+
+use crate::files::LastFault;
+use crate::{DeskCall, Failed};
+use std::alloc::Global;
+
+/// Counts a fault.
+pub fn count_fault(faults: &mut u64) -> Failed
+    ensures one { faults.new ≡ count_after true faults.old }
+    ensures rose { Rose faults.old faults.new }
+    ensures later { faults.old ≤ faults.new }
+{
+    *faults = faults.saturating_add(1);
+    Failed
+}
+
+/// What is kept of a fault at this name, where there is memory for the name.
+pub fn named(alloc: Global, call: DeskCall, name: &str) -> Option<LastFault>
+    ensures fault { IfSome result (λ l. (files : List Stored) → fault_of files l ≡ record { call = call; name = name.now }) }
+    ensures kept { (files : List Stored) → IsLastAt files result }
+{
+    match String::from_str(alloc, name) {
+        Ok(name) => Some(LastFault::Named(call, name)),
+        Err(_) => None,
+    }
+}

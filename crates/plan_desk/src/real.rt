@@ -1,0 +1,139 @@
+// Real files and standard output.
+ghost use Rattle.std.specs.Prelude.{◌≡◌, IsTrue, is_err};
+ghost use Rattle.plan_desk.specs.Calls.{TakesIn, Reads, PutsOut, Writes, FinishesOut, Speaks};
+ghost use Rattle.plan_desk.specs.Faults.{count_after};
+
+use crate::fault::count_fault;
+use crate::{Desk, Failed};
+use std::alloc::Global;
+use std::fs;
+use std::io::{Read, Write};
+use std::marker::Model;
+use std::rt::Files;
+
+/// The files and the standard output of a runtime, which is trusted to pass on what the system did.
+///
+/// It tells no contents, no names and no last fault: only whether a file is taken in, whether one is open, and its count
+/// of faults, to which each `Failed` adds one.
+#[derive(Drop)]
+pub struct RealDesk<R: Files + Print + Drop> {
+    rt: R,
+    taken: Option<R::File>,
+    writing: Option<R::File>,
+    faults: u64,
+}
+
+impl<R: Files + Print + Drop> Model for RealDesk<R> {
+    ghost use Rattle.std.specs.Prelude.{is_some};
+    ghost use Rattle.plan_desk.specs.Real.{RealState};
+
+    ghost Value = { RealState };
+
+    ghost view = { λ d. record { taken = is_some d.taken; opened = is_some d.writing; faults = d.faults } };
+}
+
+impl<R: Files + Print + Drop> RealDesk<R> {
+    ghost use Rattle.std.specs.Prelude.{false};
+
+    /// A desk that has made no call. It takes no memory.
+    pub fn make(rt: R, _alloc: Global) -> Self
+        ensures { result ≡ record { taken = false; opened = false; faults = 0 } }
+    {
+        RealDesk {
+            rt,
+            taken: None,
+            writing: None,
+            faults: 0,
+        }
+    }
+}
+
+impl<R: Files + Print + Drop> Desk for RealDesk<R> {
+    ghost use Rattle.plan_desk.specs.Real.{real_shows};
+
+    ghost shows = { real_shows };
+
+    fn take_in(&mut self, name: &str) -> Result<(), Failed>
+        ensures call { TakesIn name.now (real_shows self.old) (real_shows self.new) result }
+        ensures count { self.new.faults ≡ count_after (is_err result) self.old.faults }
+    {
+        self.taken = None;
+        match fs::open(&self.rt, name) {
+            Ok(file) => {
+                self.taken = Some(file);
+                Ok(())
+            }
+            Err(_) => Err(count_fault(&mut self.faults)),
+        }
+    }
+
+    fn read(&mut self, buf: &mut [u8]) -> Result<usize, Failed>
+        requires taken { IsTrue self.old.taken }
+        ensures call { Reads buf.new (real_shows self.old) (real_shows self.new) result }
+        ensures count { self.new.faults ≡ count_after (is_err result) self.old.faults }
+    {
+        match &mut self.taken {
+            Some(file) => match file.read(buf) {
+                Ok(n) => Ok(n),
+                Err(_) => Err(count_fault(&mut self.faults)),
+            },
+            None => unreachable!(),
+        }
+    }
+
+    fn put_out(&mut self, name: &str) -> Result<(), Failed>
+        ensures call { PutsOut name.now (real_shows self.old) (real_shows self.new) result }
+        ensures count { self.new.faults ≡ count_after (is_err result) self.old.faults }
+    {
+        self.taken = None;
+        self.writing = None;
+        match fs::create(&self.rt, name) {
+            Ok(file) => {
+                self.writing = Some(file);
+                Ok(())
+            }
+            Err(_) => Err(count_fault(&mut self.faults)),
+        }
+    }
+
+    fn write(&mut self, piece: &[u8]) -> Result<usize, Failed>
+        requires opened { IsTrue self.old.opened }
+        ensures call { Writes piece.now (real_shows self.old) (real_shows self.new) result }
+        ensures count { self.new.faults ≡ count_after (is_err result) self.old.faults }
+    {
+        match &mut self.writing {
+            Some(file) => match file.write(piece) {
+                // A device that takes nothing has failed.
+                Ok(n) if 0 < n || piece.is_empty() => Ok(n),
+                _ => Err(count_fault(&mut self.faults)),
+            },
+            None => unreachable!(),
+        }
+    }
+
+    fn finish_out(&mut self) -> Result<(), Failed>
+        requires opened { IsTrue self.old.opened }
+        ensures call { FinishesOut (real_shows self.old) (real_shows self.new) result }
+        ensures count { self.new.faults ≡ count_after (is_err result) self.old.faults }
+    {
+        let flushed = match &mut self.writing {
+            Some(file) => file.flush(),
+            None => unreachable!(),
+        };
+        self.writing = None;
+        match flushed {
+            Ok(()) => Ok(()),
+            Err(_) => Err(count_fault(&mut self.faults)),
+        }
+    }
+
+    fn say(&mut self, piece: &[u8]) -> Result<usize, Failed>
+        ensures call { Speaks piece.now (real_shows self.old) (real_shows self.new) result }
+        ensures count { self.new.faults ≡ count_after (is_err result) self.old.faults }
+    {
+        match self.rt.write_some(piece) {
+            Ok(n) if 0 < n || piece.is_empty() => Ok(n),
+            _ => Err(count_fault(&mut self.faults)),
+        }
+    }
+}
