@@ -1,3 +1,4 @@
 pub mod Appended
 pub mod Places
 pub mod Unread
+pub mod Kept

@@ -144,22 +144,24 @@ name-behind (f ∷ fs) g zero lt = refl
 name-behind (f ∷ fs) g (suc k) lt = name-behind fs g k (omega arith)
 
 -- a file of this name was there
-pub put_over : (old : List Stored) (i : ℕ) (f : Stored) → IsAt old i f.name → IsPut old (set old i f) i f
-put_over old i f at =
-    let is : f.name ≡ (file_at old i).name = sym (at_name old i f.name at) in
-    record {
-      first = at-set old i f i f.name is at;
+pub put_over : (old new : List Stored) (i : ℕ) (f : Stored) → IsAt old i f.name → new ≡ set old i (record f { name = (file_at old i).name }) → IsPut old new i f
+put_over old new i f at e =
+    let is : (file_at old i).name ≡ f.name = at_name old i f.name at in
+    let put : new ≡ set old i f = e ∙ ap (λ (n : List ℕ). set old i (record f { name = n })) is in
+    subst (λ (l : List Stored). IsPut old l i f) (sym put) (record {
+      first = at-set old i f i f.name (sym is) at;
       files = λ part j other. first_of-set part old i f.name f at refl other j;
-      names = λ k lt. (omega (arith, length-set old i f), name-set old i f k is);
-    }
+      names = λ k lt. (omega (arith, length-set old i f, lt), name-set old i f k (sym is));
+    })
 
 -- no file of this name was there
-pub put_behind : (old : List Stored) (f : Stored) → held_by old f.name ≡ None → IsPut old (old ++ f ∷ []) (length old) f
-put_behind old f none = record {
-  first = at-behind old f none;
-  files = λ part j other. first_of-behind part old f none other j;
-  names = λ k lt. (omega (arith, length-append old (f ∷ [])), name-behind old f k lt);
-}
+pub put_behind : (old new : List Stored) (i : ℕ) (f : Stored) → i ≡ length old → held_by old f.name ≡ None → new ≡ old ++ f ∷ [] → IsPut old new i f
+put_behind old new i f at none e =
+    subst (λ (l : List Stored). IsPut old l i f) (sym e) (subst (λ (k : ℕ). IsPut old (old ++ f ∷ []) k f) (sym at) (record {
+      first = at-behind old f none;
+      files = λ part j other. first_of-behind part old f none other j;
+      names = λ k lt. (omega (arith, length-append old (f ∷ []), lt), name-behind old f k lt);
+    }))
 
 -- the file at a place has other bytes
 module _ (old : List Stored) (i : ℕ) (g : Stored) (first : IsAt old i (file_at old i).name) (is : g.name ≡ (file_at old i).name) where

@@ -1,6 +1,5 @@
 -- What each call of a desk does: what its success means, what a failure leaves, and when it fails.
-use Rattle.std.specs.Prelude.{◌≡◌, ℕ, ◌<◌, ◌≤◌, List, [], length, take, Option, Some, Result, IfOk, OnOk, OnErr, IfSome}
-use Rattle.plan_desk.specs.declared.call.DeskCall.{DeskCall}
+use Rattle.std.specs.Prelude.{◌≡◌, ℕ, ◌<◌, ◌≤◌, List, [], length, take, Some, Result, IfOk, OnOk, OnErr, IfSome}
 use Rattle.plan_desk.specs.declared.call.DeskCall.TheVariants.{TakeIn, Read, PutOut, Write, FinishOut, Say}
 use Rattle.plan_desk.specs.declared.call.Failed.{Failed}
 use Rattle.plan_desk.specs.Desk.{Shown, ShowsSame, after_take_in, after_failed_take_in, after_read, after_put_out, after_failed_put_out, after_write, after_finish_out, after_say}

@@ -19,6 +19,17 @@ pub fn count_fault(faults: &mut u64) -> Failed
     Failed
 }
 
+/// Counts a fault and keeps it as the last one.
+pub fn fail(faults: &mut u64, last: &mut Option<LastFault>, fault: Option<LastFault>) -> Failed
+    ensures kept { last.new ≡ fault }
+    ensures one { faults.new ≡ count_after true faults.old }
+    ensures rose { Rose faults.old faults.new }
+    ensures later { faults.old ≤ faults.new }
+{
+    *last = fault;
+    count_fault(faults)
+}
+
 /// What is kept of a fault at this name, where there is memory for the name.
 pub fn named(alloc: Global, call: DeskCall, name: &str) -> Option<LastFault>
     ensures fault { IfSome result (λ l. (files : List Stored) → fault_of files l ≡ record { call = call; name = name.now }) }

@@ -4,7 +4,7 @@ ghost use Rattle.plan_desk.specs.Calls.{TakesIn, Reads, PutsOut, Writes, Finishe
 ghost use Rattle.plan_desk.specs.declared.call.DeskCall.{DeskCall};
 
 use crate::due::is_listed;
-use crate::fault::{count_fault, named};
+use crate::fault::{fail, named};
 use crate::files::{LastFault, Listed, MemFile, Place};
 use crate::find::{append, copy_part, find, held, put};
 use crate::{Desk, DeskCall, Failed};
@@ -131,8 +131,8 @@ impl Desk for MemDesk {
             }
         }
         self.taken = None;
-        self.last = named(self.alloc, DeskCall::TakeIn, name);
-        Err(count_fault(&mut self.faults))
+        let fault = named(self.alloc, DeskCall::TakeIn, name);
+        Err(fail(&mut self.faults, &mut self.last, fault))
     }
 
     fn read(&mut self, buf: &mut [u8]) -> Result<usize, Failed>
@@ -147,8 +147,8 @@ impl Desk for MemDesk {
             unreachable!();
         };
         if is_listed(&mut self.made, &self.listed, DeskCall::Read) {
-            self.last = Some(LastFault::OfFile(DeskCall::Read, place.file));
-            return Err(count_fault(&mut self.faults));
+            let fault = Some(LastFault::OfFile(DeskCall::Read, place.file));
+            return Err(fail(&mut self.faults, &mut self.last, fault));
         }
         let n = copy_part(&self.files, place.file, place.from, self.most, buf);
         self.taken = Some(Place {
@@ -165,14 +165,20 @@ impl Desk for MemDesk {
     {
         self.taken = None;
         self.writing = None;
-        if !is_listed(&mut self.made, &self.listed, DeskCall::PutOut) {
-            if let Ok(at) = put(self.alloc, &mut self.files, name, Vec::new(self.alloc), true) {
+        if is_listed(&mut self.made, &self.listed, DeskCall::PutOut) {
+            let fault = named(self.alloc, DeskCall::PutOut, name);
+            return Err(fail(&mut self.faults, &mut self.last, fault));
+        }
+        match put(self.alloc, &mut self.files, name, Vec::new(self.alloc), true) {
+            Ok(at) => {
                 self.writing = Some(at);
-                return Ok(());
+                Ok(())
+            }
+            Err(_) => {
+                let fault = named(self.alloc, DeskCall::PutOut, name);
+                Err(fail(&mut self.faults, &mut self.last, fault))
             }
         }
-        self.last = named(self.alloc, DeskCall::PutOut, name);
-        Err(count_fault(&mut self.faults))
     }
 
     fn write(&mut self, piece: &[u8]) -> Result<usize, Failed>
@@ -186,13 +192,17 @@ impl Desk for MemDesk {
         let Some(at) = self.writing else {
             unreachable!();
         };
-        if !is_listed(&mut self.made, &self.listed, DeskCall::Write)
-            && append(&mut self.files, at, piece).is_ok()
-        {
-            return Ok(piece.len());
+        if is_listed(&mut self.made, &self.listed, DeskCall::Write) {
+            let fault = Some(LastFault::OfFile(DeskCall::Write, at));
+            return Err(fail(&mut self.faults, &mut self.last, fault));
         }
-        self.last = Some(LastFault::OfFile(DeskCall::Write, at));
-        Err(count_fault(&mut self.faults))
+        match append(&mut self.files, at, piece) {
+            Ok(()) => Ok(piece.len()),
+            Err(_) => {
+                let fault = Some(LastFault::OfFile(DeskCall::Write, at));
+                Err(fail(&mut self.faults, &mut self.last, fault))
+            }
+        }
     }
 
     fn finish_out(&mut self) -> Result<(), Failed>
@@ -207,8 +217,8 @@ impl Desk for MemDesk {
         };
         self.writing = None;
         if is_listed(&mut self.made, &self.listed, DeskCall::FinishOut) {
-            self.last = Some(LastFault::OfFile(DeskCall::FinishOut, at));
-            return Err(count_fault(&mut self.faults));
+            let fault = Some(LastFault::OfFile(DeskCall::FinishOut, at));
+            return Err(fail(&mut self.faults, &mut self.last, fault));
         }
         Ok(())
     }
@@ -220,12 +230,12 @@ impl Desk for MemDesk {
         ensures told { OnErr result (IsSome self.new.last) }
         ensures count { CountsCall DeskCall.Say self.old self.new result }
     {
-        if !is_listed(&mut self.made, &self.listed, DeskCall::Say)
-            && self.spoken.extend_from_slice(piece).is_ok()
-        {
-            return Ok(piece.len());
+        if is_listed(&mut self.made, &self.listed, DeskCall::Say) {
+            return Err(fail(&mut self.faults, &mut self.last, Some(LastFault::Said)));
         }
-        self.last = Some(LastFault::Said);
-        Err(count_fault(&mut self.faults))
+        match self.spoken.extend_from_slice(piece) {
+            Ok(()) => Ok(piece.len()),
+            Err(_) => Err(fail(&mut self.faults, &mut self.last, Some(LastFault::Said))),
+        }
     }
 }

@@ -1,4 +1,4 @@
-use Rattle.std.proofs.Common.{◌≡◌, List, ℕ, true, false, arith, below_more, ap, sym, ◌∙◌}
+use Rattle.std.proofs.Common.{◌≡◌, arith, below_more, ap, sym, ◌∙◌}
 use Rattle.std.specs.Prelude.{bytes_eq}
 use Rattle.std.proofs.lemmas.Slice.Eq.{bytes_eq-Decides}
 use Rattle.plan_desk.specs.Stored.{Stored}
