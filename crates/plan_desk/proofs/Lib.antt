@@ -2,3 +2,4 @@ pub mod Appended
 pub mod Places
 pub mod Unread
 pub mod Kept
+pub mod Composed

@@ -23,3 +23,6 @@ pub use loops::{read_all, say_all, write_all};
 pub use mem::MemDesk;
 pub use read_fault::ReadFault;
 pub use real::RealDesk;
+
+#[cfg(test)]
+mod tests;
