@@ -49,9 +49,9 @@ pub fn write_all<D: Desk>(desk: &mut D, piece: &[u8]) -> Result<(), Failed>
         × ShowsSame (D.shows desk.new) (after_write (take n piece.now) (D.shows desk.old))) }
     ensures faults { CountsFault (D.shows desk.old) (D.shows desk.new) (IsFaultOf DeskCall.Write (D.shows desk.old).output.name) result }
 {
-    let mut from = 0;
-    while from < piece.len() {
-        from += desk.write(&piece[from..])?;
+    let mut written = 0;
+    while written < piece.len() {
+        written += desk.write(&piece[written..])?;
     }
     Ok(())
 }
@@ -65,9 +65,9 @@ pub fn say_all<D: Desk>(desk: &mut D, piece: &[u8]) -> Result<(), Failed>
         × ShowsSame (D.shows desk.new) (after_say (take n piece.now) (D.shows desk.old))) }
     ensures faults { CountsFault (D.shows desk.old) (D.shows desk.new) (IsFaultOf DeskCall.Say (Some [])) result }
 {
-    let mut from = 0;
-    while from < piece.len() {
-        from += desk.say(&piece[from..])?;
+    let mut said = 0;
+    while said < piece.len() {
+        said += desk.say(&piece[said..])?;
     }
     Ok(())
 }

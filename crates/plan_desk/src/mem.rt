@@ -33,15 +33,15 @@ impl Model for MemDesk {
     ghost Value = { MemState };
 
     ghost view = { λ d. record {
-        files = d.files.items;
-        taken = d.taken;
-        writing = d.writing;
-        spoken = d.spoken.items;
-        most = d.most;
-        listed = d.listed.items;
-        made = d.made;
-        faults = d.faults;
-        last = option_map (fault_of d.files.items) d.last;
+      files = d.files.items;
+      taken = d.taken;
+      writing = d.writing;
+      spoken = d.spoken.items;
+      most = d.most;
+      listed = d.listed.items;
+      made = d.made;
+      faults = d.faults;
+      last = option_map (fault_of d.files.items) d.last;
     } };
 
     ghost invariant = { λ d. IsConsistent d.files.items d.taken d.writing d.last d.most };
@@ -169,7 +169,13 @@ impl Desk for MemDesk {
             let fault = named(self.alloc, DeskCall::PutOut, name);
             return Err(fail(&mut self.faults, &mut self.last, fault));
         }
-        match put(self.alloc, &mut self.files, name, Vec::new(self.alloc), true) {
+        match put(
+            self.alloc,
+            &mut self.files,
+            name,
+            Vec::new(self.alloc),
+            true,
+        ) {
             Ok(at) => {
                 self.writing = Some(at);
                 Ok(())

@@ -116,11 +116,10 @@ impl<R: Files + Print + Drop> Desk for RealDesk<R> {
         ensures call { FinishesOut (real_shows self.old) (real_shows self.new) result }
         ensures count { self.new.faults ≡ count_after (is_err result) self.old.faults }
     {
-        let flushed = match &mut self.writing {
-            Some(file) => file.flush(),
+        let flushed = match self.writing.take() {
+            Some(mut file) => file.flush(),
             None => unreachable!(),
         };
-        self.writing = None;
         match flushed {
             Ok(()) => Ok(()),
             Err(_) => Err(count_fault(&mut self.faults)),

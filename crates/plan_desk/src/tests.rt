@@ -1,6 +1,10 @@
 // What no clause says: that calls succeed where memory is ample, and what the system does with real files.
 
-use crate::{Bytes, Desk, DeskCall, Failed, MemDesk, ReadFault, RealDesk, read_all, say_all, write_all};
+ghost use Rattle.std.specs.Prelude.{◌<◌};
+
+use crate::{
+    Bytes, Desk, DeskCall, Failed, MemDesk, ReadFault, RealDesk, read_all, say_all, write_all,
+};
 use std::alloc::{AllocError, Global};
 use std::test::Fail;
 use std::{env, fs, process};
@@ -105,7 +109,10 @@ fn a_file_is_read_whole_or_refused(rt: HostRuntime) -> Result<(), Fail> {
     ];
     for (most, limit, failing, want) in cases {
         let read = read_of(alloc, most, limit, failing)?;
-        assert!(rt; matches!(read, Err(fault) if fault == want), "by {most}, limit {limit}");
+        assert!(rt;
+            matches!(read, Err(fault) if fault == want),
+            "by {most}, limit {limit}"
+        );
     }
     assert!(rt; matches!(read_of_missing(alloc)?, Err(ReadFault::Failed)));
     Ok(())
@@ -165,7 +172,11 @@ fn pieces_are_said_in_order(rt: HostRuntime) -> Result<(), Fail> {
 fn a_real_file_is_written_and_read(rt: HostRuntime) -> Result<(), Fail> {
     let alloc = rt.alloc();
     let folder = env::temp_dir(&rt)?;
-    let name = format!(in alloc; "{}/plan_desk_test_{}", folder.to_string_lossy(), process::id(rt.process()))?;
+    let name = format!(in alloc;
+        "{}/plan_desk_test_{}",
+        folder.to_string_lossy(),
+        process::id(rt.process())
+    )?;
     let mut desk = RealDesk::make(rt, alloc);
     let written = write_twice(&mut desk, &name);
     let read = read_all(alloc, &mut desk, &name, 3);

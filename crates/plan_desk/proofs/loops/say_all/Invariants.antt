@@ -2,15 +2,15 @@ use Rattle.std.proofs.Common.{◌≡◌, ◌-◌, ◌≤◌, length, take}
 use Rattle.plan_desk.specs.Desk.{ShowsSame, after_say}
 use Rattle.plan_desk.proofs.loops.say_all.Given as goal
 
-abbrev pub invariant-loop-from : goal.invariant-loop-from
-invariant-loop-from g l =
+abbrev pub invariant-loop-said : goal.invariant-loop-said
+invariant-loop-said g l =
     let d = g.D.Desk in
     record {
-      within : l.from ≤ length l.piece;
-      said : ShowsSame (d.shows l.desk) (after_say (take l.from l.piece) (d.shows l.fn.desk));
+      within : l.said ≤ length l.piece;
+      said : ShowsSame (d.shows l.desk) (after_say (take l.said l.piece) (d.shows l.fn.desk));
       later : (d.shows l.fn.desk).faults ≤ (d.shows l.desk).faults;
       same : (d.shows l.desk).last ≡ (d.shows l.fn.desk).last;
     }
 
-abbrev pub decreases-loop-from : goal.decreases-loop-from
-decreases-loop-from g l = length l.piece - l.from
+abbrev pub decreases-loop-said : goal.decreases-loop-said
+decreases-loop-said g l = length l.piece - l.said
