@@ -1,0 +1,11 @@
+pub mod Naturals
+pub mod Limits
+pub mod Tables
+pub mod Fitting
+pub mod View
+pub mod Indexed
+pub mod Plans
+pub mod Values
+pub mod Rules
+pub mod Keys
+pub mod Exact

@@ -1,0 +1,6 @@
+/// By what plans of allowed starts are compared: first how far they are from the rules, then the score.
+#[derive(Clone, Copy, Debug, PartialEq, Eq)]
+pub struct Key {
+    pub violation: i128,
+    pub score: i128,
+}

@@ -1,0 +1,22 @@
+//! Instances of the maintenance problem as tables, and the definitions on plans: rules, values, keys and neighbours.
+//!
+//! A contract sees an `Instance` as a record of lists, and reads it through functions of the tables. Periods, starts
+//! and scenarios count from 1; interventions, resources, seasons and exclusions count from 0.
+#![tactic(auto)]
+
+mod cells;
+mod instance;
+mod key;
+mod laws;
+mod limits;
+mod offsets;
+mod parts;
+mod rule;
+mod starts;
+
+pub use instance::Instance;
+pub use key::Key;
+pub use limits::Limits;
+pub use parts::{Exclusion, LoadCell, Parts};
+pub use rule::Rule;
+pub use starts::Starts;

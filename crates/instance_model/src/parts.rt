@@ -1,0 +1,51 @@
+use fixed_num::Fixed;
+use indexmap::IndexSet;
+
+/// Two interventions, which may be one, that are not to be in progress together in a period of a season.
+#[derive(Clone, Copy, Debug, PartialEq, Eq)]
+pub struct Exclusion {
+    pub first: u32,
+    pub second: u32,
+    pub season: u32,
+}
+
+/// The workload of a resource in a period, at a start. Start and period count from 1, the resource from 0.
+#[derive(Clone, Copy, Debug)]
+pub struct LoadCell {
+    pub start: u32,
+    pub period: u32,
+    pub resource: u32,
+    pub load: Fixed,
+}
+
+/// The tables of an instance.
+#[derive(Drop)]
+pub struct Parts {
+    pub periods: u32,
+    /// The weight of the mean, in millionths.
+    pub alpha: u32,
+    /// In millionths.
+    pub quantile: u32,
+    /// By period.
+    pub scenarios: Vec<u32>,
+    pub resources: IndexSet<String>,
+    /// Limits by resource, then period, in counts of 10^-12.
+    pub upper: Vec<i128>,
+    pub lower: Vec<i128>,
+    pub seasons: IndexSet<String>,
+    /// By season, then period.
+    pub in_season: Vec<bool>,
+    pub interventions: IndexSet<String>,
+    /// Durations by intervention, then start, in periods.
+    pub delta: Vec<Vec<u32>>,
+    pub exclusions: IndexSet<String>,
+    pub excluded: Vec<Exclusion>,
+    /// By intervention, strictly ascending by start, period, resource.
+    pub loads: Vec<Vec<LoadCell>>,
+    /// By intervention, allowed start, period of the run, scenario.
+    pub risks: Vec<Fixed>,
+    /// By intervention, allowed start, period of the run: one of the risk numbers there was changed by rounding.
+    pub soft: Vec<bool>,
+    /// How many numbers of the file were changed by rounding.
+    pub rounded: u64,
+}
