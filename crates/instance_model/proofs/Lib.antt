@@ -1,1 +1,10 @@
+pub mod EntryLemmas
+pub mod FitLemmas
 pub mod CellLemmas
+pub mod ColumnLemmas
+pub mod NameLemmas
+pub mod IndexLemmas
+pub mod FirstLemmas
+pub mod RuleLemmas
+pub mod PlanLemmas
+pub mod KeyLemmas

@@ -158,7 +158,7 @@ impl Offsets {
         requires order { s ≤ t }
         requires ends { t ≤ length self.now.before.items }
         requires rises { slice_index self.now.before.items (s - 1) ≤ slice_index self.now.before.items (t - 1) }
-        requires small { slice_index (slice_index_or (rows_of self.now.places.items) i []) (s - 1) + slice_index self.now.before.items (t - 1) < 2 ^ 63 }
+        requires small { slice_index (slice_index_or (rows_of self.now.places.items) i []) (s - 1) + (slice_index self.now.before.items (t - 1) - slice_index self.now.before.items (s - 1)) < 2 ^ 64 }
         ensures { result ≡ slice_index (slice_index_or (rows_of self.now.places.items) i []) (s - 1) + (slice_index self.now.before.items (t - 1) - slice_index self.now.before.items (s - 1)) }
     {
         let row = self.places[i as usize].as_slice();
