@@ -109,3 +109,17 @@ lower_read p inst c t v e f =
         let small = get_or_small 200_000_000_000_000_000_000 p.lower.items (c * p.periods + (t - 1)) (omega arith) f.lower_small in
         let bound : unsigned_abs v < 2 ^ 127 = rw same (omega (arith, small)) in
         back_from_abs v bound ∙ same
+
+-- the upper limit that is read, and comes back from its bits
+pub upper_read : (p : Parts) (inst : Tables) (c t : ℕ) (v : ℤ) → tables_of p ≡ inst → IsFitting (tables_of p) → c < length inst.resource_names → 1 ≤ t → t ≤ inst.periods → v ≡ get_or p.upper.items (c * p.periods + (t - 1)) v → to_z w128 (of_z w128 v) ≡ upper_of inst c t
+unfolding upper_of
+upper_read p inst c t v e f =
+    subst (λ (x : Tables). c < length x.resource_names → 1 ≤ t → t ≤ x.periods → v ≡ get_or p.upper.items (c * p.periods + (t - 1)) v → to_z w128 (of_z w128 v) ≡ get_or x.upper (c * x.periods + (t - 1)) (pos 0)) e at
+  where
+    at : c < length (tables_of p).resource_names → 1 ≤ t → t ≤ p.periods → v ≡ get_or p.upper.items (c * p.periods + (t - 1)) v → to_z w128 (of_z w128 v) ≡ get_or p.upper.items (c * p.periods + (t - 1)) (pos 0)
+    at h one few r =
+        let within : c * p.periods + (t - 1) < length p.upper.items = omega (arith, limit_place c (length (tables_of p).resource_names) t p.periods h one few, f.upper_each) in
+        let same : v ≡ get_or p.upper.items (c * p.periods + (t - 1)) (pos 0) = r ∙ get_or_default p.upper.items (c * p.periods + (t - 1)) v (pos 0) within in
+        let small = get_or_small 200_000_000_000_000_000_000 p.upper.items (c * p.periods + (t - 1)) (omega arith) f.upper_small in
+        let bound : unsigned_abs v < 2 ^ 127 = rw same (omega (arith, small)) in
+        back_from_abs v bound ∙ same
