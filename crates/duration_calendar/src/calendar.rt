@@ -16,6 +16,7 @@ pub fn run(inst: &Instance, i: u32, s: u32) -> Window
     ensures order { result.from ≤ result.past }
     ensures ends { result.past ≤ inst.now.periods + 1 }
 {
+    inst.fits();
     let duration = inst.delta(i, s);
     Window {
         from: s,
@@ -29,6 +30,7 @@ pub fn first_allowed(inst: &Instance, i: u32, a: u32, b: u32) -> Option<u32>
     ensures found { IfSome result (IsFirstAllowed inst.now i a b) }
     ensures none { IfNone result ((s : ℕ) → ¬ IsAllowedIn inst.now i a b s) }
 {
+    inst.fits();
     let past = b.min(inst.tmax(i)) + 1;
     for s in a..past {
         if inst.allowed(i, s) {
