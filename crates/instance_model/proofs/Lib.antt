@@ -8,3 +8,8 @@ pub mod FirstLemmas
 pub mod RuleLemmas
 pub mod PlanLemmas
 pub mod KeyLemmas
+pub mod DeviationLemmas
+pub mod RankLemmas
+pub mod QuotientLemmas
+pub mod EncloseLemmas
+pub mod ScoreLemmas
