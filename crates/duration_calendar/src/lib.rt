@@ -7,4 +7,4 @@ mod calendar;
 mod window;
 
 pub use calendar::{first_allowed, meets_in, run};
-pub use window::{in_run, Window};
+pub use window::{Window, in_run};

@@ -49,6 +49,7 @@ rows_more P rows row i e before here = below_more _ i (λ j h. subst (P j) (sym 
     old [] j h = absurd (omega (arith, h))
     old (r ∷ rs) zero h = refl
     old (r ∷ rs) (suc j) h = old rs j (omega (arith, h))
+
     new : (rs : List (Vec ℕ Global)) (j : ℕ) → length rs ≡ j → get_or (rows_of (rs ++ row ∷ [])) j [] ≡ row.items
     new [] zero h = refl
     new [] (suc j) h = absurd (omega (arith, h))
@@ -99,12 +100,12 @@ pub risk_within : (p : Parts) (inst : Tables) (i s t k : ℕ) → tables_of p �
 unfolding risk_place
 risk_within p inst i s t k e f =
     subst (λ (x : Tables). i < length x.names → is_allowed x i s ≡ true → in_run x i s t ≡ true → 1 ≤ k → k ≤ scenarios_of x t → entry_place (tables_of p) (scenarios_before (tables_of p)) i s t + (k - 1) < length p.risks.items) e
-      (λ h al ru one few. risk_place_below (tables_of p) i s t k f h al (IsRunning-from (tables_of p) i s t al ru) one few)
+    (λ h al ru one few. risk_place_below (tables_of p) i s t k f h al (IsRunning-from (tables_of p) i s t al ru) one few)
 
 pub soft_within : (p : Parts) (inst : Tables) (i s t : ℕ) → tables_of p ≡ inst → IsFitting (tables_of p) → i < length inst.names → is_allowed inst i s ≡ true → in_run inst i s t ≡ true → entry_place (tables_of p) periods_before i s t < length p.soft.items
 soft_within p inst i s t e f =
     subst (λ (x : Tables). i < length x.names → is_allowed x i s ≡ true → in_run x i s t ≡ true → entry_place (tables_of p) periods_before i s t < length p.soft.items) e
-      (λ h al ru. soft_place_below (tables_of p) i s t f h al (IsRunning-from (tables_of p) i s t al ru))
+    (λ h al ru. soft_place_below (tables_of p) i s t f h al (IsRunning-from (tables_of p) i s t al ru))
 
 get_or_default : {X : Type 0} (xs : List X) (i : ℕ) (d e : X) → i < length xs → get_or xs i d ≡ get_or xs i e
 get_or_default [] i d e h = absurd (omega (arith, h))

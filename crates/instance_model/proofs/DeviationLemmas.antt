@@ -55,7 +55,7 @@ swap_factor f n c =
     let qu = ap (λ (t : ℕ). f * t) q.0 in
     let qd = ap (λ (t : ℕ). f * t) q.1 in
     same_in (pos n *ℤ (pos f *ℤ c)) (pos f *ℤ (pos n *ℤ c))
-      (omega (arith, product_is (pos n) (pos f *ℤ c), product_is (pos f) (pos n *ℤ c), pu, pd, qu, qd, mul_left_comm n f (up c), mul_left_comm n f (down c)))
+    (omega (arith, product_is (pos n) (pos f *ℤ c), product_is (pos f) (pos n *ℤ c), pu, pd, qu, qd, mul_left_comm n f (up c), mul_left_comm n f (down c)))
 
 pub distribute : (n : ℕ) (a b : ℤ) → pos n *ℤ (a -ℤ b) ≡ (pos n *ℤ a) -ℤ (pos n *ℤ b)
 distribute n a b =
@@ -110,17 +110,18 @@ scale-zero f = same_in (pos f *ℤ pos 0) (pos 0) (omega (arith, product_is (pos
 pub scale-max : (f : ℕ) (d : ℤ) → pos f *ℤ int_max (pos 0) d ≡ int_max (pos 0) (pos f *ℤ d)
 scale-max f d = by_lt_z d (pos 0)
     (λ l. let low : d ≤ℤ pos 0 = omega (arith, signed_arith, l) in
-          let e : int_max (pos 0) d ≡ pos 0 = omega (arith, signed_arith, l) in
-          let m = scale_mono f d (pos 0) low in
-          let z = scale-zero f in
-          ap (λ (x : ℤ). pos f *ℤ x) e ∙ z ∙ zero_max (pos f *ℤ d) (rw z at m))
+    let e : int_max (pos 0) d ≡ pos 0 = omega (arith, signed_arith, l) in
+    let m = scale_mono f d (pos 0) low in
+    let z = scale-zero f in
+    ap (λ (x : ℤ). pos f *ℤ x) e ∙ z ∙ zero_max (pos f *ℤ d) (rw z at m))
     (λ l. let e : int_max (pos 0) d ≡ d = omega (arith, signed_arith, l) in
-          let m = scale_mono f (pos 0) d l in
-          let z = scale-zero f in
-          ap (λ (x : ℤ). pos f *ℤ x) e ∙ self_max (pos f *ℤ d) (rw z at m))
+    let m = scale_mono f (pos 0) d l in
+    let z = scale-zero f in
+    ap (λ (x : ℤ). pos f *ℤ x) e ∙ self_max (pos f *ℤ d) (rw z at m))
   where
     zero_max : (x : ℤ) → x ≤ℤ pos 0 → pos 0 ≡ int_max (pos 0) x
     zero_max x h = omega (arith, signed_arith, h)
+
     self_max : (x : ℤ) → pos 0 ≤ℤ x → x ≡ int_max (pos 0) x
     self_max x h = omega (arith, signed_arith, h)
 

@@ -67,7 +67,7 @@ unfolding risk_at soft_at
 risk_near inst f numbers t k i None r l one few a = Near-zero f
 risk_near inst f numbers t k i (Some s) r l one few a =
     rw (in_run-with_risks inst numbers i s t)
-      (at (in_run inst i s t) (soft_of inst i s t) (risk_of (with_risks inst numbers) i s t k) (risk_of inst i s t k) (λ e. r.rounds i s t k l (a s refl) e one few))
+    (at (in_run inst i s t) (soft_of inst i s t) (risk_of (with_risks inst numbers) i s t k) (risk_of inst i s t k) (λ e. r.rounds i s t k l (a s refl) e one few))
   where
     at : (b soft : Bool) (x c : ℤ) → (b ≡ true → RoundsTo f soft x c) → Near f (cond (b && soft) 1 0) (cond b x (pos 0)) (cond b c (pos 0))
     at true soft x c h = rounds_near f soft x c (h refl)
@@ -78,7 +78,7 @@ scenario_near : (inst : Tables) (plan : List (Option ℕ)) (f : ℕ) (numbers : 
 unfolding scenario_sum soft_count
 scenario_near inst plan f numbers t k a r one few =
     Near-sum f (length inst.names) (λ i. soft_at inst t i (start_of plan i)) (λ i. risk_at (with_risks inst numbers) t k i (start_of plan i)) (λ i. risk_at inst t k i (start_of plan i))
-      (λ i l. risk_near inst f numbers t k i (start_of plan i) r l one few (λ s e. start_allowed inst plan i s a e))
+    (λ i l. risk_near inst f numbers t k i (start_of plan i) r l one few (λ s e. start_allowed inst plan i s a e))
 
 sums_are : (inst : Tables) (plan : List (Option ℕ)) (numbers : List ℤ) (t : ℕ) → scenario_sums (with_risks inst numbers) plan t ≡ list_of (scenarios_of inst t) (λ k. scenario_sum (with_risks inst numbers) plan t (k + 1))
 unfolding scenario_sums
@@ -103,8 +103,8 @@ excess_near f n e m x c one few h =
     let q = Near-scale f e n (mth_smallest m (list_of n x)) (mth_smallest m (list_of n c)) (mth_smallest-near f e n m x c one few h) in
     let s = total_near f n e x c h in
     rw (length-map-range_with_len x 0 n, length-map-range_with_len c 0 n)
-      (Near-max f (n * e + n * e) (pos n *ℤ mth_smallest m (list_of n x) -ℤ total (list_of n x)) (pos n *ℤ mth_smallest m (list_of n c) -ℤ total (list_of n c))
-        (Near-less f (n * e) (n * e) (pos n *ℤ mth_smallest m (list_of n x)) (total (list_of n x)) (pos n *ℤ mth_smallest m (list_of n c)) (total (list_of n c)) q s))
+    (Near-max f (n * e + n * e) (pos n *ℤ mth_smallest m (list_of n x) -ℤ total (list_of n x)) (pos n *ℤ mth_smallest m (list_of n c) -ℤ total (list_of n c))
+    (Near-less f (n * e) (n * e) (pos n *ℤ mth_smallest m (list_of n x)) (total (list_of n x)) (pos n *ℤ mth_smallest m (list_of n c)) (total (list_of n c)) q s))
 
 weights : (a n e : ℕ) → a ≤ 1_000_000 → a * (n * e) + (1_000_000 - a) * (n * e + n * e) ≡ n * (e * (2_000_000 - a))
 weights a n e h =
@@ -121,9 +121,9 @@ numerator_near : (f n e m a : ℕ) (x c : ℕ → ℤ) → a ≤ 1_000_000 → 1
 unfolding numerator_in
 numerator_near f n e m a x c small one few h =
     rw (← weights a n e small)
-      (Near-add f (a * (n * e)) ((1_000_000 - a) * (n * e + n * e)) (pos a *ℤ total (list_of n x)) (pos (1_000_000 - a) *ℤ excess_in m (list_of n x)) (pos a *ℤ total (list_of n c)) (pos (1_000_000 - a) *ℤ excess_in m (list_of n c))
-        (Near-scale f (n * e) a (total (list_of n x)) (total (list_of n c)) (total_near f n e x c h))
-        (Near-scale f (n * e + n * e) (1_000_000 - a) (excess_in m (list_of n x)) (excess_in m (list_of n c)) (excess_near f n e m x c one few h)))
+    (Near-add f (a * (n * e)) ((1_000_000 - a) * (n * e + n * e)) (pos a *ℤ total (list_of n x)) (pos (1_000_000 - a) *ℤ excess_in m (list_of n x)) (pos a *ℤ total (list_of n c)) (pos (1_000_000 - a) *ℤ excess_in m (list_of n c))
+    (Near-scale f (n * e) a (total (list_of n x)) (total (list_of n c)) (total_near f n e x c h))
+    (Near-scale f (n * e + n * e) (1_000_000 - a) (excess_in m (list_of n x)) (excess_in m (list_of n c)) (excess_near f n e m x c one few h)))
 
 -- ---- the same of a plan
 near_sums : (inst : Tables) (plan : List (Option ℕ)) (f : ℕ) (numbers : List ℤ) (t : ℕ) → RunsAreAllowed inst plan → IsReading inst f numbers → (k : ℕ) → k < scenarios_of inst t → Near f (soft_count inst plan t) (scenario_sum (with_risks inst numbers) plan t (k + 1)) (scenario_sum inst plan t (k + 1))
@@ -215,20 +215,20 @@ near_encloses inst f k s x v fit some h =
     let el = sum_below-less inst.periods (λ u. floor_of (v (u + 1)) (scenarios_of inst (u + 1))) (λ u. ceil_div_of (s (u + 1)) 2) in
     let em = sum_below-plus inst.periods (λ u. ceil_of (v (u + 1)) (scenarios_of inst (u + 1))) (λ u. ceil_div_of (s (u + 1)) 2) in
     Encloses-from _ _ (sum_of_quotients inst x) k (f * scenario_product inst) some
-      (subst (λ (z : ℤ). (pos (f * scenario_product inst) *ℤ z) ≤ℤ sum_of_quotients inst x) el l)
-      (subst (λ (z : ℤ). sum_of_quotients inst x ≤ℤ (pos (f * scenario_product inst) *ℤ z)) em m)
+    (subst (λ (z : ℤ). (pos (f * scenario_product inst) *ℤ z) ≤ℤ sum_of_quotients inst x) el l)
+    (subst (λ (z : ℤ). sum_of_quotients inst x ≤ℤ (pos (f * scenario_product inst) *ℤ z)) em m)
 
 cost_encloses : (inst : Tables) (plan : List (Option ℕ)) (f : ℕ) (numbers : List ℤ) → IsFitting inst → RunsAreAllowed inst plan → IsReading inst f numbers → Encloses (cost_low_of inst plan) (cost_high_of inst plan) (sum_of_quotients inst (numerator_of (with_risks inst numbers) plan)) (inst.periods * 1_000_000 * f * scenario_product inst)
 unfolding cost_slack
 cost_encloses inst plan f numbers fit a r =
     rw (mul_assoc (inst.periods * 1_000_000) f (scenario_product inst))
-      (near_encloses inst f (inst.periods * 1_000_000) (λ t. soft_count inst plan t * (2_000_000 - inst.alpha)) (numerator_of (with_risks inst numbers) plan) (numerator_of inst plan) fit (omega (arith, fit.some_periods)) (λ t one few. numerator_of-near inst plan f numbers t fit one few a r))
+    (near_encloses inst f (inst.periods * 1_000_000) (λ t. soft_count inst plan t * (2_000_000 - inst.alpha)) (numerator_of (with_risks inst numbers) plan) (numerator_of inst plan) fit (omega (arith, fit.some_periods)) (λ t one few. numerator_of-near inst plan f numbers t fit one few a r))
 
 mean_encloses : (inst : Tables) (plan : List (Option ℕ)) (f : ℕ) (numbers : List ℤ) → IsFitting inst → RunsAreAllowed inst plan → IsReading inst f numbers → Encloses (mean_low_of inst plan) (mean_high_of inst plan) (sum_of_quotients inst (risk_total (with_risks inst numbers) plan)) (inst.periods * f * scenario_product inst)
 unfolding mean_slack
 mean_encloses inst plan f numbers fit a r =
     rw (mul_assoc inst.periods f (scenario_product inst))
-      (near_encloses inst f inst.periods (soft_count inst plan) (risk_total (with_risks inst numbers) plan) (risk_total inst plan) fit (omega (arith, fit.some_periods)) (λ t one few. risk_total-near inst plan f numbers t a r))
+    (near_encloses inst f inst.periods (soft_count inst plan) (risk_total (with_risks inst numbers) plan) (risk_total inst plan) fit (omega (arith, fit.some_periods)) (λ t one few. risk_total-near inst plan f numbers t a r))
 
 excess_positive : (m : ℕ) (sums : List ℤ) → pos 0 ≤ℤ excess_in m sums
 unfolding excess_in
@@ -256,8 +256,8 @@ excess_encloses inst plan f numbers fit a r =
     let high : ℕ → ℤ = λ t. ceil_of (v t) (scenarios_of inst t) +ℤ pos (e t) in
     let n = some_scenarios inst fit in
     let l = sum_of_quotients-least inst f low x n (λ t one few.
-        low_or_zero (f * scenarios_of inst t) (floor_of (v t) (scenarios_of inst t) -ℤ pos (e t)) (x t) (excess_positive (rank_of (with_risks inst numbers) t) (scenario_sums (with_risks inst numbers) plan t))
-          (low_bound f (scenarios_of inst t) (e t + e t) (e t) (x t) (v t) (n t one few) (omega arith) (excess_near_twice inst plan f numbers t fit one few a r))) in
+    low_or_zero (f * scenarios_of inst t) (floor_of (v t) (scenarios_of inst t) -ℤ pos (e t)) (x t) (excess_positive (rank_of (with_risks inst numbers) t) (scenario_sums (with_risks inst numbers) plan t))
+    (low_bound f (scenarios_of inst t) (e t + e t) (e t) (x t) (v t) (n t one few) (omega arith) (excess_near_twice inst plan f numbers t fit one few a r))) in
     let m = sum_of_quotients-most inst f high x n (λ t one few. high_bound f (scenarios_of inst t) (e t + e t) (e t) (x t) (v t) (n t one few) (omega arith) (excess_near_twice inst plan f numbers t fit one few a r)) in
     rw (mul_assoc inst.periods f (scenario_product inst)) (Encloses-from (sum_below inst.periods (λ u. low (u + 1))) (sum_below inst.periods (λ u. high (u + 1))) (sum_of_quotients inst x) inst.periods (f * scenario_product inst) (omega (arith, fit.some_periods)) l m)
 

@@ -39,17 +39,17 @@ get_or_small b xs i h all = at (leb (length xs) i) refl
     at true e = rw (get_or_past xs i (pos 0) (grind (arith, nat_tests))) h
     at false e = All-get_or (λ z. unsigned_abs z < b) xs i (pos 0) (grind (arith, nat_tests)) all
 
-pub risk_of_small : (inst : Tables) (i s t k : ℕ) → IsFitting inst → unsigned_abs (risk_of inst i s t k) < 100_000_000_000_000_000_000
+pub risk_of_small : (inst : Tables) (i s t k : ℕ) → IsFitting inst → unsigned_abs (risk_of inst i s t k) < 10 ^ 20
 unfolding risk_of
-risk_of_small inst i s t k f = get_or_small 100_000_000_000_000_000_000 inst.risks (risk_place inst i s t k) (omega arith) f.risks_small
+risk_of_small inst i s t k f = get_or_small (10 ^ 20) inst.risks (risk_place inst i s t k) (omega arith) f.risks_small
 
-pub upper_of_small : (inst : Tables) (c t : ℕ) → IsFitting inst → unsigned_abs (upper_of inst c t) < 200_000_000_000_000_000_000
+pub upper_of_small : (inst : Tables) (c t : ℕ) → IsFitting inst → unsigned_abs (upper_of inst c t) < 2 * 10 ^ 20
 unfolding upper_of
-upper_of_small inst c t f = get_or_small 200_000_000_000_000_000_000 inst.upper (c * inst.periods + (t - 1)) (omega arith) f.upper_small
+upper_of_small inst c t f = get_or_small (2 * 10 ^ 20) inst.upper (c * inst.periods + (t - 1)) (omega arith) f.upper_small
 
-pub lower_of_small : (inst : Tables) (c t : ℕ) → IsFitting inst → unsigned_abs (lower_of inst c t) < 200_000_000_000_000_000_000
+pub lower_of_small : (inst : Tables) (c t : ℕ) → IsFitting inst → unsigned_abs (lower_of inst c t) < 2 * 10 ^ 20
 unfolding lower_of
-lower_of_small inst c t f = get_or_small 200_000_000_000_000_000_000 inst.lower (c * inst.periods + (t - 1)) (omega arith) f.lower_small
+lower_of_small inst c t f = get_or_small (2 * 10 ^ 20) inst.lower (c * inst.periods + (t - 1)) (omega arith) f.lower_small
 
 -- ---- places
 pub risk_place_below : (inst : Tables) (i s t k : ℕ) → IsFitting inst → i < length inst.names → is_allowed inst i s ≡ true → IsRunning inst i s t → 1 ≤ k → k ≤ scenarios_of inst t → risk_place inst i s t k < length inst.risks
@@ -106,7 +106,7 @@ lower_read p inst c t v e f =
     at h one few r =
         let within : c * p.periods + (t - 1) < length p.lower.items = omega (arith, limit_place c (length (tables_of p).resource_names) t p.periods h one few, f.lower_each) in
         let same : v ≡ get_or p.lower.items (c * p.periods + (t - 1)) (pos 0) = r ∙ get_or_default p.lower.items (c * p.periods + (t - 1)) v (pos 0) within in
-        let small = get_or_small 200_000_000_000_000_000_000 p.lower.items (c * p.periods + (t - 1)) (omega arith) f.lower_small in
+        let small = get_or_small (2 * 10 ^ 20) p.lower.items (c * p.periods + (t - 1)) (omega arith) f.lower_small in
         let bound : unsigned_abs v < 2 ^ 127 = rw same (omega (arith, small)) in
         back_from_abs v bound ∙ same
 
@@ -120,6 +120,6 @@ upper_read p inst c t v e f =
     at h one few r =
         let within : c * p.periods + (t - 1) < length p.upper.items = omega (arith, limit_place c (length (tables_of p).resource_names) t p.periods h one few, f.upper_each) in
         let same : v ≡ get_or p.upper.items (c * p.periods + (t - 1)) (pos 0) = r ∙ get_or_default p.upper.items (c * p.periods + (t - 1)) v (pos 0) within in
-        let small = get_or_small 200_000_000_000_000_000_000 p.upper.items (c * p.periods + (t - 1)) (omega arith) f.upper_small in
+        let small = get_or_small (2 * 10 ^ 20) p.upper.items (c * p.periods + (t - 1)) (omega arith) f.upper_small in
         let bound : unsigned_abs v < 2 ^ 127 = rw same (omega (arith, small)) in
         back_from_abs v bound ∙ same

@@ -56,8 +56,8 @@ pub sum_of_quotients-least : (inst : Tables) (f : ℕ) (low v : ℕ → ℤ) →
 unfolding sum_of_quotients
 sum_of_quotients-least inst f low v some h =
     rw (← sum_below-scale inst.periods (pos (f * scenario_product inst)) (λ u. low (u + 1)))
-      (sum_below_mono inst.periods (λ u. pos (f * scenario_product inst) *ℤ low (u + 1)) (λ u. v (u + 1) *ℤ pos (scenario_product inst / scenarios_of inst (u + 1)))
-        (λ u l. at u (scenario_product-divides inst u l (some (u + 1) (omega arith) (omega arith))) (h (u + 1) (omega arith) (omega arith))))
+    (sum_below_mono inst.periods (λ u. pos (f * scenario_product inst) *ℤ low (u + 1)) (λ u. v (u + 1) *ℤ pos (scenario_product inst / scenarios_of inst (u + 1)))
+    (λ u l. at u (scenario_product-divides inst u l (some (u + 1) (omega arith) (omega arith))) (h (u + 1) (omega arith) (omega arith))))
   where
     at : (u : ℕ) → scenario_product inst / scenarios_of inst (u + 1) * scenarios_of inst (u + 1) ≡ scenario_product inst → (pos (f * scenarios_of inst (u + 1)) *ℤ low (u + 1)) ≤ℤ v (u + 1) → (pos (f * scenario_product inst) *ℤ low (u + 1)) ≤ℤ (v (u + 1) *ℤ pos (scenario_product inst / scenarios_of inst (u + 1)))
     at u e k =
@@ -70,8 +70,8 @@ pub sum_of_quotients-most : (inst : Tables) (f : ℕ) (high v : ℕ → ℤ) →
 unfolding sum_of_quotients
 sum_of_quotients-most inst f high v some h =
     rw (← sum_below-scale inst.periods (pos (f * scenario_product inst)) (λ u. high (u + 1)))
-      (sum_below_mono inst.periods (λ u. v (u + 1) *ℤ pos (scenario_product inst / scenarios_of inst (u + 1))) (λ u. pos (f * scenario_product inst) *ℤ high (u + 1))
-        (λ u l. at u (scenario_product-divides inst u l (some (u + 1) (omega arith) (omega arith))) (h (u + 1) (omega arith) (omega arith))))
+    (sum_below_mono inst.periods (λ u. v (u + 1) *ℤ pos (scenario_product inst / scenarios_of inst (u + 1))) (λ u. pos (f * scenario_product inst) *ℤ high (u + 1))
+    (λ u l. at u (scenario_product-divides inst u l (some (u + 1) (omega arith) (omega arith))) (h (u + 1) (omega arith) (omega arith))))
   where
     at : (u : ℕ) → scenario_product inst / scenarios_of inst (u + 1) * scenarios_of inst (u + 1) ≡ scenario_product inst → v (u + 1) ≤ℤ (pos (f * scenarios_of inst (u + 1)) *ℤ high (u + 1)) → (v (u + 1) *ℤ pos (scenario_product inst / scenarios_of inst (u + 1))) ≤ℤ (pos (f * scenario_product inst) *ℤ high (u + 1))
     at u e k =

@@ -25,8 +25,10 @@ count_by-list_of p (suc n) g =
   where
     next : (m : ℕ) → m + 1 ≡ suc m
     next m = omega arith
+
     plus_zero : (m : ℕ) → m + 0 ≡ m
     plus_zero m = omega arith
+
     last : sum_by (λ x. cond (p x) 1 0) (g n ∷ []) ≡ flag (p (g n))
     last = sum_by-cons (λ x. cond (p x) 1 0) (g n) [] ∙ plus_zero (flag (p (g n)))
 
@@ -78,6 +80,7 @@ mth_smallest-near f d n m g h one few near =
     high : (q r : ℤ) → IsMthSmallest m (list_of n g) q → IsMthSmallest m (list_of n h) r → (2 * up (off f q r) ≤ f * d + 2 * down (off f q r)) ⊎ (f * d + 2 * down (off f q r) < 2 * up (off f q r)) → 2 * up (off f q r) ≤ f * d + 2 * down (off f q r)
     high q r a b (inl l) = l
     high q r a b (inr far) = absurd (apart m n g h q r a.below b.upto (λ k l e. up_far (f * d) (g k) q (pos f *ℤ h k) (pos f *ℤ r) (near k l).near (scale_mono f (h k) r e) far))
+
     low : (q r : ℤ) → IsMthSmallest m (list_of n g) q → IsMthSmallest m (list_of n h) r → (2 * down (off f q r) ≤ f * d + 2 * up (off f q r)) ⊎ (f * d + 2 * up (off f q r) < 2 * down (off f q r)) → 2 * down (off f q r) ≤ f * d + 2 * up (off f q r)
     low q r a b (inl l) = l
     low q r a b (inr far) = absurd (apart m n h g r q b.below a.upto (λ k l e. scale_reflect f (h k) r (down_far (f * d) (g k) q (pos f *ℤ h k) (pos f *ℤ r) (near k l).near e far)))

@@ -22,6 +22,7 @@ has_start inst plan i (Some s) g h = record { start = s; given = g; allowed = at
   where
     and3 : (x y z : Bool) → x ≡ true → y ≡ true → z ≡ true → (x && y && z) ≡ true
     and3 x y z e f g = rw (e, f, g) refl
+
     at : (a b d : Bool) → nat_le 1 s ≡ a → nat_le s (length (durations inst i)) ≡ b → nat_lt (inst.periods + 1) (s + get_or (durations inst i) (s - 1) 0) ≡ d → cond (not (a && b)) (Some (Outside i s)) (cond d (Some (Past i s)) None) ≡ None → (nat_le 1 s && nat_le s (length (durations inst i)) && nat_le (s + get_or (durations inst i) (s - 1) 0) (inst.periods + 1)) ≡ true
     at true true false p q r h = and3 (nat_le 1 s) (nat_le s (length (durations inst i))) (nat_le (s + get_or (durations inst i) (s - 1) 0) (inst.periods + 1)) p q (grind (arith, nat_tests))
     at true true true p q r h = absurd (cc)

@@ -1,5 +1,5 @@
 -- The conditions on the tables of an instance.
-use Rattle.std.specs.Prelude.{◌≡◌, ℕ, ◌*◌, ◌<◌, ◌≤◌, List, [], ◌⊎◌, length, All, AllPairs, IsTrue, slice_index_or, unsigned_abs, ◌≢◌}
+use Rattle.std.specs.Prelude.{◌^◌, ◌≡◌, ℕ, ◌*◌, ◌<◌, ◌≤◌, List, [], ◌⊎◌, length, All, AllPairs, IsTrue, slice_index_or, unsigned_abs, ◌≢◌}
 use Rattle.instance_model.specs.declared.parts.LoadCell.{LoadCell}
 use Rattle.instance_model.specs.Limits.{standard_limits}
 use Rattle.instance_model.specs.Naturals.{count_sum}
@@ -37,7 +37,7 @@ pub record AreCells (inst : Tables) (i : ℕ) (cells : List LoadCell) : Type 0 w
   pub allowed : All (λ cell. IsTrue (is_allowed inst i cell.start)) cells
   pub running : All (λ cell. IsTrue (in_run inst i cell.start cell.period)) cells
   pub resources : All (λ cell. cell.resource < length inst.resource_names) cells
-  pub small : All (λ cell. unsigned_abs cell.load < 100_000_000_000_000_000_000) cells
+  pub small : All (λ cell. unsigned_abs cell.load < 10 ^ 20) cells
 
 -- the tables are those of an instance within the standard limits
 pub record IsFitting (inst : Tables) : Type 0 where
@@ -51,8 +51,8 @@ pub record IsFitting (inst : Tables) : Type 0 where
   pub resources : AreNames standard_limits.resources inst.resource_names
   pub upper_each : length inst.upper ≡ length inst.resource_names * inst.periods
   pub lower_each : length inst.lower ≡ length inst.resource_names * inst.periods
-  pub upper_small : All (λ z. unsigned_abs z < 200_000_000_000_000_000_000) inst.upper
-  pub lower_small : All (λ z. unsigned_abs z < 200_000_000_000_000_000_000) inst.lower
+  pub upper_small : All (λ z. unsigned_abs z < 2 * 10 ^ 20) inst.upper
+  pub lower_small : All (λ z. unsigned_abs z < 2 * 10 ^ 20) inst.lower
   pub seasons : AreNames standard_limits.seasons inst.season_names
   pub season_each : length inst.in_season ≡ length inst.season_names * inst.periods
   pub names : AreNames standard_limits.interventions inst.names
@@ -67,5 +67,5 @@ pub record IsFitting (inst : Tables) : Type 0 where
   pub loads_few : count_sum (length inst.names) (λ i. length (slice_index_or inst.loads i [])) ≤ standard_limits.workload_entries
   pub risks_each : length inst.risks ≡ all_entries inst (scenarios_before inst)
   pub risks_few : length inst.risks ≤ standard_limits.risk_cells
-  pub risks_small : All (λ z. unsigned_abs z < 100_000_000_000_000_000_000) inst.risks
+  pub risks_small : All (λ z. unsigned_abs z < 10 ^ 20) inst.risks
   pub soft_each : length inst.soft ≡ all_entries inst periods_before

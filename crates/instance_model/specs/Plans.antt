@@ -1,6 +1,6 @@
 -- Plans, what is in progress under one, and what it adds up. A plan gives each intervention, in file order, one start
 -- or none. Runs on board, where only some interventions have a start, are such a list too.
-use Rattle.std.specs.Prelude.{◌≡◌, ℕ, ◌+◌, ◌<◌, ◌≤◌, ℤ, pos, Bool, false, ◌&&◌, List, length, Option, Some, None, slice_index, slice_index_or, unsigned_abs, IfSome, IsTrue, if◌then◌else◌}
+use Rattle.std.specs.Prelude.{◌*◌, ◌^◌, ◌≡◌, ℕ, ◌+◌, ◌<◌, ◌≤◌, ℤ, pos, Bool, false, ◌&&◌, List, length, Option, Some, None, slice_index, slice_index_or, unsigned_abs, IfSome, IsTrue, if◌then◌else◌}
 use Rattle.fixed_num.specs.Sums.{sum_below, list_of}
 use Rattle.instance_model.specs.Naturals.{count_sum}
 use Rattle.instance_model.specs.Tables.{Tables, is_allowed, scenarios_of, in_run, risk_of, soft_of, load_of}
@@ -61,7 +61,7 @@ scenario_sums inst plan t = list_of (scenarios_of inst t) (λ k. scenario_sum in
 
 -- a whole number is at most as large as a scenario sum of 1,024 risks can be
 pub record IsSmallSum (z : ℤ) : Type 0 where
-  pub small : unsigned_abs z ≤ 102_400_000_000_000_000_000_000
+  pub small : unsigned_abs z ≤ 1024 * 10 ^ 20
 
 -- 1 where an intervention is in progress in period t and its start is soft there, and else 0
 unfoldable pub soft_at : Tables → ℕ → ℕ → Option ℕ → ℕ

@@ -1,10 +1,10 @@
-ghost use Rattle.std.specs.Prelude.{◌≡◌, ℕ, ◌+◌, ◌<◌, ◌≤◌, ◌*◌, length, IfOk, IfSome, IsTrue, slice_index, slice_get, None, Some, position, bytes_eq, unsigned_abs};
+ghost use Rattle.std.specs.Prelude.{◌^◌, ◌≡◌, ℕ, ◌+◌, ◌<◌, ◌≤◌, ◌*◌, length, IfOk, IfSome, IsTrue, slice_index, slice_get, None, Some, position, bytes_eq, unsigned_abs};
 ghost use Rattle.instance_model.specs.Fitting.{IsFitting};
 ghost use Rattle.instance_model.specs.View.{tables_of};
 ghost use Rattle.instance_model.specs.Tables.{scenarios_of, tmax, delta_of, is_allowed, in_run, risk_of, soft_of, load_of, rank_of, upper_of, lower_of, in_season_of, exclusion_of};
 
 use crate::cells::find_cell;
-use crate::offsets::{is_allowed_in, numbers_to, start_count, sums_before, Offsets};
+use crate::offsets::{Offsets, is_allowed_in, numbers_to, start_count, sums_before};
 use crate::parts::{Exclusion, Parts};
 use fixed_num::{Fixed, Steps};
 use std::alloc::{AllocError, Global};
@@ -183,7 +183,7 @@ impl Instance {
         requires from { 1 ≤ t }
         requires to { t ≤ self.now.periods }
         ensures value { result ≡ upper_of self.now c t }
-        ensures small { unsigned_abs result < 200_000_000_000_000_000_000 }
+        ensures small { unsigned_abs result < 2 * 10 ^ 20 }
     {
         self.parts.upper[c as usize * self.parts.periods as usize + (t as usize - 1)]
     }
@@ -195,7 +195,7 @@ impl Instance {
         requires from { 1 ≤ t }
         requires to { t ≤ self.now.periods }
         ensures value { result ≡ lower_of self.now c t }
-        ensures small { unsigned_abs result < 200_000_000_000_000_000_000 }
+        ensures small { unsigned_abs result < 2 * 10 ^ 20 }
     {
         self.parts.lower[c as usize * self.parts.periods as usize + (t as usize - 1)]
     }
@@ -277,7 +277,14 @@ impl Instance {
     }
 
     /// The risk of intervention `i` at start `s`, in period `t` and scenario `k`. Counts as one step.
-    pub fn risk_cell<L: Ledger>(&self, i: u32, s: u32, t: u32, k: u32, steps: &mut Steps<L>) -> Fixed
+    pub fn risk_cell<L: Ledger>(
+        &self,
+        i: u32,
+        s: u32,
+        t: u32,
+        k: u32,
+        steps: &mut Steps<L>,
+    ) -> Fixed
         requires number { i < length self.now.names }
         requires allowed { IsTrue (is_allowed self.now i s) }
         requires running { IsTrue (in_run self.now i s t) }

@@ -10,14 +10,12 @@ impl Instance {
     /// no exclusion is broken.
     pub fn feasible_means_kept(&self)
         ensures { FeasibleMeansKept self.now }
-    {
-    }
+    {}
 
     /// A plan of allowed starts has no violation exactly where it is feasible.
     pub fn no_violation_means_feasible(&self)
         ensures { NoViolationMeansFeasible self.now }
-    {
-    }
+    {}
 
     /// For each plan of allowed starts the printed values enclose the exact cost, mean and excess of every choice of
     /// numbers that rounds to the kept counts, those of the file among them.
@@ -30,8 +28,7 @@ impl Instance {
     /// The kept counts are such a choice.
     pub fn counts_are_a_reading(&self)
         ensures { CountsAreAReading self.now }
-    {
-    }
+    {}
 
     /// The exact cost of a plan is at least its score, in parts of the number of periods times 10^18, and less than
     /// 10^-18 above it.

@@ -111,7 +111,13 @@ pub fn start_count(parts: &Parts, i: usize) -> usize
 }
 
 /// How many entries stand before those of intervention `i`, by start, and before those of the next intervention.
-fn row_places(alloc: Global, parts: &Parts, before: &[usize], i: usize, first: usize) -> Result<(Vec<usize>, usize), AllocError>
+fn row_places(
+    alloc: Global,
+    parts: &Parts,
+    before: &[usize],
+    i: usize,
+    first: usize,
+) -> Result<(Vec<usize>, usize), AllocError>
     requires fits { IsFitting (tables_of parts.now) }
     requires column { IsColumn parts.now.periods before.now }
     requires number { i < length parts.now.delta.items }
