@@ -21,3 +21,9 @@ in_window-run inst i s d t e = rw e refl
 pub in_horizon : (inst : Tables) (w : Window) (t : ℕ) → IsInHorizon inst w → w.from ≤ t → t < w.past → (1 ≤ t) × (t ≤ inst.periods)
 unfolding IsInHorizon
 in_horizon inst w t h from past = h t (in_window_from w t from past)
+
+pub IsInHorizon-from : (inst : Tables) (w : Window) → 1 ≤ w.from → w.past ≤ inst.periods + 1 → IsInHorizon inst w
+unfolding IsInHorizon
+IsInHorizon-from inst w one few t e =
+    let p = in_window_facts w t e in
+    (omega (arith, one, p), omega (arith, few, p))

@@ -15,6 +15,7 @@ pub fn run(inst: &Instance, i: u32, s: u32) -> Window
     ensures starts { 1 ≤ result.from }
     ensures order { result.from ≤ result.past }
     ensures ends { result.past ≤ inst.now.periods + 1 }
+    ensures horizon { IsInHorizon inst.now result }
 {
     inst.fits();
     let duration = inst.delta(i, s);

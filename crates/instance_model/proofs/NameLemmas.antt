@@ -1,6 +1,12 @@
 -- Names of an instance.
-use Rattle.std.proofs.Common.{◌≡◌, ℕ, ◌+◌, ◌<◌, ◌≤◌, refl, sym, ◌∙◌, ap, arith, List, [], ◌∷◌, length, get_or, All, Bool, not, cond, map, nat_lt, position, Option, Some, None, zero, suc, subst}
-use Rattle.std.specs.List.{prefix_len}
+use Rattle.std.proofs.Common.{◌≡◌, ℕ, ◌+◌, ◌<◌, ◌≤◌, refl, sym, ◌∙◌, ap, arith, List, [], ◌∷◌, length, get_or, All, Bool, not, cond, map, nat_lt, position, Option, Some, None, zero, suc, subst, true, false}
+use Rattle.std.specs.List.{prefix_len, position_or_len}
+use Rattle.std.specs.Prelude.{slice_get, bytes_eq, Contains}
+use Rattle.std.proofs.lemmas.Bool.{false≢true}
+use Rattle.std.proofs.lemmas.Grind.{common_steps}
+use Rattle.std.proofs.lemmas.Slice.Eq.{bytes_eq-Decides}
+use Rattle.std.proofs.lemmas.List.Sums.{fails_before_first}
+use Rattle.std.proofs.lemmas.List.Quantifiers.{position-Some}
 use Rattle.std.proofs.lemmas.List.{length-map}
 use Rattle.std.proofs.lemmas.List.Elements.{All-head, All-tail}
 use Rattle.instance_model.specs.Fitting.{IsName, AreNames}
@@ -23,3 +29,23 @@ name_at f (y ∷ keys) (suc i) x all l e = name_at f keys i x (All-tail IsName (
 -- a name that is read has at most 128 bytes
 pub name_short : {X : Type 0} (f : X → List ℕ) (limit : ℕ) (keys xs : List X) (i : ℕ) (x : X) → AreNames limit (map f keys) → xs ≡ keys → i < length (map f keys) → x ≡ get_or xs i x → length (f x) ≤ 128
 name_short {X} f limit keys xs i x names same l e = (name_at f keys i x names.shaped (omega (arith, l, length-map keys f)) (subst (λ (ys : List X). x ≡ get_or ys i x) same e)).short
+
+place_of : (xs : List (List ℕ)) (i : ℕ) (d : List ℕ) → i < length xs → slice_get xs i ≡ Some (get_or xs i d)
+place_of [] i d h = absurd (omega (arith, h))
+place_of (x ∷ xs) zero d h = refl
+place_of (x ∷ xs) (suc i) d h = place_of xs i d (omega (arith, h))
+
+-- the name at the place that is found
+pub found_name : (names : List (List ℕ)) (name : List ℕ) (i : ℕ) → Some i ≡ position (bytes_eq name) names → slice_get names i ≡ Some name
+found_name names name i e =
+    let w = position-Some (bytes_eq name) names i [] (sym e) in
+    let same : name ≡ get_or names i [] = (bytes_eq-Decides name (get_or names i [])).0 w.1 in
+    place_of names i [] w.0 ∙ ap Some (sym same)
+
+-- where none is found, no place has the name
+pub no_name : (names : List (List ℕ)) (name : List ℕ) → None ≡ position (bytes_eq name) names → ¬ Contains names name
+no_name names name e (k, l, same) =
+    let past : length names ≤ position_or_len (bytes_eq name) names = grind (arith, common_steps, sym e) in
+    let fails : bytes_eq name (get_or names k name) ≡ false = fails_before_first (bytes_eq name) names k name (omega (arith, l, past)) in
+    let passes : bytes_eq name (get_or names k name) ≡ true = (bytes_eq-Decides name (get_or names k name)).1 (sym same) in
+    false≢true (sym fails ∙ passes)

@@ -1,4 +1,4 @@
-ghost use Rattle.std.specs.Prelude.{◌^◌, ◌≡◌, ℕ, ◌+◌, ◌<◌, ◌≤◌, ◌*◌, length, IfOk, IfSome, IsTrue, slice_index, slice_get, None, Some, position, bytes_eq, unsigned_abs};
+ghost use Rattle.std.specs.Prelude.{◌^◌, ◌≡◌, ℕ, ◌+◌, ◌<◌, ◌≤◌, ◌*◌, length, IfOk, IfSome, IfNone, IsTrue, Contains, slice_index, slice_get, None, Some, position, bytes_eq, unsigned_abs};
 ghost use Rattle.instance_model.specs.Fitting.{IsFitting};
 ghost use Rattle.instance_model.specs.View.{tables_of};
 ghost use Rattle.instance_model.specs.Tables.{scenarios_of, tmax, delta_of, is_allowed, in_run, risk_of, soft_of, load_of, rank_of, upper_of, lower_of, in_season_of, exclusion_of};
@@ -122,6 +122,8 @@ impl Instance {
     pub fn find(&self, name: &str) -> Option<u32>
         ensures value { result ≡ position (bytes_eq name.now) self.now.names }
         ensures within { IfSome result (λ i. i < length self.now.names) }
+        ensures found { IfSome result (λ i. slice_get self.now.names i ≡ Some name.now) }
+        ensures none { IfNone result (¬ Contains self.now.names name.now) }
     {
         match self.parts.interventions.get_index_of(name) {
             Some(i) => Some(i as u32),

@@ -1,6 +1,6 @@
 use Rattle.std.proofs.Common.{arith}
 use Rattle.instance_model.proofs.EntryLemmas.{is_allowed_facts}
-use Rattle.duration_calendar.proofs.WindowLemmas.{in_window-run}
+use Rattle.duration_calendar.proofs.WindowLemmas.{in_window-run, IsInHorizon-from}
 use Rattle.duration_calendar.proofs.calendar.run.Goals as goal
 
 pub delta-duration-requires-clause-from : goal.delta-duration-requires-clause-from
@@ -20,3 +20,6 @@ returns-clause-starts c = (is_allowed_facts c.args.inst.now c.args.i c.args.s c.
 
 pub returns-clause-ends : goal.returns-clause-ends
 returns-clause-ends c = omega (arith, is_allowed_facts c.args.inst.now c.args.i c.args.s c.requires.allowed, c.delta-duration.ensures.value)
+
+pub returns-clause-horizon : goal.returns-clause-horizon
+returns-clause-horizon c = IsInHorizon-from c.args.inst.now _ (returns-clause-starts c) (returns-clause-ends c)
