@@ -1,13 +1,12 @@
 -- Columns and rows of offsets.
-use Rattle.std.proofs.Common.{◌≡◌, ℕ, zero, suc, ◌+◌, ◌-◌, ◌*◌, ◌<◌, ◌≤◌, ◌^◌, refl, sym, ◌∙◌, ap, subst, arith, List, [], ◌∷◌, ◌++◌, length, get_or, take, All, sum, Bool, true, false, Vec, below_more, map, ℤ, pos}
+use Rattle.std.proofs.Common.{◌≡◌, ℕ, zero, suc, ◌+◌, ◌-◌, ◌<◌, ◌≤◌, refl, sym, ◌∙◌, ap, subst, arith, List, [], ◌∷◌, ◌++◌, length, get_or, Bool, true, false, Vec, below_more, ℤ, pos}
 use Rattle.std.proofs.lemmas.Grind.{common_steps}
-use Rattle.std.proofs.lemmas.List.{length-map}
 use Rattle.std.specs.declared.alloc.Global.{Global}
 use Rattle.instance_model.specs.declared.parts.Parts.{Parts}
 use Rattle.instance_model.specs.declared.offsets.Offsets.{Offsets}
-use Rattle.instance_model.specs.Tables.{Tables, scenarios_of, tmax, delta_of, is_allowed, in_run, entries_at, entries_before, entry_place, scenarios_before, periods_before, risk_of, risk_place, soft_of}
+use Rattle.instance_model.specs.Tables.{Tables, scenarios_of, tmax, delta_of, is_allowed, in_run, entries_at, entry_place, scenarios_before, periods_before, risk_of, risk_place, soft_of}
 use Rattle.instance_model.specs.Fitting.{IsFitting}
-use Rattle.instance_model.specs.View.{tables_of, rows_of, column_at, IsColumn, IsColumnOf, AreRowPlaces, AreOffsets, AreSums}
+use Rattle.instance_model.specs.View.{tables_of, rows_of, column_at, IsColumnOf, AreRowPlaces, AreOffsets, AreSums}
 use Rattle.instance_model.proofs.EntryLemmas.{IsRunning, IsRunning-from, entries_at-allowed, entry_place_same, take_sum_mono, take_sum_small}
 use Rattle.instance_model.proofs.FitLemmas.{risk_place_below, soft_place_below}
 

@@ -1,11 +1,11 @@
 -- How far a number, of which f make one count, is from a count.
-use Rattle.std.proofs.Common.{◌≡◌, ℕ, zero, suc, ◌+◌, ◌-◌, ◌*◌, ◌<◌, ◌≤◌, refl, sym, ◌∙◌, ap, arith, ℤ, pos, negsuc, ◌+ℤ◌, ◌-ℤ◌, ◌*ℤ◌, ◌<ℤ◌, ◌≤ℤ◌, unsigned_abs, cond, Bool, true, false}
+use Rattle.std.proofs.Common.{◌≡◌, ℕ, zero, suc, ◌+◌, ◌*◌, ◌<◌, ◌≤◌, sym, ◌∙◌, ap, arith, ℤ, pos, negsuc, ◌+ℤ◌, ◌-ℤ◌, ◌*ℤ◌, ◌≤ℤ◌, unsigned_abs}
 use Rattle.std.specs.Int.{int_max}
-use Rattle.std.proofs.Math.Nat.{mul_assoc, mul_comm, mul_left_comm, add-mul, mul-le-mul_left}
+use Rattle.std.proofs.Math.Nat.{mul_comm, mul_left_comm, add-mul, mul-le-mul_left}
 use Rattle.std.proofs.lemmas.Int.{unsigned_abs-mul, by_lt_z}
-use borrow.Author.Differences.{up, down, same_in, at_most_in, below_in, le_out, lt_out, product_is, sum_is_lem}
+use borrow.Author.Differences.{up, down, same_in, at_most_in, le_out, product_is}
 use Rattle.fixed_num.specs.Sums.{sum_below}
-use Rattle.fixed_num.proofs.SignedLemmas.{signed_arith, unsigned_abs-parts}
+use Rattle.fixed_num.proofs.SignedLemmas.{signed_arith}
 use Rattle.fixed_num.proofs.SumLemmas.{sum_below-zero, sum_below-suc, abs-sum, *ℤ-+ℤ}
 use Rattle.instance_model.specs.Naturals.{count_sum}
 

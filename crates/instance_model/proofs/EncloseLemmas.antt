@@ -2,14 +2,13 @@
 --
 -- In a period with e soft starts in progress, each scenario sum of a reading is within e / 2 counts of the kept one. So
 -- are the mean and each place in order, and the excess is within e counts. The periods are then added up.
-use Rattle.std.proofs.Common.{◌≡◌, ℕ, zero, suc, ◌+◌, ◌-◌, ◌*◌, ◌/◌, ◌<◌, ◌≤◌, refl, sym, ◌∙◌, ap, subst, arith, ℤ, pos, ◌+ℤ◌, ◌-ℤ◌, ◌*ℤ◌, ◌<ℤ◌, ◌≤ℤ◌, Bool, true, false, cond, ◌&&◌, List, length, get_or, unsigned_abs, Option, Some, None, IfSome, IsTrue, leb}
-use Rattle.std.specs.Bool.{MatchBool}
+use Rattle.std.proofs.Common.{◌≡◌, ℕ, zero, suc, ◌+◌, ◌-◌, ◌*◌, ◌<◌, ◌≤◌, refl, sym, ◌∙◌, ap, subst, arith, ℤ, pos, ◌+ℤ◌, ◌-ℤ◌, ◌*ℤ◌, ◌≤ℤ◌, Bool, true, false, cond, ◌&&◌, List, length, unsigned_abs, Option, Some, None, IfSome, IsTrue, leb}
 use Rattle.std.specs.Int.{int_max}
 use Rattle.std.proofs.Math.Nat.{mul_assoc, mul_comm, mul_left_comm, add-mul, mul-le-mul_left}
 use Rattle.std.proofs.lemmas.List.{get_or_past}
 use Rattle.std.proofs.lemmas.List.FromFn.{length-map-range_with_len}
 use Rattle.std.proofs.lemmas.Bool.Decides.{nat_tests}
-use borrow.Author.Differences.{up, down, same_in, at_most_in, le_out, product_is}
+use borrow.Author.Differences.{same_in, product_is}
 use Rattle.fixed_num.specs.Sums.{sum_below, total, list_of}
 use Rattle.fixed_num.specs.Floors.{floor_of, ceil_of}
 use Rattle.fixed_num.specs.Rank.{mth_smallest}
@@ -20,10 +19,10 @@ use Rattle.instance_model.specs.Naturals.{count_sum, ceil_div_of}
 use Rattle.instance_model.specs.Tables.{Tables, scenarios_of, rank_of, durations, delta_of, is_allowed, in_run, risk_of, soft_of}
 use Rattle.instance_model.specs.Fitting.{IsFitting}
 use Rattle.instance_model.specs.Plans.{start_of, RunsAreAllowed, risk_at, scenario_sum, scenario_sums, soft_at, soft_count}
-use Rattle.instance_model.specs.Values.{excess_in, numerator_in, risk_total, excess_of, numerator_of, sum_of_floors, sum_of_ceils, cost_slack, mean_slack, excess_floors, excess_ceils, cost_low_of, cost_high_of, mean_low_of, mean_high_of, excess_low_of, excess_high_of, score_of, roof_of}
+use Rattle.instance_model.specs.Values.{excess_in, numerator_in, risk_total, excess_of, numerator_of, sum_of_floors, sum_of_ceils, cost_slack, mean_slack, excess_floors, excess_ceils, cost_low_of, cost_high_of, mean_low_of, mean_high_of, excess_low_of, excess_high_of}
 use Rattle.instance_model.specs.Exact.{scenario_product, sum_of_quotients, with_risks, RoundsTo, IsReading, Encloses, EnclosesReading}
 use Rattle.instance_model.proofs.FitLemmas.{scenarios_of_small, rank_of_from}
-use Rattle.instance_model.proofs.DeviationLemmas.{off, Near, Near-zero, Near-add, Near-sum, Near-scale, Near-less, Near-max, Near-wider, scale_mono, scale-max, mul-add, distribute}
+use Rattle.instance_model.proofs.DeviationLemmas.{Near, Near-zero, Near-add, Near-sum, Near-scale, Near-less, Near-max, scale_mono, scale-max, mul-add, distribute}
 use Rattle.instance_model.proofs.RankLemmas.{mth_smallest-near}
 use Rattle.instance_model.proofs.QuotientLemmas.{sum_of_quotients-least, sum_of_quotients-most, Encloses-from, spread, turn}
 

@@ -11,7 +11,7 @@ use Rattle.instance_model.specs.declared.parts.Parts.{Parts}
 use Rattle.instance_model.specs.View.{tables_of}
 use Rattle.std.proofs.lemmas.List.Elements.{All-get_or}
 use Rattle.std.proofs.lemmas.Bool.Decides.{nat_tests}
-use Rattle.instance_model.specs.Tables.{Tables, scenarios_of, rank_of, durations, tmax, delta_of, allowed_of, is_allowed, in_run, risk_of, risk_place, entry_place, scenarios_before, periods_before, upper_of, lower_of}
+use Rattle.instance_model.specs.Tables.{Tables, scenarios_of, rank_of, durations, tmax, delta_of, allowed_of, is_allowed, risk_of, risk_place, entry_place, scenarios_before, periods_before, upper_of, lower_of}
 use Rattle.instance_model.specs.Fitting.{IsFitting}
 use Rattle.instance_model.proofs.EntryLemmas.{IsRunning, entry_place_below, scenarios_before_rises, scenarios_before_more, periods_before_rises, periods_before_more}
 

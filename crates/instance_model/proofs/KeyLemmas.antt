@@ -1,17 +1,14 @@
 -- A plan of allowed starts has no violation exactly where it is feasible.
-use Rattle.std.proofs.Common.{◌≡◌, ℕ, zero, suc, ◌+◌, ◌-◌, ◌*◌, ◌<◌, ◌≤◌, ◌⊎◌, refl, sym, ◌∙◌, ap, subst, arith, ℤ, pos, ◌+ℤ◌, ◌-ℤ◌, ◌≤ℤ◌, Bool, true, false, cond, List, [], ◌∷◌, length, get_or, map, Option, Some, None, is_some, IsTrue, ltb}
-use Rattle.std.specs.Int.{int_max}
-use Rattle.std.proofs.lemmas.List.{length-map}
+use Rattle.std.proofs.Common.{◌≡◌, ℕ, zero, suc, ◌+◌, ◌-◌, ◌*◌, ◌<◌, ◌≤◌, refl, sym, ◌∙◌, subst, arith, ℤ, pos, ◌+ℤ◌, ◌≤ℤ◌, Bool, true, false, cond, List, [], ◌∷◌, length, get_or, map, Option, Some, None, is_some, ltb}
 use Rattle.std.proofs.lemmas.Bool.Decides.{nat_tests}
-use borrow.Author.Differences.{le_out, same_in, same_out}
 use Rattle.fixed_num.specs.Sums.{sum_below}
 use Rattle.fixed_num.proofs.SignedLemmas.{signed_arith}
 use Rattle.fixed_num.proofs.SumLemmas.{sum_below-zero, sum_below-suc, sum_below_same, sum_below-none}
 use Rattle.instance_model.specs.declared.rule.Rule.{Rule}
 use Rattle.instance_model.specs.Naturals.{count_sum}
-use Rattle.instance_model.specs.Tables.{Tables, is_allowed, upper_of, lower_of}
-use Rattle.instance_model.specs.Plans.{start_of, HasAllowedStart, AreAllowedStarts, RunsAreAllowed, load_sum}
-use Rattle.instance_model.specs.Rules.{clash_rule_at, IsFeasible, IsWithinBand, KeepsRules}
+use Rattle.instance_model.specs.Tables.{Tables}
+use Rattle.instance_model.specs.Plans.{start_of, HasAllowedStart, AreAllowedStarts}
+use Rattle.instance_model.specs.Rules.{clash_rule_at, IsFeasible, IsWithinBand}
 use Rattle.instance_model.specs.Keys.{band_gap, band_gaps, clash_count, violation_of}
 use Rattle.instance_model.proofs.RuleLemmas.{keeps_apart, clash_rule_at-none, KeepsRules-from, IsFeasible-from}
 

@@ -1,5 +1,5 @@
 -- Names of an instance.
-use Rattle.std.proofs.Common.{◌≡◌, ℕ, ◌+◌, ◌<◌, ◌≤◌, refl, sym, ◌∙◌, ap, arith, List, [], ◌∷◌, length, get_or, All, Bool, not, cond, map, nat_lt, position, Option, Some, None, zero, suc, subst, true, false}
+use Rattle.std.proofs.Common.{◌≡◌, ℕ, ◌+◌, ◌<◌, ◌≤◌, refl, sym, ◌∙◌, ap, arith, List, [], ◌∷◌, length, get_or, All, Bool, not, cond, map, nat_lt, position, Some, None, zero, suc, subst, true, false}
 use Rattle.std.specs.List.{prefix_len, position_or_len}
 use Rattle.std.specs.Prelude.{slice_get, bytes_eq, Contains}
 use Rattle.std.proofs.lemmas.Bool.{false≢true}

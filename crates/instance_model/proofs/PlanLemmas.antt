@@ -1,5 +1,5 @@
 -- How large what plans add up can be.
-use Rattle.std.proofs.Common.{◌^◌, ◌≡◌, ℕ, ◌+◌, ◌*◌, ◌<◌, ◌≤◌, refl, sym, ◌∙◌, arith, ℤ, pos, List, length, get_or, All, Bool, true, false, cond, unsigned_abs, Option, Some, None, IfSome, IsTrue, subst}
+use Rattle.std.proofs.Common.{◌^◌, ◌≡◌, ℕ, ◌+◌, ◌*◌, ◌<◌, ◌≤◌, sym, arith, ℤ, pos, List, length, get_or, All, Bool, true, false, cond, unsigned_abs, Option, Some, None, IfSome, IsTrue, subst}
 use Rattle.std.specs.List.{range_with_len}
 use Rattle.std.proofs.lemmas.List.Elements.{All-map, All-from_get_or}
 use Rattle.std.proofs.lemmas.List.FromFn.{length-map-range_with_len}

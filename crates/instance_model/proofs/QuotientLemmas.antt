@@ -1,15 +1,15 @@
 -- Sums over the periods of fractions, brought to one denominator.
-use Rattle.std.proofs.Common.{◌≡◌, ℕ, zero, suc, ◌+◌, ◌-◌, ◌*◌, ◌/◌, ◌<◌, ◌≤◌, refl, sym, ◌∙◌, ap, subst, arith, ℤ, pos, ◌+ℤ◌, ◌-ℤ◌, ◌*ℤ◌, ◌<ℤ◌, ◌≤ℤ◌, Bool, true, false, ltb}
-use Rattle.std.proofs.Math.Nat.{mul_assoc, mul_comm, mul_left_comm, mul_right_comm, mul-le-mul_left}
-use Rattle.std.proofs.lemmas.Nat.{div-mul-add, mul-le}
+use Rattle.std.proofs.Common.{◌≡◌, ℕ, zero, suc, ◌+◌, ◌*◌, ◌/◌, ◌<◌, ◌≤◌, refl, sym, ◌∙◌, ap, subst, arith, ℤ, pos, ◌*ℤ◌, ◌≤ℤ◌, Bool, true, false, ltb}
+use Rattle.std.proofs.Math.Nat.{mul_assoc, mul_comm, mul_right_comm, mul-le-mul_left}
+use Rattle.std.proofs.lemmas.Nat.{div-mul-add}
 use Rattle.std.proofs.lemmas.Bool.Decides.{nat_tests}
-use borrow.Author.Differences.{up, down, same_in, at_most_in, le_out, product_is, sum_is_lem}
+use borrow.Author.Differences.{up, down, same_in, at_most_in, le_out, product_is}
 use Rattle.fixed_num.specs.Sums.{sum_below}
 use Rattle.fixed_num.specs.Floors.{floor_of, ceil_of}
 use Rattle.fixed_num.proofs.SignedLemmas.{signed_arith}
-use Rattle.fixed_num.proofs.SumLemmas.{sum_below-zero, sum_below-suc, sum_below_mono, sum_below-scale, sum_below_same, *ℤ-+ℤ}
+use Rattle.fixed_num.proofs.SumLemmas.{sum_below_mono, sum_below-scale}
 use Rattle.fixed_num.proofs.FloorLemmas.{floor_of-le, IsCeil-ceil_of}
-use Rattle.instance_model.specs.Naturals.{count_sum, count_product}
+use Rattle.instance_model.specs.Naturals.{count_product}
 use Rattle.instance_model.specs.Tables.{Tables, scenarios_of}
 use Rattle.instance_model.specs.Exact.{scenario_product, sum_of_quotients, Encloses}
 use Rattle.instance_model.proofs.DeviationLemmas.{scale_mono, mul-add}

@@ -1,12 +1,12 @@
 -- Where the members of two lists are near each other, place by place, so are their m-th smallest.
-use Rattle.std.proofs.Common.{◌≡◌, ℕ, zero, suc, ◌+◌, ◌-◌, ◌*◌, ◌<◌, ◌≤◌, refl, sym, ◌∙◌, ap, arith, ℤ, pos, negsuc, ◌+ℤ◌, ◌-ℤ◌, ◌*ℤ◌, ◌<ℤ◌, ◌≤ℤ◌, unsigned_abs, cond, Bool, true, false, List, [], ◌∷◌, ◌++◌, length, ◌⊎◌, inl, inr, count_by, sum_by, int_lt, int_le}
+use Rattle.std.proofs.Common.{◌≡◌, ℕ, zero, suc, ◌+◌, ◌*◌, ◌<◌, ◌≤◌, refl, sym, ◌∙◌, ap, arith, ℤ, pos, negsuc, ◌-ℤ◌, ◌*ℤ◌, ◌<ℤ◌, ◌≤ℤ◌, unsigned_abs, cond, Bool, true, false, [], ◌∷◌, ◌++◌, ◌⊎◌, inl, inr, count_by, sum_by, int_lt, int_le}
 use Rattle.std.proofs.lemmas.List.Sums.{sum_by-append, sum_by-cons}
 use Rattle.std.proofs.lemmas.List.FromFn.{length-map-range_with_len}
 use Rattle.std.proofs.lemmas.Int.{by_lt_z}
-use borrow.Author.Differences.{up, down, at_most_in, below_in, le_out, lt_out, lt-true, le-true, true_is_lt}
+use borrow.Author.Differences.{up, down, at_most_in, below_in, le_out, lt_out, le-true, true_is_lt}
 use Rattle.fixed_num.specs.Sums.{list_of}
 use Rattle.fixed_num.specs.Rank.{count_below, count_upto, mth_smallest, IsMthSmallest}
-use Rattle.fixed_num.proofs.SignedLemmas.{signed_arith, unsigned_abs-parts}
+use Rattle.fixed_num.proofs.SignedLemmas.{signed_arith}
 use Rattle.fixed_num.proofs.SumLemmas.{list_of_more}
 use Rattle.fixed_num.proofs.RankLemmas.{IsMthSmallest-mth_smallest}
 use Rattle.instance_model.specs.Naturals.{count_sum}

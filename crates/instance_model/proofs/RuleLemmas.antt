@@ -1,11 +1,10 @@
 -- A plan breaks no rule exactly where it keeps them.
-use Rattle.std.proofs.Common.{◌≡◌, ℕ, ◌+◌, ◌-◌, ◌<◌, ◌≤◌, refl, sym, ◌∙◌, ap, subst, arith, ℤ, ◌≤ℤ◌, Bool, true, false, not, ◌&&◌, cond, List, length, get_or, Option, Some, None, nat_le, nat_lt, int_lt, is_some, IsTrue}
+use Rattle.std.proofs.Common.{◌≡◌, ℕ, ◌+◌, ◌-◌, ◌<◌, ◌≤◌, refl, sym, ◌∙◌, ap, arith, Bool, true, false, not, ◌&&◌, cond, List, length, get_or, Option, Some, None, nat_le, nat_lt, int_lt, is_some}
 use Rattle.std.proofs.lemmas.Bool.Decides.{nat_tests}
 use borrow.Author.Differences.{lt-false, false_is_lt, le_out, at_most_in}
-use Rattle.instance_model.specs.declared.rule.Rule.{Rule}
 use Rattle.instance_model.specs.declared.rule.Rule.TheVariants.{Outside, Past, Over, Under, Clash}
 use Rattle.instance_model.specs.Tables.{Tables, durations, tmax, delta_of, is_allowed, allowed_of, upper_of, lower_of, in_season_of, exclusion_of}
-use Rattle.instance_model.specs.Plans.{start_of, RunsAreAllowed, HasAllowedStart, is_running, load_sum}
+use Rattle.instance_model.specs.Plans.{start_of, HasAllowedStart, is_running, load_sum}
 use Rattle.instance_model.specs.Rules.{start_rule_at, first_start_rule, band_rule_at, first_band_rule, clashes, clash_rule_at, first_clash_rule, first_rule, IsFeasible, IsWithinBand, KeepsApart, KeepsRules}
 use Rattle.instance_model.proofs.EntryLemmas.{is_allowed_facts}
 use Rattle.instance_model.proofs.FirstLemmas.{first_of_none, first_of-all_none, or_else-none, or_else-both_none}

@@ -1,14 +1,13 @@
 -- The exact cost of a plan against its score.
-use Rattle.std.proofs.Common.{◌≡◌, ℕ, zero, suc, ◌+◌, ◌-◌, ◌*◌, ◌/◌, ◌<◌, ◌≤◌, refl, sym, ◌∙◌, ap, subst, arith, ℤ, pos, ◌+ℤ◌, ◌-ℤ◌, ◌*ℤ◌, ◌<ℤ◌, ◌≤ℤ◌, List, Option}
+use Rattle.std.proofs.Common.{◌≡◌, ℕ, zero, suc, ◌+◌, ◌*◌, ◌/◌, ◌<◌, ◌≤◌, refl, sym, ◌∙◌, ap, subst, arith, ℤ, pos, ◌+ℤ◌, ◌*ℤ◌, ◌<ℤ◌, ◌≤ℤ◌, List, Option}
 use Rattle.std.proofs.lemmas.Nat.{mul-le}
-use Rattle.std.proofs.Math.Nat.{mul_comm}
-use borrow.Author.Differences.{up, down, below_in, le_out, product_is, sum_is_lem, same_in}
+use borrow.Author.Differences.{below_in, product_is, sum_is_lem}
 use Rattle.fixed_num.specs.Sums.{sum_below}
 use Rattle.fixed_num.specs.Floors.{floor_of}
 use Rattle.fixed_num.proofs.SignedLemmas.{signed_arith, int_div_euclid-parts}
 use Rattle.fixed_num.proofs.SumLemmas.{sum_below-zero, sum_below-suc, sum_below_mono}
 use Rattle.fixed_num.proofs.FloorLemmas.{floor_of-le}
-use Rattle.instance_model.specs.Naturals.{count_sum, count_product}
+use Rattle.instance_model.specs.Naturals.{count_product}
 use Rattle.instance_model.specs.Tables.{Tables, scenarios_of}
 use Rattle.instance_model.specs.Fitting.{IsFitting}
 use Rattle.instance_model.specs.Values.{sum_of_floors, numerator_of, score_of}

@@ -1,4 +1,4 @@
-use Rattle.std.proofs.Common.{◌≡◌, ◌-◌, ◌∙◌, sym, arith}
+use Rattle.std.proofs.Common.{◌∙◌, sym}
 use Rattle.instance_model.specs.View.{tables_of, column_at}
 use Rattle.instance_model.proofs.EntryLemmas.{entries_at-refused}
 use Rattle.instance_model.proofs.FitLemmas.{durations_is, is_allowed_is, delta_of_is}

@@ -1,4 +1,4 @@
-use Rattle.std.proofs.Common.{◌≡◌, ◌≤◌, arith}
+use Rattle.std.proofs.Common.{◌≡◌, arith}
 use Rattle.instance_model.specs.Tables.{tmax}
 use Rattle.instance_model.specs.View.{tables_of}
 use Rattle.instance_model.proofs.FitLemmas.{durations_is, tmax_is, tmax_small, row_number}

@@ -1,5 +1,5 @@
-use Rattle.std.proofs.Common.{◌≡◌, ◌∙◌, sym, ap, ℕ, position, Some, None, map, string_bytes}
-use Rattle.std.specs.Prelude.{bytes_eq, Option}
+use Rattle.std.proofs.Common.{◌∙◌, sym, ap, position, string_bytes}
+use Rattle.std.specs.Prelude.{bytes_eq}
 use Rattle.instance_model.specs.Tables.{Tables}
 use Rattle.instance_model.proofs.NameLemmas.{position-map, found_name, no_name}
 use Rattle.instance_model.proofs.instance.Instance.find.Goals as goal

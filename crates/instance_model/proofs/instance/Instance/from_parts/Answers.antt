@@ -1,4 +1,4 @@
-use Rattle.std.proofs.Common.{◌≡◌, subst, sym, List, ℕ}
+use Rattle.std.proofs.Common.{subst, sym, List, ℕ}
 use Rattle.instance_model.specs.Tables.{scenarios_before, periods_before}
 use Rattle.instance_model.specs.View.{tables_of, IsColumnOf, AreSums}
 use Rattle.instance_model.proofs.ColumnLemmas.{IsColumnOf-scenarios, IsColumnOf-periods}

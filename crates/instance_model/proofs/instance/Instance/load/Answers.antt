@@ -1,7 +1,4 @@
-use Rattle.std.proofs.Common.{◌≡◌, ◌∙◌, sym, arith, rules, List, length, get_or}
-use Rattle.std.specs.Prelude.{AllPairs, slice_index_or}
-use Rattle.instance_model.specs.declared.parts.LoadCell.{LoadCell}
-use Rattle.instance_model.specs.Fitting.{CellBefore}
+use Rattle.std.proofs.Common.{◌∙◌, sym}
 use Rattle.instance_model.proofs.CellLemmas.{cells_row}
 use Rattle.instance_model.proofs.CellLemmas.{load_found, load_missing}
 use Rattle.instance_model.proofs.instance.Instance.load.Goals as goal

@@ -1,4 +1,4 @@
-use Rattle.std.proofs.Common.{◌≡◌, ◌+◌, ◌-◌, ◌<◌, ◌∙◌, sym, ap, arith, rules, ℕ, length}
+use Rattle.std.proofs.Common.{◌≡◌, ◌+◌, ◌-◌, ◌∙◌, ap, arith, ℕ}
 use Rattle.instance_model.specs.Tables.{entry_place, scenarios_before}
 use Rattle.instance_model.specs.View.{tables_of}
 use Rattle.instance_model.proofs.IndexLemmas.{risk_facts}
