@@ -1,0 +1,15 @@
+pub mod Tree
+pub mod Grammar
+pub mod Prefix
+pub mod Bytes
+pub mod Decimal
+pub mod Token
+pub mod Exact
+pub mod Trees
+pub mod Scaling
+pub mod Machine
+pub mod Views
+pub mod Machines
+pub mod Builder
+pub mod Building
+pub mod Sound

@@ -1,0 +1,22 @@
+-- Rounding behind the last digit that is kept. Not part of any promise: only private functions cite it.
+use Rattle.std.specs.Prelude.{◌≡◌, ℕ, zero, suc, ◌+◌, ◌-◌, ◌*◌, ◌^◌, ◌≤◌, ◌<◌, List, length, get_or, Bool, not, ◌==◌, Option, Some, None, MatchOption}
+use Rattle.decimal_json.specs.Grammar.{IsDigit}
+
+-- c is nearest to a / b, halves up, as a pair of bounds
+pub record IsRounded (a b c : ℕ) : Type 0 where
+  pub low : 2 * (c * b) ≤ 2 * a + b
+  pub high : 2 * a + b < 2 * ((c + 1) * b)
+
+-- the size, or none where it is at least 10^20
+abbrev pub SizeIs : Option ℕ → ℕ → Type 0
+SizeIs size c = MatchOption size (10 ^ 20 ≤ c) (λ s. (s ≡ c) × (s < 10 ^ 20))
+
+-- the size that is nearest to a / b, or none where it is at least 10^20, and whether it differs from a / b
+pub record Rounds (a b : ℕ) (size : Option ℕ) (differs : Bool) : Type 0 where
+  pub c : ℕ
+  pub rounded : IsRounded a b c
+  pub size_is : SizeIs size c
+  pub differs_is : differs ≡ not (c * b == a)
+
+abbrev pub AreAllDigits : List ℕ → Type 0
+AreAllDigits ds = (i : ℕ) → i < length ds → IsDigit (get_or ds i 48)
