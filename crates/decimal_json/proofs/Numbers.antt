@@ -24,7 +24,7 @@ Back p b bs q = Rest q bs → Rest p (b ∷ bs)
 pub digit : (b : ℕ) → is_digit b ≡ true → IsDigit b
 digit b t = record { low = grind (arith, nat_tests); high = grind (arith, nat_tests) }
 
-mark_of : (b : ℕ) → is_mark b ≡ true → IsExponentMark b
+pub mark_of : (b : ℕ) → is_mark b ≡ true → IsExponentMark b
 mark_of b t =
     let o : (b ≡ 101) ⊎ (b ≡ 69) = grind (arith, nat_tests) in
     elim o [ inl i ↦ rw i IsExponentMark.lower | inr i ↦ rw i IsExponentMark.upper ]

@@ -87,7 +87,7 @@ pub ten_more : (v k m : ℕ) → 0 < k → v * 10 ^ k ≡ m → v * 10 * 10 ^ (k
 ten_more v zero m h e = absurd (omega arith)
 ten_more v (suc k) m h e = let s : suc k - 1 ≡ k = omega arith in rw s (sym (regroup v (10 ^ k)) ∙ ap (λ z. v * z) (sym (pow-suc 10 k)) ∙ e)
 
-ten_positive : (k : ℕ) → 0 < 10 ^ k
+pub ten_positive : (k : ℕ) → 0 < 10 ^ k
 ten_positive zero = omega arith
 ten_positive (suc k) = let f = ten_positive k in let e = pow-suc 10 k in omega arith
 

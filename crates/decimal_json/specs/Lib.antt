@@ -7,6 +7,8 @@ pub mod Token
 pub mod Exact
 pub mod Trees
 pub mod Scaling
+pub mod Split
+pub mod Tallies
 pub mod Machine
 pub mod Views
 pub mod Machines

@@ -1,6 +1,7 @@
 -- Rounding behind the last digit that is kept. Not part of any promise: only private functions cite it.
-use Rattle.std.specs.Prelude.{◌≡◌, ℕ, zero, suc, ◌+◌, ◌-◌, ◌*◌, ◌^◌, ◌≤◌, ◌<◌, List, length, get_or, Bool, not, ◌==◌, Option, Some, None, MatchOption}
-use Rattle.decimal_json.specs.Grammar.{IsDigit}
+use Rattle.std.specs.Prelude.{◌≡◌, ℕ, zero, suc, ◌+◌, ◌-◌, ◌*◌, ◌^◌, ◌≤◌, ◌<◌, List, length, get_or, Bool, cond, not, ◌==◌, ◌&&◌, ◌||◌, nat_le, ℤ, Option, Some, None, MatchOption}
+use Rattle.decimal_json.specs.Decimal.{signed}
+use Rattle.decimal_json.specs.Grammar.{IsDigit, Parts}
 
 -- c is nearest to a / b, halves up, as a pair of bounds
 pub record IsRounded (a b c : ℕ) : Type 0 where
@@ -20,3 +21,19 @@ pub record Rounds (a b : ℕ) (size : Option ℕ) (differs : Bool) : Type 0 wher
 
 abbrev pub AreAllDigits : List ℕ → Type 0
 AreAllDigits ds = (i : ℕ) → i < length ds → IsDigit (get_or ds i 48)
+
+-- the digits of the parts are digits
+pub record HasDigits (p : Parts) : Type 0 where
+  pub whole : AreAllDigits p.whole
+  pub fraction : AreAllDigits p.fraction
+  pub exponent : AreAllDigits p.exponent
+
+-- a size with its sign, and whether it was rounded; none where there is no size
+abbrev pub counted_size : Bool → Option ℕ → Bool → Option (ℤ × Bool)
+counted_size negative None differs = None
+counted_size negative (Some size) differs = Some (signed negative size, differs)
+
+-- a size that was not rounded, is at most the number and has no minus sign, unless it is 0
+abbrev pub unrounded_size : Bool → Option ℕ → Bool → ℕ → Option ℕ
+unrounded_size negative None differs most = None
+unrounded_size negative (Some size) differs most = cond (not differs && (nat_le size most && (not negative || (size == 0)))) (Some size) None

@@ -1,42 +1,109 @@
-// Exact decimals.
+//! What is read of number tokens: counts of 10^-12, whole numbers and millionths.
+ghost use Rattle.std.specs.Prelude.{◌≡◌, ◌≤◌, ◌<◌, ◌^◌, ℕ, ℤ, unsigned_abs, Bool, Some, None, IfSome, IfOk, OnErr, MatchResult};
+ghost use Rattle.decimal_json.specs.Decimal.{IsFixedOf, IsTooLarge, IsExactly, IsWholeOf, IsMillionthsOf, signed};
+ghost use Rattle.decimal_json.specs.Exact.{fixed, exactly, whole, millionths};
+ghost use Rattle.decimal_json.specs.Scaling.{counted_size, unrounded_size};
+ghost use Rattle.decimal_json.specs.Trees.{node_view};
 
-ghost use Rattle.std.specs.Prelude.{◌≡◌, ℕ, ◌<◌, ◌≤◌, ◌*◌, ◌^◌, length, IfSome, IfNone, get_or};
-ghost use Rattle.decimal_json.specs.Decimal.{number};
-ghost use Rattle.decimal_json.specs.Scaling.{AreAllDigits};
+use crate::nearest::rounded;
+use crate::tally::Rounded;
+use crate::text::NumText;
+use crate::token::parts_of;
+use crate::tree::Node;
+use fixed_num::{Fixed, TooLarge};
 
-const LIMIT: u128 = 100_000_000_000_000_000_000;
-
-// The number that the digits write, where it is below 10^20.
-pub fn number_of(digits: &[u8]) -> Option<u128>
-    requires { AreAllDigits digits.now }
-    ensures value { IfSome result (λ n. n ≡ number digits.now) }
-    ensures small { IfSome result (λ n. n < 10 ^ 20) }
-    ensures none { IfNone result (10 ^ 20 ≤ number digits.now) }
+/// The count of 10^-12 nearest to the token's value, halves away from zero, and whether it differs from that value.
+///
+/// # Errors
+///
+/// `TooLarge` where the rounded count is at least 10^20 in absolute value.
+pub fn fixed_of(num: &NumText) -> Result<(Fixed, bool), TooLarge>
+    ensures nearest { IfOk result (λ r. IsFixedOf num.now r.0 r.1) }
+    ensures no_other { IfOk result (λ r. (count : ℤ) (differs : Bool) → IsFixedOf num.now count differs → (count ≡ r.0) × (differs ≡ r.1)) }
+    ensures too_large { OnErr result (IsTooLarge num.now) }
+    // the same as a function, which definitions cite
+    ensures function { MatchResult result (λ r. fixed num.now ≡ Some (r.0, r.1)) (λ _. fixed num.now ≡ None) }
 {
-    let mut value = 0;
-    for digit in digits {
-        value = value * 10 + (*digit - b'0') as u128;
-        if value >= LIMIT {
-            return None;
-        }
-    }
-    Some(value)
+    let Some(parts) = parts_of(num.as_bytes()) else {
+        unreachable!()
+    };
+    let negative = parts.negative;
+    counted(negative, rounded(parts, 12))
 }
 
-// n * 10^k, where it is below 10^20: the power is not made.
-pub fn scaled(n: u128, k: u64) -> Option<u128>
-    requires { n < 10 ^ 20 }
-    ensures value { IfSome result (λ r. r ≡ n * 10 ^ k) }
-    ensures none { IfNone result (10 ^ 20 ≤ n * 10 ^ k) }
+/// The value of a number, or of a text that is a number token, where it is exactly a whole number from 0 to 999,999,999.
+pub fn whole_of(node: &Node) -> Option<u32>
+    ensures whole { IfSome result (λ n. IsWholeOf (node_view node.now) n) }
+    ensures no_other { (n : ℕ) → IsWholeOf (node_view node.now) n → result ≡ Some n }
+    ensures function { result ≡ whole (node_view node.now) }
 {
-    let mut value = n;
-    let mut left = k;
-    while left > 0 && value > 0 {
-        value = value * 10;
-        left -= 1;
-        if value >= LIMIT {
-            return None;
+    match node {
+        Node::Num(num) => exact_value(num.as_bytes(), 0, 999_999_999),
+        Node::Text(text) => exact_value(text.as_str().as_bytes(), 0, 999_999_999),
+        _ => None,
+    }
+}
+
+/// 10^6 times the token's value, where that is exactly a whole number from 0 to 10^6.
+pub fn millionths_of(num: &NumText) -> Option<u32>
+    ensures millionths { IfSome result (λ n. IsMillionthsOf num.now n) }
+    ensures no_other { (n : ℕ) → IsMillionthsOf num.now n → result ≡ Some n }
+    ensures function { result ≡ millionths num.now }
+{
+    exact_value(num.as_bytes(), 6, 1_000_000)
+}
+
+/// A rounded size with its sign, as a count.
+fn counted(negative: bool, nearest: Rounded) -> Result<(Fixed, bool), TooLarge>
+    requires { IfSome nearest.size (λ size. size < 10 ^ 20) }
+    ensures { MatchResult result (λ r. Some (r.0, r.1) ≡ counted_size negative nearest.size nearest.differs) (λ _. None ≡ counted_size negative nearest.size nearest.differs) }
+{
+    match nearest.size {
+        Some(size) => Ok((
+            Fixed::from_count(with_sign(negative, size))?,
+            nearest.differs,
+        )),
+        None => Err(TooLarge),
+    }
+}
+
+fn with_sign(negative: bool, size: u128) -> i128
+    requires { size < 10 ^ 20 }
+    ensures value { result ≡ signed negative size }
+    ensures size { unsigned_abs result ≡ size }
+{
+    if negative {
+        -(size as i128)
+    } else {
+        size as i128
+    }
+}
+
+/// `10^places` times a number token's value, where that is exactly a whole number from 0 to `most`; `None` for bytes
+/// that are no number token.
+fn exact_value(bytes: &[u8], places: u32, most: u32) -> Option<u32>
+    ensures { result ≡ exactly places most bytes.now }
+{
+    match parts_of(bytes) {
+        None => None,
+        Some(parts) => {
+            let negative = parts.negative;
+            exact_size(negative, rounded(parts, places), most)
         }
     }
-    Some(value)
+}
+
+/// A rounded size, where nothing was rounded, it is at most `most` and isn't below 0.
+fn exact_size(negative: bool, nearest: Rounded, most: u32) -> Option<u32>
+    ensures { result ≡ unrounded_size negative nearest.size nearest.differs most }
+{
+    match nearest.size {
+        Some(size) if !nearest.differs && size <= most as u128 => {
+            if negative && size > 0 {
+                return None;
+            }
+            Some(size as u32)
+        }
+        _ => None,
+    }
 }
