@@ -1,5 +1,5 @@
 -- What is read of a number token, by its relation and by its function.
-use Rattle.std.specs.Prelude.{◌-◌, ◌*◌, ◌/◌, ◌^◌, ◌==◌, ◌&&◌, ◌||◌, not, nat_lt, nat_le, ℤ, pos, neg_ℤ, unsigned_abs, ◌⊎◌, MatchOption}
+use Rattle.std.specs.Prelude.{◌-◌, ◌*◌, ◌/◌, ◌^◌, ◌==◌, ◌&&◌, ◌||◌, not, nat_lt, nat_le, ℤ, pos, neg_ℤ, unsigned_abs, ◌⊎◌, IfSome, IfOk, OnErr, MatchResult, Result, Ok, Err}
 use Rattle.std.proofs.Common.{◌≡◌, ◌≢◌, ℕ, zero, suc, ◌+◌, ◌<◌, ◌≤◌, List, [], ◌∷◌, ◌++◌, length, Option, Some, None, Bool, true, false, cond, inl, inr, refl, sym, ◌∙◌, ap, subst, arith}
 use Rattle.std.proofs.Math.Nat.{mul-le-mul_right, div-eq_of_lt-le, le-div_iff_mul-le, div-lt_iff_lt-mul}
 use Rattle.std.proofs.lemmas.Bool.{cond-true, cond-false}
@@ -215,3 +215,42 @@ exactly_found places most token n x m =
   tests : (a b : Bool) → a ≡ true → (b ≡ true → n ≡ 0) → (a && (nat_le n most && (not b || (n == 0)))) ≡ true
   tests a true f g = let z = g refl in rw f (grind (arith, nat_tests))
   tests a false f g = rw f (grind (arith, nat_tests))
+
+pub whole_sound : (x : Node) (n : ℕ) → whole x ≡ Some n → IsWholeOf x n
+unfolding whole
+whole_sound (Node.number token) n e = let s = exactly_sound 0 999_999_999 token n e in of_number s.0 s.1
+whole_sound (Node.text token) n e = let s = exactly_sound 0 999_999_999 token n e in of_text s.0 s.1
+whole_sound Node.null n e = absurd cc
+whole_sound (Node.boolean b) n e = absurd cc
+whole_sound (Node.list ts) n e = absurd cc
+whole_sound (Node.object ms) n e = absurd cc
+
+pub whole_found : (x : Node) (n : ℕ) → IsWholeOf x n → whole x ≡ Some n
+unfolding whole
+whole_found _ n (of_number {token} x m) = exactly_found 0 999_999_999 token n x m
+whole_found _ n (of_text {token} x m) = exactly_found 0 999_999_999 token n x m
+
+pub millionths_sound : (token : List ℕ) (n : ℕ) → millionths token ≡ Some n → IsMillionthsOf token n
+unfolding millionths
+millionths_sound token n e = let s = exactly_sound 6 1_000_000 token n e in record { exactly = s.0; most = s.1 }
+
+pub millionths_found : (token : List ℕ) (n : ℕ) → IsMillionthsOf token n → millionths token ≡ Some n
+unfolding millionths
+millionths_found token n h = exactly_found 6 1_000_000 token n h.exactly h.most
+
+-- a result that a function gives, by what holds of its values
+pub if_some : {A : Type 0} (P : A → Type 0) (f o : Option A) → o ≡ f → ((x : A) → f ≡ Some x → P x) → IfSome o P
+if_some P f None e h = tt
+if_some P f (Some x) e h = h x (sym e)
+
+pub if_ok : {A E : Type 0} (P : A → Type 0) (f : Option A) (r : Result A E) → MatchResult r (λ x. Some x ≡ f) (λ _. None ≡ f) → ((x : A) → f ≡ Some x → P x) → IfOk r P
+if_ok P f (Ok x) e h = h x (sym e)
+if_ok P f (Err y) e h = tt
+
+pub on_err : {A E : Type 0} (Q : Type 0) (f : Option A) (r : Result A E) → MatchResult r (λ x. Some x ≡ f) (λ _. None ≡ f) → (f ≡ None → Q) → OnErr r Q
+on_err Q f (Ok x) e h = tt
+on_err Q f (Err y) e h = h (sym e)
+
+pub turned : {A E : Type 0} (f g : Option A) (r : Result A E) → MatchResult r (λ x. Some x ≡ f) (λ _. None ≡ f) → f ≡ g → MatchResult r (λ x. g ≡ Some x) (λ _. g ≡ None)
+turned f g (Ok x) e h = sym (e ∙ h)
+turned f g (Err y) e h = sym (e ∙ h)

@@ -40,7 +40,10 @@ pub fn whole_of(node: &Node) -> Option<u32>
     match node {
         Node::Num(num) => exact_value(num.as_bytes(), 0, 999_999_999),
         Node::Text(text) => exact_value(text.as_str().as_bytes(), 0, 999_999_999),
-        _ => None,
+        Node::Null => None,
+        Node::Bool(_) => None,
+        Node::List(_) => None,
+        Node::Object(_) => None,
     }
 }
 
