@@ -1,10 +1,11 @@
 -- How far the machine and the builder have come.
 use Rattle.std.specs.Prelude.{take, is_some, option_map}
-use Rattle.std.proofs.Common.{◌≡◌, ℕ, ◌+◌, ◌<◌, ◌≤◌, List, [], ◌∷◌, ◌++◌, length, get_or, true, false, Option, Some, None, refl, sym, ◌∙◌, ap, subst, append-nil, arith, add-one}
-use Rattle.std.proofs.lemmas.List.{take_more, length-take, take_all}
+use Rattle.std.proofs.Math.Nat.{eq-or-lt_of_le}
+use Rattle.std.proofs.Common.{drop, suc, inl, inr, ◌≡◌, ℕ, ◌+◌, ◌<◌, ◌≤◌, List, [], ◌∷◌, ◌++◌, length, get_or, true, false, Option, Some, None, refl, sym, ◌∙◌, ap, subst, append-nil, arith, add-one}
+use Rattle.std.proofs.lemmas.List.{take_more, length-take, take_all, take-append-drop}
 use Rattle.decimal_json.specs.Tree.{Tree, Event}
 use Rattle.decimal_json.specs.Grammar.{IsElement}
-use Rattle.decimal_json.specs.Prefix.{IsSyntaxFault, IsDepthFault, IsShallow, first_past}
+use Rattle.decimal_json.specs.Prefix.{IsPrefix, IsSyntaxFault, IsDepthFault, IsShallow, first_past}
 use Rattle.decimal_json.specs.Machine.{want, State, st, step, ending, run, run_on, run_then}
 use Rattle.decimal_json.specs.Machines.{Advances, Concludes}
 use Rattle.decimal_json.specs.Builder.{Built, bt, feeds}
@@ -150,3 +151,14 @@ pub told_end : (s : State) (b : Built) (es : List Event) (bytes : List ℕ) (k :
 told_end s b es bytes k i c e =
     let w = whole_text bytes s c.events es (ap (run 0 (st [] want)) (sym (all_of bytes k i)) ∙ c.runs) e in
     last_sound c.events es (subst AreSound w.2 (text_sound w.1))
+
+prefix_of : (bytes : List ℕ) (n : ℕ) (t : Tree) → IsElement 0 bytes t → IsPrefix (take n bytes)
+prefix_of bytes n t h = record { rest = drop n bytes; tree = t; text = subst (λ z. IsElement 0 z t) (sym (take-append-drop n bytes)) h }
+
+-- a text has no fault of syntax
+pub no_syntax_fault : (bytes : List ℕ) (at : ℕ) (t : Tree) → IsElement 0 bytes t → IsSyntaxFault bytes at → ⊥
+no_syntax_fault bytes at t h f = elim (eq-or-lt_of_le f.within) [ inl e ↦ f.ended e t h | inr l ↦ f.stuck l (prefix_of bytes (suc at) t h) ]
+
+-- and a shallow one no level that is too deep
+pub no_depth_fault : (bytes : List ℕ) (at : ℕ) (t : Tree) → IsElement 0 bytes t → first_past 16 t ≡ None → IsDepthFault bytes at → ⊥
+no_depth_fault bytes at t h n f = let e = f.opens (drop (suc at) bytes) t (subst (λ z. IsElement 0 z t) (sym (take-append-drop (suc at) bytes)) h) in cc

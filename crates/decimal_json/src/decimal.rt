@@ -6,8 +6,8 @@ ghost use Rattle.decimal_json.specs.Scaling.{counted_size, unrounded_size};
 ghost use Rattle.decimal_json.specs.Trees.{node_view};
 
 use crate::nearest::rounded;
+use crate::num_text::NumText;
 use crate::tally::Rounded;
-use crate::text::NumText;
 use crate::token::parts_of;
 use crate::tree::Node;
 use fixed_num::{Fixed, TooLarge};

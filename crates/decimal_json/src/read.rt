@@ -1,10 +1,10 @@
-// Reading a whole text.
+//! Reading a whole text.
 
-ghost use Rattle.std.specs.Prelude.{◌≡◌, ℕ, List, ◌<◌, ◌≤◌, ◌+◌, ◌^◌, length, IfOk, OnOk, Err, Some, None, IsTrue, is_some, option_map};
-ghost use Rattle.decimal_json.specs.declared.read.Fault.TheVariants.{Memory};
+ghost use Rattle.std.specs.Prelude.{◌≡◌, ℕ, List, ◌<◌, ◌≤◌, ◌+◌, ◌^◌, length, IfOk, OnOk, Err, Some, None, IsTrue, is_some, option_map, MatchResult};
 ghost use Rattle.decimal_json.specs.Prefix.{IsSyntaxFault, IsDepthFault, IsShallow, first_past};
 ghost use Rattle.decimal_json.specs.Grammar.{IsText};
 ghost use Rattle.decimal_json.specs.Machine.{ending, step, State};
+ghost use Rattle.decimal_json.specs.Tree as json;
 ghost use Rattle.decimal_json.specs.Tree.{Event};
 ghost use Rattle.decimal_json.specs.Sound.{AreSound};
 ghost use Rattle.decimal_json.specs.Trees.{tree_view};
@@ -12,26 +12,12 @@ ghost use Rattle.decimal_json.specs.Building.{built_of};
 ghost use Rattle.decimal_json.specs.Machines.{state_of, IsSound, Advances, Concludes};
 
 use crate::builder::Builder;
+use crate::fault::TextFault;
 use crate::machine::{Answer, Machine};
 use crate::tree::Tree;
 use std::alloc::{AllocError, Global};
 
-#[derive(Drop)]
-pub enum Fault {
-    Syntax(u64),
-    TooDeep(u64),
-    Memory,
-}
-
-impl From<AllocError> for Fault {
-    ghost from_gives = { λ _ e. e ≡ Memory };
-
-    fn from(_error: AllocError) -> Fault {
-        Fault::Memory
-    }
-}
-
-// Hands the byte at k to the machine, and what it tells to the builder. False: it is refused.
+/// Hands the byte at k to the machine, and what it tells to the builder. False: it is refused.
 fn advance(
     alloc: Global,
     machine: &mut Machine,
@@ -57,13 +43,24 @@ fn advance(
     Ok(true)
 }
 
-// The tree that the bytes are, or the first fault.
-pub fn read_tree(alloc: Global, bytes: &[u8]) -> Result<Tree, Fault>
+/// The tree of a JSON text in UTF-8, nested at most 16 deep, with the offsets of its values and keys. Time is linear
+/// in the length; no call recurses over the bytes.
+///
+/// # Errors
+///
+/// `Syntax` where the bytes are no JSON text: `at` is the length of the longest prefix that begins one, so a text that
+/// ends too early has its own length. `TooDeep` at the first bracket or brace that opens a 17th level. The lesser place
+/// counts; the two are never equal. `Memory` may come in place of any answer.
+pub fn read_tree(alloc: Global, bytes: &[u8]) -> Result<Tree, TextFault>
     ensures tree { IfOk result (λ t. IsText bytes.now (tree_view t)) }
+    ensures no_other { IfOk result (λ t. (tree : json.Tree) → IsText bytes.now tree → tree ≡ tree_view t) }
     ensures shallow { IfOk result (λ t. first_past 16 (tree_view t) ≡ None) }
-    ensures syntax { (at : ℕ) → result ≡ Err (Fault.Syntax at) → IsSyntaxFault bytes.now at }
-    ensures first { (at : ℕ) → result ≡ Err (Fault.Syntax at) → IsShallow bytes.now at }
-    ensures too_deep { (at : ℕ) → result ≡ Err (Fault.TooDeep at) → IsDepthFault bytes.now at }
+    // every text nested at most 16 deep is read
+    ensures only { (tree : json.Tree) → IsText bytes.now tree → first_past 16 tree ≡ None → MatchResult result (λ t. tree_view t ≡ tree) (λ fault. fault ≡ TextFault.Memory) }
+    ensures syntax { (at : ℕ) → result ≡ Err (TextFault.Syntax at) → IsSyntaxFault bytes.now at }
+    // no level is too deep before the place of the fault
+    ensures first { (at : ℕ) → result ≡ Err (TextFault.Syntax at) → IsShallow bytes.now at }
+    ensures too_deep { (at : ℕ) → result ≡ Err (TextFault.TooDeep at) → IsDepthFault bytes.now at }
 {
     let mut machine = Machine::new(alloc);
     let mut builder = Builder::new(alloc);
@@ -71,14 +68,16 @@ pub fn read_tree(alloc: Global, bytes: &[u8]) -> Result<Tree, Fault>
         let k = i as u64;
         let taken = advance(alloc, &mut machine, &mut builder, k, bytes[i])?;
         if !taken {
-            return Err(Fault::Syntax(k));
+            return Err(TextFault::Syntax { at: k });
         }
         if machine.depth() > 16 {
-            return Err(Fault::TooDeep(k));
+            return Err(TextFault::TooDeep { at: k });
         }
     }
     if !machine.may_finish() {
-        return Err(Fault::Syntax(bytes.len() as u64));
+        return Err(TextFault::Syntax {
+            at: bytes.len() as u64,
+        });
     }
     match conclude(alloc, machine, builder, bytes.len() as u64)? {
         Some(tree) => Ok(tree),
@@ -86,7 +85,7 @@ pub fn read_tree(alloc: Global, bytes: &[u8]) -> Result<Tree, Fault>
     }
 }
 
-// What is told at the end, and the tree.
+/// What is told at the end, and the tree.
 fn conclude(
     alloc: Global,
     machine: Machine,
@@ -99,52 +98,9 @@ fn conclude(
     requires told { (es : List Event) → ending (state_of machine).levels (state_of machine).mode ≡ Some es → AreSound es }
     ensures { IfOk result (λ t. Concludes (state_of machine) (built_of builder) (option_map tree_view t)) }
 {
-    if let Some(event) = machine.finish() {
+    if let Some(event) = machine.finish(alloc)? {
         builder.feed(alloc, event)?;
     }
     Ok(builder.finish())
 }
 
-#[cfg(test)]
-mod tests {
-    use super::*;
-
-    // The answer as a number: the end of the tree, 1000 + at of a syntax fault, 2000 + at of a level too many.
-    fn code(bytes: &[u8], alloc: Global) -> u64 {
-        if bytes.len() > 1000 {
-            return 9999;
-        }
-        match read_tree(alloc, bytes) {
-            Ok(tree) => tree.end,
-            Err(Fault::Syntax(at)) => { if at < 1000 { 1000 + at } else { 9998 } }
-            Err(Fault::TooDeep(at)) => { if at < 1000 { 2000 + at } else { 9998 } }
-            Err(Fault::Memory) => 9997,
-        }
-    }
-
-    #[test]
-    fn answers(rt: HostRuntime) {
-        let a = rt.alloc();
-        assert_eq!(rt;
-            code(
-                b"{\"a\" : [1, -2.5e+3, \"\\u00e9\\ud83d\\ude00\", true] }",
-                a
-            ),
-            49
-        );
-        assert_eq!(rt; code(b" null ", a), 5);
-        assert_eq!(rt; code(b"\"ab", a), 1003);
-        assert_eq!(rt; code(b"01", a), 1001);
-        assert_eq!(rt; code(b"-", a), 1001);
-        assert_eq!(rt; code(b"[1,]", a), 1003);
-        assert_eq!(rt; code(b"\"\\udc00\"", a), 1004);
-        assert_eq!(rt; code(b"\"\\ud800x", a), 1007);
-        assert_eq!(rt; code(b"\"\xc3\xa9\"", a), 4);
-        assert_eq!(rt; code(b"\"\xc0\x80\"", a), 1001);
-        assert_eq!(rt; code(b"\"\xed\xa0\x80\"", a), 1002);
-        assert_eq!(rt; code(b"[[[[[[[[[[[[[[[[", a), 1016);
-        assert_eq!(rt; code(b"[[[[[[[[[[[[[[[[[", a), 2016);
-        assert_eq!(rt; code(b"{\"x\":[[[[[[[[[[[[[[[[", a), 2020);
-        assert_eq!(rt; code(b"{\"x\":[[[[[[[[[[[[[[[", a), 1020);
-    }
-}

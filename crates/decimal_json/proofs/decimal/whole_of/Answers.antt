@@ -27,7 +27,7 @@ pub returns-in-Num-clause-function : goal.returns-in-Num-clause-function
 returns-in-Num-clause-function c = c.exact_value.ensures ∙ ap (exactly 0 999_999_999) c.as_bytes.ensures.same ∙ sym (whole_num c.in-Num.num) ∙ sym (ap whole (num_seen c.args.node.now c.in-Num.num c.in-Num.is))
 
 pub returns-in-Text-clause-function : goal.returns-in-Text-clause-function
-returns-in-Text-clause-function c = c.exact_value-in-Text.ensures ∙ ap (exactly 0 999_999_999) (c.as_bytes-in-Text.ensures.value ∙ c.as_str.ensures) ∙ sym (whole_text c.in-Text.text) ∙ sym (ap whole (text_seen c.args.node.now c.in-Text.text c.in-Text.is))
+returns-in-Text-clause-function c = c.exact_value-in-Text.ensures ∙ ap (exactly 0 999_999_999) (c.as_bytes-in-Text.ensures.value ∙ c.as_str.ensures.same) ∙ sym (whole_text c.in-Text.text) ∙ sym (ap whole (text_seen c.args.node.now c.in-Text.text c.in-Text.is))
 
 pub returns-in-Num-clause-whole : goal.returns-in-Num-clause-whole
 returns-in-Num-clause-whole c = if_some (IsWholeOf (node_view c.args.node.now)) _ _ (returns-in-Num-clause-function c) (whole_sound (node_view c.args.node.now))
