@@ -1,12 +1,12 @@
 -- An exponent that is capped at 10^20, and a number that vanishes before the last place.
-use Rattle.std.specs.Prelude.{◌-◌, ◌*◌, ◌^◌, ◌==◌, not, nat_lt, min, ◌⊎◌, MatchOption}
-use Rattle.std.proofs.Common.{◌≡◌, ◌≢◌, ℕ, zero, suc, ◌+◌, ◌<◌, ◌≤◌, List, [], ◌∷◌, ◌++◌, length, get_or, Option, Some, None, Bool, true, false, inl, inr, refl, sym, ◌∙◌, ap, subst, arith, pow-add, length-append}
-use Rattle.std.proofs.Math.Nat.{mul-pos, mul-le-mul_right, mul-lt-mul_of_pos_right, pow-suc}
+use Rattle.std.specs.Prelude.{◌-◌, ◌*◌, ◌^◌, ◌==◌, not, nat_lt, min, ◌⊎◌}
+use Rattle.std.proofs.Common.{◌≡◌, ℕ, zero, suc, ◌+◌, ◌<◌, ◌≤◌, List, [], ◌∷◌, ◌++◌, length, Option, Some, None, Bool, true, false, inl, inr, refl, sym, ◌∙◌, ap, subst, arith, pow-add, length-append}
+use Rattle.std.proofs.Math.Nat.{mul-pos, mul-le-mul_right, mul-lt-mul_of_pos_right}
 use Rattle.std.proofs.lemmas.Bool.Decides.{nat_tests}
-use Rattle.decimal_json.specs.Grammar.{IsDigit, AreDigits, IsInt, IsFrac, IsExp, Parts, HasParts}
+use Rattle.decimal_json.specs.Grammar.{AreDigits, IsInt, IsFrac, IsExp, Parts, HasParts}
 use Rattle.decimal_json.specs.Decimal.{number, numerator, denominator}
 use Rattle.decimal_json.specs.Scaling.{AreAllDigits, HasDigits, IsRounded, SizeIs, Rounds}
-use Rattle.decimal_json.proofs.Rounding.{only, below, ten_positive, ten_large}
+use Rattle.decimal_json.proofs.Rounding.{only, below, ten_positive}
 use Rattle.decimal_json.proofs.Tallying.{exact_rounds, same_false, other_true}
 
 -- digits by place, and one after another
@@ -29,8 +29,8 @@ whole_power n p q h =
     let s : p ≡ (p - q) + q = omega arith in
     ap (λ z. n * 10 ^ z) s ∙ ap (λ z. n * z) (pow-add 10 (p - q) q) ∙ regroup n (10 ^ (p - q)) (10 ^ q)
   where
-  regroup : (n a b : ℕ) → n * (a * b) ≡ n * a * b
-  regroup n a b = grind arith
+    regroup : (n a b : ℕ) → n * (a * b) ≡ n * a * b
+    regroup n a b = grind arith
 
 twenty : (n k : ℕ) → 0 < n → 20 ≤ k → 10 ^ 20 ≤ n * 10 ^ k
 twenty n k h l =
@@ -46,8 +46,8 @@ large_size (Some v) c d s h g = let e = s.0 in let f = s.1 in absurd (omega arit
 scaled_alike : (n i j : ℕ) (size : Option ℕ) → 20 ≤ i → 20 ≤ j → SizeIs size (n * 10 ^ i) → SizeIs size (n * 10 ^ j)
 scaled_alike zero i j size h g s = subst (SizeIs size) (nothing (10 ^ i) (10 ^ j)) s
   where
-  nothing : (a b : ℕ) → 0 * a ≡ 0 * b
-  nothing a b = grind arith
+    nothing : (a b : ℕ) → 0 * a ≡ 0 * b
+    nothing a b = grind arith
 scaled_alike (suc n) i j size h g s = large_size size (suc n * 10 ^ i) (suc n * 10 ^ j) s (twenty (suc n) i (omega arith) h) (twenty (suc n) j (omega arith) g)
 
 -- twenty zeros more than there are places make a number too large, and so do more of them
@@ -72,15 +72,15 @@ min_low x m h = omega arith
 pub raised : (n x places q : ℕ) (size : Option ℕ) (differs : Bool) → q < 2 ^ 64 → Rounds (n * 10 ^ (min x (10 ^ 20) + places)) (10 ^ q) size differs → Rounds (n * 10 ^ (x + places)) (10 ^ q) size differs
 raised n x places q size differs h r =
     elim (cases x) [
-      inl l ↦ subst (λ z. Rounds (n * 10 ^ (z + places)) (10 ^ q) size differs) (min_low x (10 ^ 20) l) r
-    | inr l ↦
-      let m : min x (10 ^ 20) ≡ 10 ^ 20 = omega arith in
-      let e : 10 ^ 20 + places + (x - 10 ^ 20) ≡ x + places = omega arith in
-      subst (λ z. Rounds (n * 10 ^ z) (10 ^ q) size differs) e (capped n (10 ^ 20 + places) q (x - 10 ^ 20) size differs (omega arith) (subst (λ z. Rounds (n * 10 ^ (z + places)) (10 ^ q) size differs) m r))
+      | inl l ↦ subst (λ z. Rounds (n * 10 ^ (z + places)) (10 ^ q) size differs) (min_low x (10 ^ 20) l) r
+      | inr l ↦
+          let m : min x (10 ^ 20) ≡ 10 ^ 20 = omega arith in
+          let e : 10 ^ 20 + places + (x - 10 ^ 20) ≡ x + places = omega arith in
+          subst (λ z. Rounds (n * 10 ^ z) (10 ^ q) size differs) e (capped n (10 ^ 20 + places) q (x - 10 ^ 20) size differs (omega arith) (subst (λ z. Rounds (n * 10 ^ (z + places)) (10 ^ q) size differs) m r))
     ]
   where
-  cases : (x : ℕ) → (x ≤ 10 ^ 20) ⊎ (10 ^ 20 < x)
-  cases x = grind arith
+    cases : (x : ℕ) → (x ≤ 10 ^ 20) ⊎ (10 ^ 20 < x)
+    cases x = grind arith
 
 times : (n a b c d m : ℕ) → n < a → d ≡ a * b * 10 * c → 0 < c → 0 < b → 2 * (n * b) < d
 times n a b c d m h e k l =
@@ -88,9 +88,9 @@ times n a b c d m h e k l =
     let g : a * b * 10 * 1 ≤ a * b * 10 * c = larger (a * b * 10) c k in
     omega arith
   where
-  larger : (x c : ℕ) → 0 < c → x * 1 ≤ x * c
-  larger x zero k = absurd (omega arith)
-  larger x (suc c) k = let e : x * suc c ≡ x * c + x = grind arith in omega arith
+    larger : (x c : ℕ) → 0 < c → x * 1 ≤ x * c
+    larger x zero k = absurd (omega arith)
+    larger x (suc c) k = let e : x * suc c ≡ x * c + x = grind arith in omega arith
 
 -- a number of so many digits before a point that lies further to the left rounds to 0
 pub vanishes : (n count places q : ℕ) (differs : Bool) → n < 10 ^ count → count + places < q → differs ≡ nat_lt 0 n → Rounds (n * 10 ^ (0 + places)) (10 ^ q) (Some 0) differs
@@ -102,9 +102,9 @@ vanishes n count places q differs h l e =
     subst (λ z. Rounds (n * 10 ^ z) (10 ^ q) (Some 0) differs) (sym p)
     (record { c = 0; rounded = record { low = omega arith; high = omega arith }; size_is = (refl, omega arith); differs_is = e ∙ tests n (10 ^ places) (10 ^ q) (ten_positive places) })
   where
-  tests : (n b d : ℕ) → 0 < b → nat_lt 0 n ≡ not (0 * d == n * b)
-  tests zero b d k = same_false (0 * d) (0 * b) (grind arith)
-  tests (suc n) b d k = (let t : nat_lt 0 (suc n) ≡ true = grind (arith, nat_tests) in t) ∙ other_true (0 * d) (suc n * b) (let m : 0 < suc n * b = mul-pos (omega arith) k in λ e. absurd (let z : 0 * d ≡ 0 = grind arith in omega arith))
+    tests : (n b d : ℕ) → 0 < b → nat_lt 0 n ≡ not (0 * d == n * b)
+    tests zero b d k = same_false (0 * d) (0 * b) (grind arith)
+    tests (suc n) b d k = (let t : nat_lt 0 (suc n) ≡ true = grind (arith, nat_tests) in t) ∙ other_true (0 * d) (suc n * b) (let m : 0 < suc n * b = mul-pos (omega arith) k in λ e. absurd (let z : 0 * d ≡ 0 = grind arith in omega arith))
 
 -- the parts of a token, with each sign of the exponent
 pub not_shrunk : (p : Parts) (places : ℕ) (size : Option ℕ) (differs : Bool) → p.shrinks ≡ false → length p.fraction < 2 ^ 64 → Rounds (number (p.whole ++ p.fraction) * 10 ^ (min (number p.exponent) (10 ^ 20) + places)) (10 ^ (0 + length p.fraction)) size differs → Rounds (numerator p places) (denominator p) size differs

@@ -1,14 +1,14 @@
 -- What is read of a number token, by its relation and by its function.
-use Rattle.std.specs.Prelude.{◌-◌, ◌*◌, ◌/◌, ◌^◌, ◌==◌, ◌&&◌, ◌||◌, not, nat_lt, nat_le, ℤ, pos, neg_ℤ, unsigned_abs, ◌⊎◌, IfSome, IfOk, OnErr, MatchResult, Result, Ok, Err}
-use Rattle.std.proofs.Common.{◌≡◌, ◌≢◌, ℕ, zero, suc, ◌+◌, ◌<◌, ◌≤◌, List, [], ◌∷◌, ◌++◌, length, Option, Some, None, Bool, true, false, cond, inl, inr, refl, sym, ◌∙◌, ap, subst, arith}
+use Rattle.std.specs.Prelude.{◌*◌, ◌^◌, ◌==◌, ◌&&◌, ◌||◌, not, nat_lt, nat_le, ℤ, unsigned_abs, ◌⊎◌, IfSome, IfOk, OnErr, MatchResult, Result, Ok, Err}
+use Rattle.std.proofs.Common.{◌≡◌, ◌≢◌, ℕ, zero, suc, ◌+◌, ◌<◌, ◌≤◌, List, Option, Some, None, Bool, true, false, cond, inl, inr, refl, sym, ◌∙◌, ap, subst, arith}
 use Rattle.std.proofs.Math.Nat.{mul-le-mul_right, div-eq_of_lt-le, le-div_iff_mul-le, div-lt_iff_lt-mul}
 use Rattle.std.proofs.lemmas.Bool.{cond-true, cond-false}
 use Rattle.std.proofs.lemmas.Bool.Decides.{nat_tests}
 use Rattle.decimal_json.specs.Tree.{Node}
 use Rattle.decimal_json.specs.Grammar.{Parts, HasParts, IsNumber}
 use Rattle.decimal_json.specs.Decimal.{numerator, denominator, distance, IsNearest, signed, IsFixedOf, IsTooLarge, IsExactly, IsWholeOf, of_number, of_text, IsMillionthsOf}
-use Rattle.decimal_json.specs.Scaling.{IsRounded, SizeIs, Rounds, counted_size, unrounded_size}
-use Rattle.decimal_json.specs.Exact.{nearest, is_exact, fixed_size, fixed_parts, fixed, exact_size, exact_parts, exactly, whole, millionths}
+use Rattle.decimal_json.specs.Scaling.{IsRounded, Rounds, counted_size, unrounded_size}
+use Rattle.decimal_json.specs.Exact.{nearest, is_exact, fixed_parts, fixed, exact_size, exact_parts, exactly, whole, millionths}
 use Rattle.decimal_json.specs.Token.{parts_of}
 use Rattle.decimal_json.proofs.Rounding.{only, ten_positive}
 use Rattle.decimal_json.proofs.Tallying.{exact_rounds}
@@ -42,10 +42,10 @@ is_nearest a b c positive r =
       greater = λ d e. no_greater d e high (order c d);
     }
   where
-  no_greater : (d : ℕ) → distance a (d * b) ≡ distance a (c * b) → 2 * a + b < 2 * (c * b + b) → (d ≡ c) ⊎ ((d < c) ⊎ (c < d)) → d ≤ c
-  no_greater d e h (inl f) = omega arith
-  no_greater d e h (inr (inl f)) = omega arith
-  no_greater d e h (inr (inr f)) = absurd (not_greater a b (c * b) (d * b) positive h (step_up b c d f) e)
+    no_greater : (d : ℕ) → distance a (d * b) ≡ distance a (c * b) → 2 * a + b < 2 * (c * b + b) → (d ≡ c) ⊎ ((d < c) ⊎ (c < d)) → d ≤ c
+    no_greater d e h (inl f) = omega arith
+    no_greater d e h (inr (inl f)) = omega arith
+    no_greater d e h (inr (inr f)) = absurd (not_greater a b (c * b) (d * b) positive h (step_up b c d f) e)
 
 nearer : (a b x : ℕ) → 0 < b → distance a x ≤ distance a (x + b) → distance a (x + b) ≢ distance a x → 2 * a + b < 2 * (x + b)
 nearer a b x p l n = omega arith
@@ -56,15 +56,16 @@ nearer_below a b x p l = omega arith
 pub bounds : (a b c : ℕ) → 0 < b → IsNearest a b c → IsRounded a b c
 bounds a b c p n = record { low = low c n; high = high }
   where
-  low : (c : ℕ) → IsNearest a b c → 2 * (c * b) ≤ 2 * a + b
-  low zero n = (let z : 0 * b ≡ 0 = grind arith in omega arith)
-  low (suc c) n = (let e : suc c * b ≡ c * b + b = grind arith in let m : distance a (c * b + b) ≤ distance a (c * b) = subst (λ z. distance a z ≤ distance a (c * b)) e (n.near c) in let k = nearer_below a b (c * b) p m in omega arith)
-  high : 2 * a + b < 2 * ((c + 1) * b)
-  high =
-      let e = more_by_one b c in
-      let near : distance a (c * b) ≤ distance a (c * b + b) = subst (λ z. distance a (c * b) ≤ distance a z) e (n.near (c + 1)) in
-      let other : distance a (c * b + b) ≢ distance a (c * b) = λ f. (let g : c + 1 ≤ c = n.greater (c + 1) (ap (distance a) e ∙ f) in omega arith) in
-      let h = nearer a b (c * b) p near other in omega arith
+    low : (c : ℕ) → IsNearest a b c → 2 * (c * b) ≤ 2 * a + b
+    low zero n = (let z : 0 * b ≡ 0 = grind arith in omega arith)
+    low (suc c) n = (let e : suc c * b ≡ c * b + b = grind arith in let m : distance a (c * b + b) ≤ distance a (c * b) = subst (λ z. distance a z ≤ distance a (c * b)) e (n.near c) in let k = nearer_below a b (c * b) p m in omega arith)
+
+    high : 2 * a + b < 2 * ((c + 1) * b)
+    high =
+        let e = more_by_one b c in
+        let near : distance a (c * b) ≤ distance a (c * b + b) = subst (λ z. distance a (c * b) ≤ distance a z) e (n.near (c + 1)) in
+        let other : distance a (c * b + b) ≢ distance a (c * b) = λ f. (let g : c + 1 ≤ c = n.greater (c + 1) (ap (distance a) e ∙ f) in omega arith) in
+        let h = nearer a b (c * b) p near other in omega arith
 
 -- the function of the nearest whole number
 double_bounds : (a b c : ℕ) → IsRounded a b c → (c * (2 * b) ≤ 2 * a + b) × (2 * a + b < (c + 1) * (2 * b))
@@ -80,8 +81,8 @@ nearest_bounds a b h =
     let g : 2 * a + b < (nearest a b + 1) * (2 * b) = (div-lt_iff_lt-mul d).0 (omega arith) in
     bounds_back a b (nearest a b) l g
   where
-  bounds_back : (a b c : ℕ) → c * (2 * b) ≤ 2 * a + b → 2 * a + b < (c + 1) * (2 * b) → IsRounded a b c
-  bounds_back a b c l g = record { low = (let e : c * (2 * b) ≡ 2 * (c * b) = grind arith in omega arith); high = (let e : (c + 1) * (2 * b) ≡ 2 * ((c + 1) * b) = grind arith in omega arith) }
+    bounds_back : (a b c : ℕ) → c * (2 * b) ≤ 2 * a + b → 2 * a + b < (c + 1) * (2 * b) → IsRounded a b c
+    bounds_back a b c l g = record { low = (let e : c * (2 * b) ≡ 2 * (c * b) = grind arith in omega arith); high = (let e : (c + 1) * (2 * b) ≡ 2 * ((c + 1) * b) = grind arith in omega arith) }
 
 pub positive : (p : Parts) → 0 < denominator p
 positive p = ten_positive _
@@ -96,9 +97,10 @@ pub one_count : {token : List ℕ} {c d : ℤ} {b e : Bool} → IsFixedOf token 
 one_count {token} {c} {d} {b} {e} f g =
     let p : g.parts ≡ f.parts = one_parts g.token_parts f.token_parts in
     let n : IsNearest (numerator f.parts 12) (denominator f.parts) g.size = subst (λ q. IsNearest (numerator q 12) (denominator q) g.size) p g.nearest in
-    let s : f.size ≡ g.size = only (numerator f.parts 12) (denominator f.parts) f.size g.size (bounds (numerator f.parts 12) (denominator f.parts) f.size (positive f.parts) f.nearest) (bounds (numerator f.parts 12) (denominator f.parts) g.size (positive f.parts) n) in
-    (f.count_is ∙ ap (λ z. signed f.parts.negative z) s ∙ ap (λ (q : Parts). signed q.negative g.size) (sym p) ∙ sym g.count_is,
-     f.differs_is ∙ ap (λ z. not (z * denominator f.parts == numerator f.parts 12)) s ∙ ap (λ (q : Parts). not (g.size * denominator q == numerator q 12)) (sym p) ∙ sym g.differs_is)
+    let s : f.size ≡ g.size = only (numerator f.parts 12) (denominator f.parts) f.size g.size (bounds (numerator f.parts 12) (denominator f.parts) f.size (positive f.parts) f.nearest) (bounds (numerator f.parts 12) (denominator f.parts) g.size (positive f.parts) n) in (
+      f.count_is ∙ ap (λ z. signed f.parts.negative z) s ∙ ap (λ (q : Parts). signed q.negative g.size) (sym p) ∙ sym g.count_is,
+      f.differs_is ∙ ap (λ z. not (z * denominator f.parts == numerator f.parts 12)) s ∙ ap (λ (q : Parts). not (g.size * denominator q == numerator q 12)) (sym p) ∙ sym g.differs_is,
+    )
 
 -- the parts' count, by the nearest size
 fixed_at : {token : List ℕ} (p : Parts) → HasParts token p → IsFixedOf token (signed p.negative (nearest (numerator p 12) (denominator p))) (not (nearest (numerator p 12) (denominator p) * denominator p == numerator p 12))
@@ -115,11 +117,11 @@ pub fixed_sound : (token : List ℕ) (count : ℤ) (differs : Bool) → fixed to
 unfolding fixed
 fixed_sound token count differs e = of_parts (parts_of token) refl e
   where
-  of_parts : (o : Option Parts) → parts_of token ≡ o → fixed_parts o ≡ Some (count, differs) → IsFixedOf token count differs
-  of_parts None f g = absurd cc
-  of_parts (Some p) f g =
-      guarded (λ (r : ℤ × Bool). IsFixedOf token r.0 r.1) (nat_lt (nearest (numerator p 12) (denominator p)) (10 ^ 20)) _ (count, differs) g
-      (λ _. fixed_at p (parts_sound token p f))
+    of_parts : (o : Option Parts) → parts_of token ≡ o → fixed_parts o ≡ Some (count, differs) → IsFixedOf token count differs
+    of_parts None f g = absurd cc
+    of_parts (Some p) f g =
+        guarded (λ (r : ℤ × Bool). IsFixedOf token r.0 r.1) (nat_lt (nearest (numerator p 12) (denominator p)) (10 ^ 20)) _ (count, differs) g
+        (λ _. fixed_at p (parts_sound token p f))
 
 pub fixed_none : (token : List ℕ) → IsNumber token → fixed token ≡ None → IsTooLarge token
 unfolding fixed
@@ -130,9 +132,9 @@ fixed_none token n e =
     let large : 10 ^ 20 ≤ size = by_test (ℤ × Bool) _ size (nat_lt size (10 ^ 20)) refl none in
     record { count = _; differs = _; fixed = fixed_at p n.1; large = (let z = size_of_sign p.negative size in omega arith) }
   where
-  by_test : (A : Type 0) (x : A) (n : ℕ) (t : Bool) → nat_lt n (10 ^ 20) ≡ t → cond t (Some x) None ≡ None → 10 ^ 20 ≤ n
-  by_test A x n true f g = absurd cc
-  by_test A x n false f g = grind (arith, nat_tests)
+    by_test : (A : Type 0) (x : A) (n : ℕ) (t : Bool) → nat_lt n (10 ^ 20) ≡ t → cond t (Some x) None ≡ None → 10 ^ 20 ≤ n
+    by_test A x n true f g = absurd cc
+    by_test A x n false f g = grind (arith, nat_tests)
 
 -- what the code rounds is what the functions say
 pub counted_is : (p : Parts) (size : Option ℕ) (differs : Bool) → Rounds (numerator p 12) (denominator p) size differs → counted_size p.negative size differs ≡ fixed_parts (Some p)
@@ -142,8 +144,8 @@ counted_is p None differs r =
     let t : nat_lt (nearest (numerator p 12) (denominator p)) (10 ^ 20) ≡ false = not_below n l in
     sym (cond-false _ _ _ t)
   where
-  not_below : {x c : ℕ} → x ≡ c → 10 ^ 20 ≤ c → nat_lt x (10 ^ 20) ≡ false
-  not_below e l = grind (arith, nat_tests)
+    not_below : {x c : ℕ} → x ≡ c → 10 ^ 20 ≤ c → nat_lt x (10 ^ 20) ≡ false
+    not_below e l = grind (arith, nat_tests)
 counted_is p (Some size) differs r =
     let n : nearest (numerator p 12) (denominator p) ≡ r.c = nearest_is (numerator p 12) (denominator p) r.c r.rounded in
     let s : size ≡ nearest (numerator p 12) (denominator p) = r.size_is.0 ∙ sym n in
@@ -151,8 +153,8 @@ counted_is p (Some size) differs r =
     let d : differs ≡ not (is_exact p 12 (nearest (numerator p 12) (denominator p))) = r.differs_is ∙ ap (λ z. not (is_exact p 12 z)) (sym n) in
     ap (λ z. Some (signed p.negative z, differs)) s ∙ ap (λ z. Some (signed p.negative (nearest (numerator p 12) (denominator p)), z)) d ∙ sym (cond-true _ _ _ t)
   where
-  is_below : {x c : ℕ} → x ≡ c → x < 10 ^ 20 → nat_lt c (10 ^ 20) ≡ true
-  is_below e l = grind (arith, nat_tests)
+    is_below : {x c : ℕ} → x ≡ c → x < 10 ^ 20 → nat_lt c (10 ^ 20) ≡ true
+    is_below e l = grind (arith, nat_tests)
 
 pub unrounded_is : (p : Parts) (places most : ℕ) (size : Option ℕ) (differs : Bool) → most < 10 ^ 20 → Rounds (numerator p places) (denominator p) size differs → unrounded_size p.negative size differs most ≡ exact_parts places most (Some p)
 unrounded_is p places most None differs m r =
@@ -161,12 +163,12 @@ unrounded_is p places most None differs m r =
     let t : (is_exact p places (nearest (numerator p places) (denominator p)) && (nat_le (nearest (numerator p places) (denominator p)) most && (not p.negative || (nearest (numerator p places) (denominator p) == 0)))) ≡ false = not_most (is_exact p places (nearest (numerator p places) (denominator p))) (not p.negative || (nearest (numerator p places) (denominator p) == 0)) n l m in
     sym (cond-false _ _ _ t)
   where
-  not_most : {x c most : ℕ} (a b : Bool) → x ≡ c → 10 ^ 20 ≤ c → most < 10 ^ 20 → (a && (nat_le x most && b)) ≡ false
-  not_most {x} {c} {most} a b e l m = let f : nat_le x most ≡ false = grind (arith, nat_tests) in rw f (and_false a)
-    where
-    and_false : (a : Bool) → (a && false) ≡ false
-    and_false true = refl
-    and_false false = refl
+    not_most : {x c most : ℕ} (a b : Bool) → x ≡ c → 10 ^ 20 ≤ c → most < 10 ^ 20 → (a && (nat_le x most && b)) ≡ false
+    not_most {x} {c} {most} a b e l m = let f : nat_le x most ≡ false = grind (arith, nat_tests) in rw f (and_false a)
+      where
+        and_false : (a : Bool) → (a && false) ≡ false
+        and_false true = refl
+        and_false false = refl
 unrounded_is p places most (Some size) differs m r =
     let n : nearest (numerator p places) (denominator p) ≡ r.c = nearest_is (numerator p places) (denominator p) r.c r.rounded in
     let s : size ≡ nearest (numerator p places) (denominator p) = r.size_is.0 ∙ sym n in
@@ -174,9 +176,9 @@ unrounded_is p places most (Some size) differs m r =
     ap (λ z. cond (not differs && (nat_le z most && (not p.negative || (z == 0)))) (Some z) None) s
     ∙ ap (λ z. cond (z && (nat_le (nearest (numerator p places) (denominator p)) most && (not p.negative || (nearest (numerator p places) (denominator p) == 0)))) (Some (nearest (numerator p places) (denominator p))) None) d
   where
-  twice : (a : Bool) → not (not a) ≡ a
-  twice true = refl
-  twice false = refl
+    twice : (a : Bool) → not (not a) ≡ a
+    twice true = refl
+    twice false = refl
 
 exact_at : {token : List ℕ} (p : Parts) (places most n size : ℕ) → HasParts token p → exact_size p places most size ≡ Some n → IsExactly token places n × (n ≤ most)
 exact_at {token} p places most n size h e =
@@ -184,21 +186,22 @@ exact_at {token} p places most n size h e =
     (λ t. let s = split (is_exact p places size) (nat_le size most) (not p.negative || (size == 0)) t in
     (record { parts = p; token_parts = h; exact = (let f = s.0 in grind (arith, nat_tests)); sign = signs p.negative size s.2 }, let f = s.1 in grind (arith, nat_tests)))
   where
-  split : (a b c : Bool) → (a && (b && c)) ≡ true → (a ≡ true) × (b ≡ true) × (c ≡ true)
-  split true true c e = (refl, refl, e)
-  split true false c e = absurd cc
-  split false b c e = absurd cc
-  signs : (b : Bool) (size : ℕ) → (not b || (size == 0)) ≡ true → b ≡ true → size ≡ 0
-  signs true size f g = grind (arith, nat_tests)
-  signs false size f g = absurd cc
+    split : (a b c : Bool) → (a && (b && c)) ≡ true → (a ≡ true) × (b ≡ true) × (c ≡ true)
+    split true true c e = (refl, refl, e)
+    split true false c e = absurd cc
+    split false b c e = absurd cc
+
+    signs : (b : Bool) (size : ℕ) → (not b || (size == 0)) ≡ true → b ≡ true → size ≡ 0
+    signs true size f g = grind (arith, nat_tests)
+    signs false size f g = absurd cc
 
 pub exactly_sound : (places most : ℕ) (token : List ℕ) (n : ℕ) → exactly places most token ≡ Some n → IsExactly token places n × (n ≤ most)
 unfolding exactly
 exactly_sound places most token n e = of_parts (parts_of token) refl e
   where
-  of_parts : (o : Option Parts) → parts_of token ≡ o → exact_parts places most o ≡ Some n → IsExactly token places n × (n ≤ most)
-  of_parts None f g = absurd cc
-  of_parts (Some p) f g = exact_at p places most n _ (parts_sound token p f) g
+    of_parts : (o : Option Parts) → parts_of token ≡ o → exact_parts places most o ≡ Some n → IsExactly token places n × (n ≤ most)
+    of_parts None f g = absurd cc
+    of_parts (Some p) f g = exact_at p places most n _ (parts_sound token p f) g
 
 exact_rounded : (a b n : ℕ) → 0 < b → n * b ≡ a → IsRounded a b n
 exact_rounded a b n h e = subst (λ z. IsRounded z b n) e (exact_rounds n b h)
@@ -212,9 +215,9 @@ exactly_found places most token n x m =
     let t : (is_exact p places n && (nat_le n most && (not p.negative || (n == 0)))) ≡ true = tests (is_exact p places n) p.negative (grind (arith, nat_tests)) x.sign in
     ap (exact_parts places most) (parts_found x.token_parts) ∙ ap (λ z. exact_size p places most z) s ∙ cond-true _ _ _ t
   where
-  tests : (a b : Bool) → a ≡ true → (b ≡ true → n ≡ 0) → (a && (nat_le n most && (not b || (n == 0)))) ≡ true
-  tests a true f g = let z = g refl in rw f (grind (arith, nat_tests))
-  tests a false f g = rw f (grind (arith, nat_tests))
+    tests : (a b : Bool) → a ≡ true → (b ≡ true → n ≡ 0) → (a && (nat_le n most && (not b || (n == 0)))) ≡ true
+    tests a true f g = let z = g refl in rw f (grind (arith, nat_tests))
+    tests a false f g = rw f (grind (arith, nat_tests))
 
 pub whole_sound : (x : Node) (n : ℕ) → whole x ≡ Some n → IsWholeOf x n
 unfolding whole

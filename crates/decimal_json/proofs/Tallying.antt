@@ -1,7 +1,7 @@
 -- A tally of digits, one digit further, and what it rounds to.
 use Rattle.std.specs.Prelude.{nat_lt, ◌-◌, ◌*◌, ◌^◌, ◌==◌, not, ◌⊎◌}
-use Rattle.std.proofs.Common.{◌≡◌, ◌≢◌, ℕ, zero, suc, ◌+◌, ◌<◌, ◌≤◌, Option, Bool, true, false, inl, inr, refl, sym, ◌∙◌, ap, subst, arith, pow-add, List, [], ◌∷◌, ◌++◌, length, take, get_or}
-use Rattle.std.proofs.Math.Nat.{pow-suc, mul-pos, mul-le-mul_right, mul-lt-mul_of_pos_right}
+use Rattle.std.proofs.Common.{◌≡◌, ◌≢◌, ℕ, zero, suc, ◌+◌, ◌<◌, ◌≤◌, Option, true, false, inl, inr, refl, sym, ◌∙◌, ap, subst, arith, pow-add, List, [], ◌∷◌, ◌++◌, length, take, get_or}
+use Rattle.std.proofs.Math.Nat.{pow-suc, mul-pos, mul-lt-mul_of_pos_right}
 use Rattle.std.proofs.lemmas.Bool.Decides.{nat_tests}
 use Rattle.decimal_json.specs.Scaling.{IsRounded, SizeIs, Rounds}
 use Rattle.decimal_json.specs.Tallies.{IsTally, TailIs}

@@ -1,6 +1,6 @@
 -- A number token is taken apart as the grammar says, and in one way alone.
-use Rattle.std.specs.Prelude.{◌==◌, ◌&&◌, not, nat_lt}
-use Rattle.std.proofs.Common.{◌≡◌, ◌≢◌, ℕ, zero, suc, ◌+◌, ◌<◌, ◌≤◌, List, [], ◌∷◌, ◌++◌, length, Bool, true, false, cond, Option, Some, None, refl, sym, ◌∙◌, ap, subst, arith, drop, take, get_or, append-nil}
+use Rattle.std.specs.Prelude.{◌==◌, ◌&&◌, nat_lt}
+use Rattle.std.proofs.Common.{◌≡◌, ℕ, suc, ◌<◌, ◌≤◌, List, [], ◌∷◌, ◌++◌, length, Bool, true, false, cond, Option, Some, None, refl, sym, ◌∙◌, ap, subst, arith, drop, take}
 use Rattle.std.proofs.Math.Seq.{take-append_seam, drop-append_seam}
 use Rattle.std.proofs.lemmas.List.{take-append-drop, length-take-le}
 use Rattle.std.proofs.lemmas.Bool.{cond-true}
@@ -155,17 +155,17 @@ exp_sound : (bs : List ℕ) (x : Bool × List ℕ) → exponent_of bs ≡ Some x
 exp_sound [] x f = let e : ◌≡◌ {A = Bool × List ℕ} (false, []) x = cc in subst (λ (y : Bool × List ℕ). IsExp [] y.0 y.1) e IsExp.none
 exp_sound (e ∷ bs) x f = when (is_mark e) refl f
   where
-  when : (t : Bool) → is_mark e ≡ t → cond t (signed_exponent bs) None ≡ Some x → IsExp (e ∷ bs) x.0 x.1
-  when true m g = signed_sound e bs x (mark_of e m) g
-  when false m g = absurd cc
+    when : (t : Bool) → is_mark e ≡ t → cond t (signed_exponent bs) None ≡ Some x → IsExp (e ∷ bs) x.0 x.1
+    when true m g = signed_sound e bs x (mark_of e m) g
+    when false m g = absurd cc
 
 within : (bs : List ℕ) → digit_count bs ≤ length bs
 within [] = omega arith
 within (b ∷ bs) = by_test (is_digit b) (digit_count bs) (length bs) (within bs)
   where
-  by_test : (t : Bool) (n m : ℕ) → n ≤ m → cond t (suc n) 0 ≤ suc m
-  by_test true n m h = omega arith
-  by_test false n m h = omega arith
+    by_test : (t : Bool) (n m : ℕ) → n ≤ m → cond t (suc n) 0 ≤ suc m
+    by_test true n m h = omega arith
+    by_test false n m h = omega arith
 
 -- a fraction, and what comes behind it
 record Front (bs : List ℕ) (x : List ℕ × List ℕ) : Type 0 where
@@ -197,9 +197,9 @@ int_of : (ds : List ℕ) → AreDigits ds → may_be_int ds ≡ true → IsInt d
 int_of [] h e = absurd cc
 int_of (d ∷ []) (AreDigits.more h hs) e = when (d == 48) refl
   where
-  when : (t : Bool) → (d == 48) ≡ t → IsInt (d ∷ [])
-  when true f = let i : d ≡ 48 = grind (arith, nat_tests) in subst (λ z. IsInt (z ∷ [])) (sym i) IsInt.zero
-  when false f = IsInt.nonzero (grind (arith, nat_tests)) h AreDigits.none
+    when : (t : Bool) → (d == 48) ≡ t → IsInt (d ∷ [])
+    when true f = let i : d ≡ 48 = grind (arith, nat_tests) in subst (λ z. IsInt (z ∷ [])) (sym i) IsInt.zero
+    when false f = IsInt.nonzero (grind (arith, nat_tests)) h AreDigits.none
 int_of (d ∷ c ∷ ds) (AreDigits.more h hs) e = IsInt.nonzero (grind (arith, nat_tests)) h hs
 
 -- the parts behind a sign
@@ -227,9 +227,9 @@ with_fraction_sound negative bs w r (Some x) p i j b g = let h = frac_sound r x 
 unsigned_sound : (negative : Bool) (bs : List ℕ) (p : Parts) → unsigned_parts negative bs ≡ Some p → Unsigned negative bs p
 unsigned_sound negative bs p e = when (may_be_int (take (digit_count bs) bs)) refl e
   where
-  when : (t : Bool) → may_be_int (take (digit_count bs) bs) ≡ t → cond t (with_fraction negative (take (digit_count bs) bs) (fraction_of (drop (digit_count bs) bs))) None ≡ Some p → Unsigned negative bs p
-  when true f g = with_fraction_sound negative bs (take (digit_count bs) bs) (drop (digit_count bs) bs) (fraction_of (drop (digit_count bs) bs)) p refl g (sym (take-append-drop (digit_count bs) bs)) (int_of (take (digit_count bs) bs) (first_digits bs) f)
-  when false f g = absurd cc
+    when : (t : Bool) → may_be_int (take (digit_count bs) bs) ≡ t → cond t (with_fraction negative (take (digit_count bs) bs) (fraction_of (drop (digit_count bs) bs))) None ≡ Some p → Unsigned negative bs p
+    when true f g = with_fraction_sound negative bs (take (digit_count bs) bs) (drop (digit_count bs) bs) (fraction_of (drop (digit_count bs) bs)) p refl g (sym (take-append-drop (digit_count bs) bs)) (int_of (take (digit_count bs) bs) (first_digits bs) f)
+    when false f g = absurd cc
 
 positive_of : {bs : List ℕ} {p : Parts} → Unsigned false bs p → HasParts bs p
 positive_of {p = p} u = subst (λ z. HasParts z p) (sym u.bytes) (subst (λ z. HasParts (u.w ++ (u.f ++ u.e)) z) (sym u.is) (HasParts.positive u.int u.frac u.exp))

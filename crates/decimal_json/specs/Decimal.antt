@@ -1,5 +1,5 @@
 -- The value of a number token, and the whole numbers that are read of it.
-use Rattle.std.specs.Prelude.{◌≡◌, ℕ, suc, ◌+◌, ◌-◌, ◌*◌, ◌^◌, ◌≤◌, ◌<◌, ℤ, pos, neg_ℤ, unsigned_abs, List, [], ◌∷◌, ◌++◌, length, Bool, true, false, not, ◌==◌}
+use Rattle.std.specs.Prelude.{◌≡◌, ℕ, ◌+◌, ◌-◌, ◌*◌, ◌^◌, ◌≤◌, ℤ, pos, neg_ℤ, unsigned_abs, List, [], ◌∷◌, ◌++◌, length, Bool, true, false, not, ◌==◌}
 use Rattle.decimal_json.specs.Tree.{Node}
 use Rattle.decimal_json.specs.Grammar.{Parts, HasParts}
 

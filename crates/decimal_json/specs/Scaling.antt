@@ -1,5 +1,5 @@
 -- Rounding behind the last digit that is kept. Not part of any promise: only private functions cite it.
-use Rattle.std.specs.Prelude.{◌≡◌, ℕ, zero, suc, ◌+◌, ◌-◌, ◌*◌, ◌^◌, ◌≤◌, ◌<◌, List, length, get_or, Bool, cond, not, ◌==◌, ◌&&◌, ◌||◌, nat_le, ℤ, Option, Some, None, MatchOption}
+use Rattle.std.specs.Prelude.{◌≡◌, ℕ, ◌+◌, ◌*◌, ◌^◌, ◌≤◌, ◌<◌, List, length, get_or, Bool, cond, not, ◌==◌, ◌&&◌, ◌||◌, nat_le, ℤ, Option, Some, None, MatchOption}
 use Rattle.decimal_json.specs.Decimal.{signed}
 use Rattle.decimal_json.specs.Grammar.{IsDigit, Parts}
 

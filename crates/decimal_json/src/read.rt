@@ -17,6 +17,9 @@ use crate::machine::{Answer, Machine};
 use crate::tree::Tree;
 use std::alloc::{AllocError, Global};
 
+/// How many arrays and objects may be open at once.
+const MOST_LEVELS: usize = 16;
+
 /// Hands the byte at k to the machine, and what it tells to the builder. False: it is refused.
 fn advance(
     alloc: Global,
@@ -70,7 +73,7 @@ pub fn read_tree(alloc: Global, bytes: &[u8]) -> Result<Tree, TextFault>
         if !taken {
             return Err(TextFault::Syntax { at: k });
         }
-        if machine.depth() > 16 {
+        if machine.depth() > MOST_LEVELS {
             return Err(TextFault::TooDeep { at: k });
         }
     }
@@ -104,3 +107,68 @@ fn conclude(
     Ok(builder.finish())
 }
 
+#[cfg(test)]
+mod tests {
+    use super::*;
+    use crate::tree::Node;
+
+    // The end of the tree, or the fault.
+    fn end_of(alloc: Global, bytes: &[u8]) -> Result<u64, TextFault> {
+        Ok(read_tree(alloc, bytes)?.end)
+    }
+
+    #[test]
+    fn texts_and_the_places_of_their_faults(rt: HostRuntime) {
+        let syntax = |at: u64| Err(TextFault::Syntax { at });
+        let deep = |at: u64| Err(TextFault::TooDeep { at });
+        let table: [(&[u8], Result<u64, TextFault>); 24] = [
+            (
+                b"{\"a\" : [1, -2.5e+3, \"\\u00e9\\ud83d\\ude00\", true] }",
+                Ok(49),
+            ),
+            (b" null ", Ok(5)),
+            (b"\"\xc3\xa9\"", Ok(4)),
+            (b"", syntax(0)),
+            (b"\xef\xbb\xbf1", syntax(0)),
+            (b"{\"T\":1,\"T\":2", syntax(12)),
+            (b"{\"T\":01}", syntax(6)),
+            (b"{\"T\":1}x", syntax(7)),
+            (b"[1,]", syntax(3)),
+            (b"\"ab", syntax(3)),
+            (b"-", syntax(1)),
+            (b"1.", syntax(2)),
+            (b"1e", syntax(2)),
+            (b"\"\\udc00\"", syntax(4)),
+            (b"\"\\ud800x", syntax(7)),
+            (b"\"\\ud800\"", syntax(7)),
+            (b"\"\\ud800\\u0041\"", syntax(9)),
+            (b"\"\xc0\x80\"", syntax(1)),
+            (b"\"\xed\xa0\x80\"", syntax(2)),
+            (b"[[[[[[[[[[[[[[[[", syntax(16)),
+            (b"[[[[[[[[[[[[[[[[[", deep(16)),
+            (b"{\"x\":[[[[[[[[[[[[[[[[", deep(20)),
+            (b"{\"x\":[[[[[[[[[[[[[[[", syntax(20)),
+            (b"[[[[[[[[[[[[[[[[]]]]]]]]]]]]]]]]", Ok(32)),
+        ];
+        for (bytes, want) in table {
+            assert_eq!(rt; end_of(rt.alloc(), bytes), want);
+        }
+    }
+
+    #[test]
+    fn members_keep_their_places(rt: HostRuntime) {
+        let bytes = b" { \"k\\n\" : [ \"v\", 12 ] }";
+        let Ok(Tree { at, end, node }) = read_tree(rt.alloc(), bytes) else {
+            panic!(rt; "not read")
+        };
+        assert_eq!(rt; (at, end), (1, 24));
+        let Node::Object(members) = node else {
+            panic!(rt; "no object")
+        };
+        assert_eq!(rt; members.len(), 1);
+        for member in &members {
+            assert_eq!(rt; (member.at, member.value.at, member.value.end), (3, 11, 22));
+            assert_eq!(rt; member.key.as_str(), "k\n");
+        }
+    }
+}

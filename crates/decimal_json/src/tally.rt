@@ -39,13 +39,7 @@ impl Tail {
         match self {
             Tail::Low => Tail::Low,
             Tail::High => Tail::High,
-            Tail::Zero => {
-                if digit == b'0' {
-                    Tail::Zero
-                } else {
-                    Tail::Low
-                }
-            }
+            Tail::Zero => { if digit == b'0' { Tail::Zero } else { Tail::Low } }
             Tail::Empty => match digit {
                 b'0' => Tail::Zero,
                 b'1'..=b'4' => Tail::Low,

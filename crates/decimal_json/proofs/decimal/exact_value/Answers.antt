@@ -1,8 +1,7 @@
-use Rattle.std.proofs.Common.{◌≡◌, ◌∙◌, sym, ap, arith, Some}
+use Rattle.std.proofs.Common.{◌∙◌, sym, ap, arith}
 use Rattle.std.specs.Prelude.{option_map}
 use Rattle.decimal_json.specs.Exact.{exactly, exact_parts}
 use Rattle.decimal_json.specs.Split.{parts_view}
-use Rattle.decimal_json.specs.Token.{parts_of}
 use Rattle.decimal_json.proofs.Capped.{has_digits}
 use Rattle.decimal_json.proofs.Tokens.{parts_sound}
 use Rattle.decimal_json.proofs.ExactLaws.{unrounded_is}

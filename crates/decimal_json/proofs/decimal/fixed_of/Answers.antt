@@ -1,4 +1,4 @@
-use Rattle.std.proofs.Common.{◌≡◌, ◌∙◌, sym, ap, subst, Option, Some, None, Bool, ◌<◌, ◌^◌, ℕ, List}
+use Rattle.std.proofs.Common.{◌≡◌, ◌∙◌, sym, ap, Option, Some, None, Bool, ◌<◌, ◌^◌, ℕ, List}
 use Rattle.std.specs.Prelude.{option_map, IfSome}
 use Rattle.decimal_json.specs.Exact.{fixed, fixed_parts}
 use Rattle.decimal_json.specs.Decimal.{numerator, denominator}

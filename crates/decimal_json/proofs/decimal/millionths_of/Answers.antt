@@ -1,4 +1,4 @@
-use Rattle.std.proofs.Common.{◌≡◌, ◌∙◌, sym, ap}
+use Rattle.std.proofs.Common.{◌∙◌, ap}
 use Rattle.decimal_json.specs.Exact.{millionths, exactly}
 use Rattle.decimal_json.specs.Decimal.{IsMillionthsOf}
 use Rattle.decimal_json.proofs.ExactLaws.{if_some, millionths_sound, millionths_found}

@@ -1,4 +1,4 @@
-use Rattle.std.proofs.Common.{ℕ, ◌+◌, ◌<◌, ◌≡◌, ◌++◌, arith, refl, subst, length, min, ◌^◌}
+use Rattle.std.proofs.Common.{◌+◌, ◌++◌, arith, refl, subst, length, min, ◌^◌}
 use Rattle.decimal_json.specs.Decimal.{number}
 use Rattle.decimal_json.specs.Split.{parts_view}
 use Rattle.decimal_json.specs.Tallies.{IsTally}

@@ -1,4 +1,4 @@
-use Rattle.decimal_json.proofs.Tallying.{vanish_low, vanish_high, vanish_zero}
+use Rattle.decimal_json.proofs.Tallying.{vanish_zero}
 use Rattle.decimal_json.proofs.tally.Tally.differs.Goals as goal
 
 pub returns-in_default : goal.returns-in_default

@@ -1,4 +1,4 @@
-use Rattle.std.proofs.Common.{arith, refl, ◌-◌}
+use Rattle.std.proofs.Common.{refl, ◌-◌}
 use Rattle.decimal_json.proofs.Tallying.{drop_digit}
 use Rattle.decimal_json.proofs.tally.Tally.push.Goals as goal
 
