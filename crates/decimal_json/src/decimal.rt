@@ -13,13 +13,15 @@ use crate::tree::Node;
 use fixed_num::{Fixed, TooLarge};
 
 /// The count of 10^-12 nearest to the token's value, halves away from zero, and whether it differs from that value.
+/// Time is linear in the token's length, also for an exponent of many digits; takes no memory.
 ///
 /// # Errors
 ///
 /// `TooLarge` where the rounded count is at least 10^20 in absolute value.
 pub fn fixed_of(num: &NumText) -> Result<(Fixed, bool), TooLarge>
     ensures nearest { IfOk result (λ r. IsFixedOf num.now r.0 r.1) }
-    ensures no_other { IfOk result (λ r. (count : ℤ) (differs : Bool) → IsFixedOf num.now count differs → (count ≡ r.0) × (differs ≡ r.1)) }
+    ensures no_other { IfOk result (λ r. (count : ℤ) (differs : Bool) → IsFixedOf num.now count differs →
+        (count ≡ r.0) × (differs ≡ r.1)) }
     ensures too_large { OnErr result (IsTooLarge num.now) }
     // the same as a function, which definitions cite
     ensures function { MatchResult result (λ r. fixed num.now ≡ Some (r.0, r.1)) (λ _. fixed num.now ≡ None) }
@@ -32,6 +34,7 @@ pub fn fixed_of(num: &NumText) -> Result<(Fixed, bool), TooLarge>
 }
 
 /// The value of a number, or of a text that is a number token, where it is exactly a whole number from 0 to 999,999,999.
+/// Takes no memory.
 pub fn whole_of(node: &Node) -> Option<u32>
     ensures whole { IfSome result (λ n. IsWholeOf (node_view node.now) n) }
     ensures no_other { (n : ℕ) → IsWholeOf (node_view node.now) n → result ≡ Some n }
@@ -47,7 +50,7 @@ pub fn whole_of(node: &Node) -> Option<u32>
     }
 }
 
-/// 10^6 times the token's value, where that is exactly a whole number from 0 to 10^6.
+/// 10^6 times the token's value, where that is exactly a whole number from 0 to 10^6. Takes no memory.
 pub fn millionths_of(num: &NumText) -> Option<u32>
     ensures millionths { IfSome result (λ n. IsMillionthsOf num.now n) }
     ensures no_other { (n : ℕ) → IsMillionthsOf num.now n → result ≡ Some n }
@@ -59,7 +62,9 @@ pub fn millionths_of(num: &NumText) -> Option<u32>
 /// A rounded size with its sign, as a count.
 fn counted(negative: bool, nearest: Rounded) -> Result<(Fixed, bool), TooLarge>
     requires { IfSome nearest.size (λ size. size < 10 ^ 20) }
-    ensures { MatchResult result (λ r. Some (r.0, r.1) ≡ counted_size negative nearest.size nearest.differs) (λ _. None ≡ counted_size negative nearest.size nearest.differs) }
+    ensures { MatchResult result
+        (λ r. Some (r.0, r.1) ≡ counted_size negative nearest.size nearest.differs)
+        (λ _. None ≡ counted_size negative nearest.size nearest.differs) }
 {
     match nearest.size {
         Some(size) => Ok((
@@ -118,7 +123,7 @@ mod tests {
     use crate::read::read_tree;
     use std::alloc::Global;
 
-    // What is read of a number token; `None` where it is too large, or the bytes are no number token.
+    /// What is read of a number token; `None` where it is too large, or the bytes are no number token.
     fn counted(alloc: Global, token: &[u8]) -> Result<Option<(i128, bool)>, TextFault> {
         let Node::Num(num) = read_tree(alloc, token)?.node else {
             return Ok(None);

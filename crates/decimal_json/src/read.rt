@@ -30,9 +30,35 @@ fn advance(
 ) -> Result<bool, AllocError>
     requires sound { IsSound k machine.old }
     requires room { k < 2 ^ 63 }
-    requires told { (t : State) (es : List Event) → step k (state_of machine.old).levels (state_of machine.old).mode byte ≡ Some (t, es) → AreSound es }
+    requires told { (t : State) (es : List Event) →
+        step k (state_of machine.old).levels (state_of machine.old).mode byte ≡ Some (t, es) →
+        AreSound es }
     ensures sound { OnOk result (IsSound (k + 1) machine.new) }
-    ensures moves { IfOk result (λ taken. Advances taken k (state_of machine.old) byte (state_of machine.new) (built_of builder.old) (built_of builder.new)) }
+    ensures moves { IfOk result
+        (λ taken. Advances taken k (state_of machine.old) byte (state_of machine.new) (built_of builder.old) (built_of builder.new)) }
+{
+    if machine.quiet_step(k, byte)? {
+        return Ok(true);
+    }
+    advance_aloud(alloc, machine, builder, k, byte)
+}
+
+/// The same for a byte at which something may be told.
+fn advance_aloud(
+    alloc: Global,
+    machine: &mut Machine,
+    builder: &mut Builder,
+    k: u64,
+    byte: u8,
+) -> Result<bool, AllocError>
+    requires sound { IsSound k machine.old }
+    requires room { k < 2 ^ 63 }
+    requires told { (t : State) (es : List Event) →
+        step k (state_of machine.old).levels (state_of machine.old).mode byte ≡ Some (t, es) →
+        AreSound es }
+    ensures sound { OnOk result (IsSound (k + 1) machine.new) }
+    ensures moves { IfOk result
+        (λ taken. Advances taken k (state_of machine.old) byte (state_of machine.new) (built_of builder.old) (built_of builder.new)) }
 {
     match machine.step(alloc, k, byte)? {
         Answer::Refused => return Ok(false),
@@ -59,7 +85,8 @@ pub fn read_tree(alloc: Global, bytes: &[u8]) -> Result<Tree, TextFault>
     ensures no_other { IfOk result (λ t. (tree : json.Tree) → IsText bytes.now tree → tree ≡ tree_view t) }
     ensures shallow { IfOk result (λ t. first_past 16 (tree_view t) ≡ None) }
     // every text nested at most 16 deep is read
-    ensures only { (tree : json.Tree) → IsText bytes.now tree → first_past 16 tree ≡ None → MatchResult result (λ t. tree_view t ≡ tree) (λ fault. fault ≡ TextFault.Memory) }
+    ensures only { (tree : json.Tree) → IsText bytes.now tree → first_past 16 tree ≡ None → MatchResult result
+        (λ t. tree_view t ≡ tree) (λ fault. fault ≡ TextFault.Memory) }
     ensures syntax { (at : ℕ) → result ≡ Err (TextFault.Syntax at) → IsSyntaxFault bytes.now at }
     // no level is too deep before the place of the fault
     ensures first { (at : ℕ) → result ≡ Err (TextFault.Syntax at) → IsShallow bytes.now at }
@@ -98,8 +125,10 @@ fn conclude(
     requires ends { IsTrue (is_some (ending (state_of machine).levels (state_of machine).mode)) }
     requires sound { IsSound k machine }
     requires room { k < 2 ^ 63 }
-    requires told { (es : List Event) → ending (state_of machine).levels (state_of machine).mode ≡ Some es → AreSound es }
-    ensures { IfOk result (λ t. Concludes (state_of machine) (built_of builder) (option_map tree_view t)) }
+    requires told { (es : List Event) → ending (state_of machine).levels (state_of machine).mode ≡ Some es →
+        AreSound es }
+    ensures { IfOk result
+        (λ t. Concludes (state_of machine) (built_of builder) (option_map tree_view t)) }
 {
     if let Some(event) = machine.finish(alloc)? {
         builder.feed(alloc, event)?;
@@ -112,7 +141,7 @@ mod tests {
     use super::*;
     use crate::tree::Node;
 
-    // The end of the tree, or the fault.
+    /// The end of the tree, or the fault.
     fn end_of(alloc: Global, bytes: &[u8]) -> Result<u64, TextFault> {
         Ok(read_tree(alloc, bytes)?.end)
     }

@@ -62,7 +62,8 @@ impl Tally {
 
     fn push(&mut self, digit: u8)
         requires { IsDigit digit }
-        ensures { (keep n count : ℕ) → IsTally self.old keep n count → IsTally self.new keep (n * 10 + (digit - 48)) (count + 1) }
+        ensures { (keep n count : ℕ) → IsTally self.old keep n count →
+            IsTally self.new keep (n * 10 + (digit - 48)) (count + 1) }
     {
         if self.left == 0 {
             self.tail = self.tail.push(digit);
@@ -74,7 +75,8 @@ impl Tally {
 
     fn push_all(&mut self, digits: &[u8])
         requires { AreAllDigits digits.now }
-        ensures { (keep n count : ℕ) → IsTally self.old keep n count → IsTally self.new keep (number_from n digits.now) (count + length digits.now) }
+        ensures { (keep n count : ℕ) → IsTally self.old keep n count →
+            IsTally self.new keep (number_from n digits.now) (count + length digits.now) }
     {
         for digit in digits {
             self.push(*digit);
@@ -95,14 +97,16 @@ impl Tally {
 
     /// Whether a dropped digit isn't 0.
     pub(crate) fn differs(self) -> bool
-        ensures { (keep n count : ℕ) → IsTally self keep n count → keep ≡ 0 → n < 10 ^ count → result ≡ nat_lt 0 n }
+        ensures { (keep n count : ℕ) → IsTally self keep n count → keep ≡ 0 → n < 10 ^ count → result
+            ≡ nat_lt 0 n }
     {
         matches!(self.tail, Tail::Low | Tail::High)
     }
 
     /// The number of the digits that are kept, rounded by the dropped ones, with zeros for those that are missing.
     pub(crate) fn rounded(self) -> Rounded
-        ensures { (keep n count p q : ℕ) → keep + q ≡ count + p → IsTally self keep n count → Rounds (n * 10 ^ p) (10 ^ q) result.size result.differs }
+        ensures { (keep n count p q : ℕ) → keep + q ≡ count + p → IsTally self keep n count →
+            Rounds (n * 10 ^ p) (10 ^ q) result.size result.differs }
     {
         match self.tail {
             Tail::Empty | Tail::Zero => Rounded {
