@@ -139,7 +139,8 @@ fn conclude(
 #[cfg(test)]
 mod tests {
     use super::*;
-    use crate::tree::Node;
+    use crate::text::Text;
+    use crate::tree::{Member, Node};
 
     /// The end of the tree, or the fault.
     fn end_of(alloc: Global, bytes: &[u8]) -> Result<u64, TextFault> {
@@ -195,9 +196,10 @@ mod tests {
             panic!(rt; "no object")
         };
         assert_eq!(rt; members.len(), 1);
-        for member in &members {
-            assert_eq!(rt; (member.at, member.value.at, member.value.end), (3, 11, 22));
-            assert_eq!(rt; member.key.as_str(), "k\n");
+        for Member { at, key, value } in members {
+            assert_eq!(rt; (at, value.at, value.end), (3, 11, 22));
+            let key = Text::of_string(key.into_string());
+            assert_eq!(rt; key.as_str(), "k\n");
         }
     }
 }
