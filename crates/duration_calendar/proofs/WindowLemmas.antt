@@ -1,5 +1,5 @@
 -- What a window holds.
-use Rattle.std.proofs.Common.{◌≡◌, ℕ, ◌+◌, ◌<◌, ◌≤◌, refl, arith, Bool, true}
+use Rattle.std.proofs.Common.{◌≡◌, ℕ, ◌+◌, ◌<◌, ◌≤◌, refl, arith, true}
 use Rattle.std.proofs.lemmas.Bool.Decides.{nat_tests}
 use Rattle.instance_model.specs.Tables.{Tables, delta_of, in_run}
 use Rattle.duration_calendar.specs.declared.window.Window.{Window}

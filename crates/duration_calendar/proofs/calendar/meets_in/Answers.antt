@@ -1,4 +1,4 @@
-use Rattle.std.proofs.Common.{◌≤◌, ◌<◌, arith, sym, ◌∙◌}
+use Rattle.std.proofs.Common.{arith, sym, ◌∙◌}
 use Rattle.duration_calendar.proofs.WindowLemmas.{in_window_facts, in_window_from, in_horizon}
 use Rattle.duration_calendar.proofs.calendar.meets_in.Goals as goal
 
