@@ -1,0 +1,146 @@
+-- What a line gives is found by its runs: a name, blanks, digits, blanks.
+use Rattle.std.proofs.Common.{◌≡◌, ◌≢◌, ◌⊎◌, inl, inr, ℕ, ◌+◌, ◌-◌, ◌*◌, ◌^◌, ◌<◌, ◌≤◌, List, [], ◌∷◌, ◌++◌, length, take, get_or, slice_index, refl, sym, ◌∙◌, ap, subst, arith, rules}
+use Rattle.std.specs.List.{All}
+use Rattle.std.specs.Char.{digit_value}
+use Rattle.std.specs.Str.Parse.{AllDigits, IsNumeral, digits_value}
+use Rattle.std.proofs.lemmas.Bool.Decides.{nat_tests}
+use Rattle.std.proofs.lemmas.Int.Digits.{digits_value-lt, digits_value_more}
+use Rattle.std.proofs.lemmas.List.{append_assoc, length-take-le, length-append}
+use Rattle.std.proofs.Math.Nat.{pow-le-pow_right}
+use Rattle.std.proofs.lemmas.List.Elements.{All-nil, All-cons, All-head, All-tail, All-take}
+use Rattle.plan_text.specs.Spelling.{AreBlanks, Gives}
+use Rattle.plan_text.specs.Runs.{IsSplit, EndsInStart}
+use Rattle.plan_text.proofs.RunLemmas.{split_once, same_runs}
+
+-- a decimal digit is a byte from 48 to 57
+pub record IsDigit (b : ℕ) : Type 0 where
+  pub from : 48 ≤ b
+  pub to : b ≤ 57
+  pub value : digit_value b ≡ b - 48
+
+pub digit_bytes : (b : ℕ) → digit_value b < 10 → IsDigit b
+digit_bytes b h = record {
+  from = grind (arith, nat_tests);
+  to = grind (arith, nat_tests);
+  value = grind (arith, nat_tests);
+}
+
+-- each byte is a digit, said of the list and by recursion
+pub digits-each : (ds : List ℕ) → AllDigits 10 ds → All (λ b. digit_value b < 10) ds
+digits-each [] h = All-nil (λ b. digit_value b < 10)
+digits-each (b ∷ bs) h = All-cons (λ b. digit_value b < 10) b bs h.0 (digits-each bs h.1)
+
+pub each-digits : (ds : List ℕ) → All (λ b. digit_value b < 10) ds → AllDigits 10 ds
+each-digits [] h = search rules
+each-digits (b ∷ bs) h = (All-head (λ b. digit_value b < 10) b bs h, each-digits bs (All-tail (λ b. digit_value b < 10) b bs h))
+
+-- up to 9 digits write a number below 10 ^ 9
+pub digits_value-small : (ds : List ℕ) → AllDigits 10 ds → length ds ≤ 9 → digits_value 10 ds < 10 ^ 9
+digits_value-small ds h l =
+    let below : digits_value 10 ds < 10 ^ length ds = digits_value-lt 10 ds h in
+    let most : 10 ^ length ds ≤ 10 ^ 9 = pow-le-pow_right {n = 10} (omega arith) l in
+    omega (arith, below, most)
+
+-- the number that the digits up to the next one write
+pub record NextValue (ds : List ℕ) (i value : ℕ) : Type 0 where
+  pub from : 48 ≤ get_or ds i 0
+  pub is : digits_value 10 (take (i + 1) ds) ≡ value * 10 + (get_or ds i 0 - 48)
+  pub small : value * 10 + (get_or ds i 0 - 48) < 10 ^ 9
+
+pub next_value : (ds : List ℕ) (i value : ℕ) → i < length ds → length ds ≤ 9 → AllDigits 10 ds → value ≡ digits_value 10 (take i ds) → NextValue ds i value
+next_value ds i value l few h e =
+    let digit : IsDigit (get_or ds i 0) = digit_bytes (get_or ds i 0) (digits-each ds h i 0 l) in
+    let is : digits_value 10 (take (i + 1) ds) ≡ value * 10 + (get_or ds i 0 - 48) = omega (arith, digits_value_more 10 ds i l, digit.value, e) in
+    let front : AllDigits 10 (take (i + 1) ds) = each-digits (take (i + 1) ds) (All-take (λ b. digit_value b < 10) (i + 1) ds (digits-each ds h)) in
+    let short : length (take (i + 1) ds) ≤ 9 = omega (arith, length-take-le (i + 1) ds (omega arith)) in
+    record { from = digit.from; is = is; small = subst (λ n. n < 10 ^ 9) is (digits_value-small (take (i + 1) ds) front short) }
+
+-- a blank is no digit
+blank_not_digit : (b : ℕ) → digit_value b < 10 → b ≡ 32 → ⊥
+blank_not_digit b h e = let d : IsDigit b = digit_bytes b h in omega (arith, d.from, e)
+
+-- a text that ends in a start is cut after its digits
+pub cut_start : (text digits rest : List ℕ) (start : ℕ) → IsSplit (λ b. digit_value b < 10) text digits rest → (t : EndsInStart text start) → (digits ≡ t.digits) × (rest ≡ t.rest)
+cut_start text digits rest start s t =
+    split_once (λ b. digit_value b < 10) text digits rest t.digits t.rest s t.spelled (digits-each t.digits t.numeral.1) (λ some h. blank_not_digit (slice_index t.rest 0) h (t.rest_blank 0 0 some))
+
+-- a cut text ends in a start, where its digits are 1 to 9 and its rest is blank
+pub joined_start : (text digits rest : List ℕ) (start : ℕ) → IsSplit (λ b. digit_value b < 10) text digits rest → 0 < length digits → length digits ≤ 9 → AreBlanks rest → start ≡ digits_value 10 digits → EndsInStart text start
+joined_start text digits rest start s some few blank e = record {
+  digits = digits;
+  rest = rest;
+  spelled = s.joined;
+  numeral = (some, each-digits digits s.front_all);
+  few_digits = few;
+  value = sym e;
+  rest_blank = blank;
+}
+
+-- a line that gives a name a start is the name, blanks, and a text that ends in the start
+pub record GiveCut (line name start_text : List ℕ) (start : ℕ) : Type 0 where
+  pub gap : List ℕ
+  pub spelled : line ≡ name ++ (gap ++ start_text)
+  pub ends : EndsInStart start_text start
+
+pub give_cut : (line name : List ℕ) (start : ℕ) → (g : Gives line name start) → GiveCut line name (g.digits ++ g.rest) start
+give_cut line name start g = record {
+  gap = g.gap;
+  spelled = g.spelled ∙ append_assoc (name ++ g.gap) g.digits g.rest ∙ append_assoc name g.gap (g.digits ++ g.rest);
+  ends = record { digits = g.digits; rest = g.rest; spelled = refl; numeral = g.numeral; few_digits = g.few_digits; value = g.value; rest_blank = g.rest_blank };
+}
+
+-- a front with an element shows it first
+first_of_front : (a b : List ℕ) → 0 < length a → slice_index (a ++ b) 0 ≡ slice_index a 0
+first_of_front [] b l = absurd (omega (arith, l))
+first_of_front (x ∷ a) b l = refl
+
+-- a line that gives a name a start is cut into the name, blanks and the start
+pub cut_line : (line name rest gap text name' : List ℕ) (start : ℕ) → IsSplit (λ b. b ≢ 32) line name rest → IsSplit (λ b. b ≡ 32) rest gap text → Gives line name' start → (name ≡ name') × EndsInStart text start
+unfolding give_cut
+cut_line line name rest gap text name' start s t g =
+    let cut = give_cut line name' start g in
+    let start_text : List ℕ = g.digits ++ g.rest in
+    let gap_head : slice_index (g.gap ++ start_text) 0 ≡ 32 = first_of_front g.gap start_text g.some_gap ∙ g.gap_blank 0 0 g.some_gap in
+    let outer = split_once (λ b. b ≢ 32) line name rest name' (g.gap ++ start_text) s cut.spelled g.unbroken (λ some ne. ne gap_head) in
+    let digit : digit_value (slice_index start_text 0) < 10 = subst (λ b. digit_value b < 10) (sym (first_of_front g.digits g.rest g.numeral.0)) (digits-each g.digits g.numeral.1 0 0 g.numeral.0) in
+    let inner = split_once (λ b. b ≡ 32) rest gap text g.gap start_text t outer.1 g.gap_blank (λ some e. blank_not_digit (slice_index start_text 0) digit e) in
+    (outer.0, subst (λ xs. EndsInStart xs start) (sym inner.1) cut.ends)
+
+-- the blanks before a start are some, where they follow a name
+some_gap : (rest gap text : List ℕ) (start : ℕ) → rest ≡ gap ++ text → EndsInStart text start → (0 < length rest → slice_index rest 0 ≢ 32 → ⊥) → 0 < length gap
+some_gap rest [] text start e t ends =
+    let digit : digit_value (slice_index text 0) < 10 = subst (λ b. digit_value b < 10) (sym (ap (λ xs. slice_index xs 0) t.spelled ∙ first_of_front t.digits t.rest t.numeral.0)) (digits-each t.digits t.numeral.1 0 0 t.numeral.0) in
+    let long : 0 < length rest = omega (arith, ap length (e ∙ t.spelled), length-append t.digits t.rest, t.numeral.0) in
+    absurd (ends long (λ blank. blank_not_digit (slice_index text 0) digit (sym (ap (λ xs. slice_index xs 0) e) ∙ blank)))
+some_gap rest (b ∷ gap) text start e t ends = omega arith
+
+-- a line that is cut into a name, blanks and a start gives it
+pub joined_line : (line name rest gap text : List ℕ) (start : ℕ) → IsSplit (λ b. b ≢ 32) line name rest → IsSplit (λ b. b ≡ 32) rest gap text → 0 < length name → EndsInStart text start → Gives line name start
+joined_line line name rest gap text start s t some e = record {
+  gap = gap;
+  digits = e.digits;
+  rest = e.rest;
+  spelled = s.joined ∙ ap (λ xs. name ++ xs) (t.joined ∙ ap (λ xs. gap ++ xs) e.spelled) ∙ sym (append_assoc name gap (e.digits ++ e.rest)) ∙ sym (append_assoc (name ++ gap) e.digits e.rest);
+  some_name = some;
+  unbroken = s.front_all;
+  some_gap = some_gap rest gap text start t.joined e s.ends;
+  gap_blank = t.front_all;
+  numeral = e.numeral;
+  few_digits = e.few_digits;
+  value = e.value;
+  rest_blank = e.rest_blank;
+}
+
+-- no start ends a text that is cut after too few digits or too many, or before a rest that is not blank
+pub no_start : (text digits rest : List ℕ) → IsSplit (λ b. digit_value b < 10) text digits rest → (length digits ≡ 0) ⊎ ((9 < length digits) ⊎ (AreBlanks rest → ⊥)) → (start : ℕ) → EndsInStart text start → ⊥
+no_start text digits rest s (inl none) start t = let cut = cut_start text digits rest start s t in omega (arith, ap length cut.0, t.numeral.0)
+no_start text digits rest s (inr (inl many)) start t = let cut = cut_start text digits rest start s t in omega (arith, ap length cut.0, t.few_digits)
+no_start text digits rest s (inr (inr broken)) start t = let cut = cut_start text digits rest start s t in broken (subst AreBlanks (sym cut.1) t.rest_blank)
+
+-- no line gives a name where its name is empty
+pub no_name : (line name rest : List ℕ) → IsSplit (λ b. b ≢ 32) line name rest → length name ≡ 0 → (other : List ℕ) (start : ℕ) → Gives line other start → ⊥
+unfolding give_cut
+no_name line name rest s none other start g =
+    let cut = give_cut line other start g in
+    let outer = split_once (λ b. b ≢ 32) line name rest other (g.gap ++ (g.digits ++ g.rest)) s cut.spelled g.unbroken (λ some ne. ne (first_of_front g.gap (g.digits ++ g.rest) g.some_gap ∙ g.gap_blank 0 0 g.some_gap)) in
+    omega (arith, ap length outer.0, g.some_name)
