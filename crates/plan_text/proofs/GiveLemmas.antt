@@ -56,7 +56,7 @@ next_value ds i value l few h e =
     record { from = digit.from; is = is; small = subst (λ n. n < 10 ^ 9) is (digits_value-small (take (i + 1) ds) front short) }
 
 -- a blank is no digit
-blank_not_digit : (b : ℕ) → digit_value b < 10 → b ≡ 32 → ⊥
+pub blank_not_digit : (b : ℕ) → digit_value b < 10 → b ≡ 32 → ⊥
 blank_not_digit b h e = let d : IsDigit b = digit_bytes b h in omega (arith, d.from, e)
 
 -- a text that ends in a start is cut after its digits
@@ -90,9 +90,16 @@ give_cut line name start g = record {
 }
 
 -- a front with an element shows it first
-first_of_front : (a b : List ℕ) → 0 < length a → slice_index (a ++ b) 0 ≡ slice_index a 0
+pub first_of_front : (a b : List ℕ) → 0 < length a → slice_index (a ++ b) 0 ≡ slice_index a 0
 first_of_front [] b l = absurd (omega (arith, l))
 first_of_front (x ∷ a) b l = refl
+
+-- a digit begins a start, and a blank a gap
+pub digit_head : (digits rest : List ℕ) → IsNumeral 10 digits → digit_value (slice_index (digits ++ rest) 0) < 10
+digit_head digits rest n = subst (λ b. digit_value b < 10) (sym (first_of_front digits rest n.0)) (digits-each digits n.1 0 0 n.0)
+
+pub gap_head : (gap text : List ℕ) → 0 < length gap → AreBlanks gap → slice_index (gap ++ text) 0 ≡ 32
+gap_head gap text some blank = first_of_front gap text some ∙ blank 0 0 some
 
 -- a line that gives a name a start is cut into the name, blanks and the start
 pub cut_line : (line name rest gap text name' : List ℕ) (start : ℕ) → IsSplit (λ b. b ≢ 32) line name rest → IsSplit (λ b. b ≡ 32) rest gap text → Gives line name' start → (name ≡ name') × EndsInStart text start
@@ -100,16 +107,14 @@ unfolding give_cut
 cut_line line name rest gap text name' start s t g =
     let cut = give_cut line name' start g in
     let start_text : List ℕ = g.digits ++ g.rest in
-    let gap_head : slice_index (g.gap ++ start_text) 0 ≡ 32 = first_of_front g.gap start_text g.some_gap ∙ g.gap_blank 0 0 g.some_gap in
-    let outer = split_once (λ b. b ≢ 32) line name rest name' (g.gap ++ start_text) s cut.spelled g.unbroken (λ some ne. ne gap_head) in
-    let digit : digit_value (slice_index start_text 0) < 10 = subst (λ b. digit_value b < 10) (sym (first_of_front g.digits g.rest g.numeral.0)) (digits-each g.digits g.numeral.1 0 0 g.numeral.0) in
-    let inner = split_once (λ b. b ≡ 32) rest gap text g.gap start_text t outer.1 g.gap_blank (λ some e. blank_not_digit (slice_index start_text 0) digit e) in
+    let outer = split_once (λ b. b ≢ 32) line name rest name' (g.gap ++ start_text) s cut.spelled g.unbroken (λ some ne. ne (gap_head g.gap start_text g.some_gap g.gap_blank)) in
+    let inner = split_once (λ b. b ≡ 32) rest gap text g.gap start_text t outer.1 g.gap_blank (λ some e. blank_not_digit (slice_index start_text 0) (digit_head g.digits g.rest g.numeral) e) in
     (outer.0, subst (λ xs. EndsInStart xs start) (sym inner.1) cut.ends)
 
 -- the blanks before a start are some, where they follow a name
 some_gap : (rest gap text : List ℕ) (start : ℕ) → rest ≡ gap ++ text → EndsInStart text start → (0 < length rest → slice_index rest 0 ≢ 32 → ⊥) → 0 < length gap
 some_gap rest [] text start e t ends =
-    let digit : digit_value (slice_index text 0) < 10 = subst (λ b. digit_value b < 10) (sym (ap (λ xs. slice_index xs 0) t.spelled ∙ first_of_front t.digits t.rest t.numeral.0)) (digits-each t.digits t.numeral.1 0 0 t.numeral.0) in
+    let digit : digit_value (slice_index text 0) < 10 = subst (λ b. digit_value b < 10) (sym (ap (λ xs. slice_index xs 0) t.spelled)) (digit_head t.digits t.rest t.numeral) in
     let long : 0 < length rest = omega (arith, ap length (e ∙ t.spelled), length-append t.digits t.rest, t.numeral.0) in
     absurd (ends long (λ blank. blank_not_digit (slice_index text 0) digit (sym (ap (λ xs. slice_index xs 0) e) ∙ blank)))
 some_gap rest (b ∷ gap) text start e t ends = omega arith
@@ -142,5 +147,5 @@ pub no_name : (line name rest : List ℕ) → IsSplit (λ b. b ≢ 32) line name
 unfolding give_cut
 no_name line name rest s none other start g =
     let cut = give_cut line other start g in
-    let outer = split_once (λ b. b ≢ 32) line name rest other (g.gap ++ (g.digits ++ g.rest)) s cut.spelled g.unbroken (λ some ne. ne (first_of_front g.gap (g.digits ++ g.rest) g.some_gap ∙ g.gap_blank 0 0 g.some_gap)) in
+    let outer = split_once (λ b. b ≢ 32) line name rest other (g.gap ++ (g.digits ++ g.rest)) s cut.spelled g.unbroken (λ some ne. ne (gap_head g.gap (g.digits ++ g.rest) g.some_gap g.gap_blank)) in
     omega (arith, ap length outer.0, g.some_name)

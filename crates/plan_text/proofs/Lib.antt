@@ -1,3 +1,5 @@
 pub mod LineLemmas
 pub mod RunLemmas
 pub mod GiveLemmas
+pub mod AnyLemmas
+pub mod LawLemmas

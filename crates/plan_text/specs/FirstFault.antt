@@ -1,6 +1,6 @@
 -- Which fault a text has that spells no plan: that of its first line with one. Lines count from 1, and blank lines
 -- count too.
-use Rattle.std.specs.Prelude.{◌≡◌, ◌⊎◌, ℕ, ◌+◌, ◌-◌, ◌<◌, ◌≤◌, List, [], length, take, Any, Contains, slice_index_or}
+use Rattle.std.specs.Prelude.{◌≡◌, ◌⊎◌, ℕ, ◌+◌, ◌-◌, ◌<◌, ◌≤◌, List, [], length, take, Any, Contains, slice_index_or, Result, Err}
 use Rattle.plan_text.specs.declared.fault.PlanFault.{PlanFault}
 use Rattle.plan_text.specs.declared.fault.PlanFault.TheVariants.{BadLine, UnknownName, Twice, Memory}
 use Rattle.plan_text.specs.Spelling.{lines_of, AreBlanks, Gives, Names}
@@ -55,3 +55,7 @@ HasPlanFault names text (BadLine n) = IsFirstAt names (lines_of text) n (λ earl
 HasPlanFault names text (UnknownName n) = IsFirstAt names (lines_of text) n (λ earlier line. HasUnknownName names line)
 HasPlanFault names text (Twice n) = IsFirstAt names (lines_of text) n (λ earlier line. IsRepeated names earlier line)
 HasPlanFault names text Memory = ⊥
+
+-- the answer, or that memory ran out
+abbrev pub Answers : {T : Type 0} → Result T PlanFault → Result T PlanFault → Type 0
+Answers result answer = (result ≡ answer) ⊎ (result ≡ Err Memory)

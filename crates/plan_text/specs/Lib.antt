@@ -1,3 +1,5 @@
 pub mod Spelling
 pub mod FirstFault
 pub mod Runs
+pub mod Steps
+pub mod Written

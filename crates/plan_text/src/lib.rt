@@ -5,9 +5,15 @@
 #![tactic(auto)]
 
 mod fault;
+mod laws;
 mod line;
 mod plan;
+mod read;
 mod split;
+mod write;
 
 pub use fault::PlanFault;
+pub use laws::{texts_read_one_way, written_plans_read_back};
 pub use plan::Plan;
+pub use read::read_plan;
+pub use write::write_plan;
