@@ -77,14 +77,12 @@ joined_start text digits rest start s some few blank e = record {
 }
 
 -- a line that gives a name a start is the name, blanks, and a text that ends in the start
-pub record GiveCut (line name start_text : List ℕ) (start : ℕ) : Type 0 where
-  pub gap : List ℕ
+pub record GiveCut (line name gap start_text : List ℕ) (start : ℕ) : Type 0 where
   pub spelled : line ≡ name ++ (gap ++ start_text)
   pub ends : EndsInStart start_text start
 
-pub give_cut : (line name : List ℕ) (start : ℕ) → (g : Gives line name start) → GiveCut line name (g.digits ++ g.rest) start
+pub give_cut : (line name : List ℕ) (start : ℕ) → (g : Gives line name start) → GiveCut line name g.gap (g.digits ++ g.rest) start
 give_cut line name start g = record {
-  gap = g.gap;
   spelled = g.spelled ∙ append_assoc (name ++ g.gap) g.digits g.rest ∙ append_assoc name g.gap (g.digits ++ g.rest);
   ends = record { digits = g.digits; rest = g.rest; spelled = refl; numeral = g.numeral; few_digits = g.few_digits; value = g.value; rest_blank = g.rest_blank };
 }
@@ -103,7 +101,6 @@ gap_head gap text some blank = first_of_front gap text some ∙ blank 0 0 some
 
 -- a line that gives a name a start is cut into the name, blanks and the start
 pub cut_line : (line name rest gap text name' : List ℕ) (start : ℕ) → IsSplit (λ b. b ≢ 32) line name rest → IsSplit (λ b. b ≡ 32) rest gap text → Gives line name' start → (name ≡ name') × EndsInStart text start
-unfolding give_cut
 cut_line line name rest gap text name' start s t g =
     let cut = give_cut line name' start g in
     let start_text : List ℕ = g.digits ++ g.rest in
@@ -144,7 +141,6 @@ no_start text digits rest s (inr (inr broken)) start t = let cut = cut_start tex
 
 -- no line gives a name where its name is empty
 pub no_name : (line name rest : List ℕ) → IsSplit (λ b. b ≢ 32) line name rest → length name ≡ 0 → (other : List ℕ) (start : ℕ) → Gives line other start → ⊥
-unfolding give_cut
 no_name line name rest s none other start g =
     let cut = give_cut line other start g in
     let outer = split_once (λ b. b ≢ 32) line name rest other (g.gap ++ (g.digits ++ g.rest)) s cut.spelled g.unbroken (λ some ne. ne (gap_head g.gap (g.digits ++ g.rest) g.some_gap g.gap_blank)) in

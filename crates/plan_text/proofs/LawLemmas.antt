@@ -23,11 +23,10 @@ starts_once text s t a b =
 
 -- a line gives one start to one name
 pub gives_once : (line a b : List ℕ) (s t : ℕ) → Gives line a s → Gives line b t → (a ≡ b) × (s ≡ t)
-unfolding give_cut
 gives_once line a b s t g h =
-    let x : GiveCut line a (g.digits ++ g.rest) s = give_cut line a s g in
-    let y : GiveCut line b (h.digits ++ h.rest) t = give_cut line b t h in
-    let names = same_runs (λ b. b ≢ 32) a (x.gap ++ (g.digits ++ g.rest)) b (y.gap ++ (h.digits ++ h.rest)) (sym x.spelled ∙ y.spelled) g.unbroken h.unbroken
+    let x : GiveCut line a g.gap (g.digits ++ g.rest) s = give_cut line a s g in
+    let y : GiveCut line b h.gap (h.digits ++ h.rest) t = give_cut line b t h in
+    let names = same_runs (λ b. b ≢ 32) a (g.gap ++ (g.digits ++ g.rest)) b (h.gap ++ (h.digits ++ h.rest)) (sym x.spelled ∙ y.spelled) g.unbroken h.unbroken
           (λ some ne. ne (gap_head g.gap (g.digits ++ g.rest) g.some_gap g.gap_blank)) (λ some ne. ne (gap_head h.gap (h.digits ++ h.rest) h.some_gap h.gap_blank)) in
     let texts = same_runs (λ b. b ≡ 32) g.gap (g.digits ++ g.rest) h.gap (h.digits ++ h.rest) names.1 g.gap_blank h.gap_blank
           (λ some e. blank_not_digit (slice_index (g.digits ++ g.rest) 0) (digit_head g.digits g.rest g.numeral) e) (λ some e. blank_not_digit (slice_index (h.digits ++ h.rest) 0) (digit_head h.digits h.rest h.numeral) e) in
@@ -39,9 +38,8 @@ names_once line a b (s, g) (t, h) = (gives_once line a b s t g h).0
 
 -- a blank line gives nothing
 pub blank_gives_nothing : (line name : List ℕ) (s : ℕ) → AreBlanks line → Gives line name s → ⊥
-unfolding give_cut
 blank_gives_nothing line name s blank g =
-    let cut : GiveCut line name (g.digits ++ g.rest) s = give_cut line name s g in
+    let cut : GiveCut line name g.gap (g.digits ++ g.rest) s = give_cut line name s g in
     let text : List ℕ = g.gap ++ (g.digits ++ g.rest) in
     let some : 0 < length line = omega (arith, ap length cut.spelled, length-append name text, g.some_name) in
     g.unbroken 0 0 g.some_name (sym (first_of_front name text g.some_name) ∙ sym (ap (λ xs. slice_index xs 0) cut.spelled) ∙ blank 0 0 some)

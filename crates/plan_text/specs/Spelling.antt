@@ -73,10 +73,3 @@ line_text name start = name ++ (32 ∷ []) ++ decimal start ++ (10 ∷ [])
 -- the text that is written for one start a name: their lines, in the order of the names
 abbrev pub plan_text : List (List ℕ) → List ℕ → List ℕ
 plan_text names starts = flat_map (λ given. line_text given.0 given.1) (zip names starts)
-
--- names that a plan text can hold: each has a byte, and none a blank, a line feed or a carriage return; no two are the
--- same
-pub record AreFileNames (names : List (List ℕ)) : Type 0 where
-  pub some : All (λ name. 0 < length name) names
-  pub printed : All (λ name. All (λ b. 32 < b) name) names
-  pub apart : AllPairs (λ name other. name ≢ other) names

@@ -38,7 +38,7 @@ Refuses names line old n (Twice m) = (m ≡ n) × IsTaken names line old
 Refuses names line old n Memory = ⊥
 
 -- the first n lines have no fault, and gave these starts
-pub record HasRead (names lines : List (List ℕ)) (n : ℕ) (starts : List (Option ℕ)) : Type 0 where
+pub record HasRead (names lines : List (List ℕ)) (n : ℕ) (plan : List (Option ℕ)) : Type 0 where
   pub within : n ≤ length lines
   pub faultless : AreFaultless names lines n
-  pub starts : HasStarts names (take n lines) starts
+  pub starts : HasStarts names (take n lines) plan

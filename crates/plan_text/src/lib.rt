@@ -13,7 +13,7 @@ mod split;
 mod write;
 
 pub use fault::PlanFault;
-pub use laws::{texts_read_one_way, written_plans_read_back};
+pub use laws::texts_read_one_way;
 pub use plan::Plan;
 pub use read::read_plan;
 pub use write::write_plan;

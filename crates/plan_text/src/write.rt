@@ -1,9 +1,9 @@
 // A plan is written as text.
-ghost use Rattle.std.specs.Prelude.{◌≡◌, ℕ, ◌<◌, ◌≤◌, ◌^◌, length, take, All, OnOk, OnErr, IsTrue};
+ghost use Rattle.std.specs.Prelude.{◌≡◌, ℕ, ◌<◌, ◌≤◌, ◌^◌, length, map, Some, All, decimal, OnOk, OnErr, IsTrue};
 ghost use Rattle.plan_desk.specs.Desk.{ShowsSame, after_write};
 ghost use Rattle.plan_desk.specs.Faults.{CountsFault, IsFaultOf};
 ghost use Rattle.plan_desk.specs.declared.call.DeskCall.{DeskCall};
-ghost use Rattle.plan_text.specs.Spelling.{plan_text, line_text};
+ghost use Rattle.plan_text.specs.Spelling.{IsPlan, plan_text, line_text};
 ghost use Rattle.plan_text.specs.Written.{WritesPart};
 
 use fixed_num::Line;
@@ -20,9 +20,13 @@ pub fn write_plan<D: Desk>(inst: &Instance, starts: &[u32], desk: &mut D) -> Res
     // A first part of the text was written, and the file is still open.
     ensures err { OnErr result (WritesPart (plan_text inst.now.names starts.now) (D.shows desk.old) (D.shows desk.new)) }
     ensures faults { CountsFault (D.shows desk.old) (D.shows desk.new) (IsFaultOf DeskCall.Write (D.shows desk.old).output.name) result }
+
+    // What is written whole is read as these starts.
+    ensures spelled { IsPlan inst.now.names (plan_text inst.now.names starts.now) (map Some starts.now) }
 {
-    for (i, start) in starts.iter().enumerate() {
-        write_line(inst.name(i as u32), *start, desk)?;
+    inst.fits();
+    for i in 0..inst.interventions() {
+        write_line(inst.name(i), starts[i as usize], desk)?;
     }
     Ok(())
 }
@@ -36,6 +40,13 @@ fn write_line<D: Desk>(name: &str, start: u32, desk: &mut D) -> Result<(), Faile
 {
     write_all(desk, name.as_bytes())?;
     write_all(desk, b" ")?;
-    write_all(desk, Line::of_int(start.into()).bytes())?;
+    write_all(desk, digits_of(start).bytes())?;
     write_all(desk, b"\n")
+}
+
+// A start without leading zeros.
+fn digits_of(start: u32) -> Line
+    ensures { result ≡ decimal start }
+{
+    Line::of_int(i128::from(start))
 }
