@@ -13,9 +13,9 @@ any_front P xs y (k, x, l, e, p) = (k, x, omega (arith, length_push xs y), get_o
 pub any_push_cases : {X : Type 0} (P : X → Type 0) (xs : List X) (y : X) → Any P (xs ++ y ∷ []) → Any P xs ⊎ P y
 any_push_cases P xs y (k, x, l, e, p) =
     ⊎_elim (λ below. inl (k, x, below, sym (get_or_append_left xs (y ∷ []) x k below) ∙ e, p))
-      (λ past. inr (let at : length xs ≡ k = omega (arith, length_push xs y, l) in
-        subst P (sym e ∙ get_or_push xs y x k at) p))
-      (cases_lt k (length xs))
+    (λ past. inr (let at : length xs ≡ k = omega (arith, length_push xs y, l) in
+    subst P (sym e ∙ get_or_push xs y x k at) p))
+    (cases_lt k (length xs))
 
 -- the same of the first elements of a list
 pub any_take_more : {X : Type 0} (P : X → Type 0) (xs : List X) (n : ℕ) (d : X) → n < length xs → Any P (take n xs) → Any P (take (n + 1) xs)

@@ -18,7 +18,7 @@ use Rattle.plan_text.proofs.GiveLemmas.{digits-each, give_cut, GiveCut, blank_no
 starts_once : (text : List ℕ) (s t : ℕ) → EndsInStart text s → EndsInStart text t → s ≡ t
 starts_once text s t a b =
     let cut = same_runs (λ b. digit_value b < 10) a.digits a.rest b.digits b.rest (sym a.spelled ∙ b.spelled) (digits-each a.digits a.numeral.1) (digits-each b.digits b.numeral.1)
-          (λ some h. blank_not_digit (slice_index a.rest 0) h (a.rest_blank 0 0 some)) (λ some h. blank_not_digit (slice_index b.rest 0) h (b.rest_blank 0 0 some)) in
+    (λ some h. blank_not_digit (slice_index a.rest 0) h (a.rest_blank 0 0 some)) (λ some h. blank_not_digit (slice_index b.rest 0) h (b.rest_blank 0 0 some)) in
     sym a.value ∙ ap (digits_value 10) cut.0 ∙ b.value
 
 -- a line gives one start to one name
@@ -27,9 +27,9 @@ gives_once line a b s t g h =
     let x : GiveCut line a g.gap (g.digits ++ g.rest) s = give_cut line a s g in
     let y : GiveCut line b h.gap (h.digits ++ h.rest) t = give_cut line b t h in
     let names = same_runs (λ b. b ≢ 32) a (g.gap ++ (g.digits ++ g.rest)) b (h.gap ++ (h.digits ++ h.rest)) (sym x.spelled ∙ y.spelled) g.unbroken h.unbroken
-          (λ some ne. ne (gap_head g.gap (g.digits ++ g.rest) g.some_gap g.gap_blank)) (λ some ne. ne (gap_head h.gap (h.digits ++ h.rest) h.some_gap h.gap_blank)) in
+    (λ some ne. ne (gap_head g.gap (g.digits ++ g.rest) g.some_gap g.gap_blank)) (λ some ne. ne (gap_head h.gap (h.digits ++ h.rest) h.some_gap h.gap_blank)) in
     let texts = same_runs (λ b. b ≡ 32) g.gap (g.digits ++ g.rest) h.gap (h.digits ++ h.rest) names.1 g.gap_blank h.gap_blank
-          (λ some e. blank_not_digit (slice_index (g.digits ++ g.rest) 0) (digit_head g.digits g.rest g.numeral) e) (λ some e. blank_not_digit (slice_index (h.digits ++ h.rest) 0) (digit_head h.digits h.rest h.numeral) e) in
+    (λ some e. blank_not_digit (slice_index (g.digits ++ g.rest) 0) (digit_head g.digits g.rest g.numeral) e) (λ some e. blank_not_digit (slice_index (h.digits ++ h.rest) 0) (digit_head h.digits h.rest h.numeral) e) in
     (names.0, starts_once (g.digits ++ g.rest) s t x.ends (subst (λ xs. EndsInStart xs t) (sym texts.1) y.ends))
 
 -- a line names one name
@@ -65,8 +65,8 @@ not_earlier names lines n m F G excludes f g l = excludes (take (n - 1) lines) (
 same_line : (names lines : List (List ℕ)) (n m : ℕ) (F G : List (List ℕ) → List ℕ → Type 0) → ((earlier : List (List ℕ)) (line : List ℕ) → F earlier line → IsFaultless names earlier line → ⊥) → ((earlier : List (List ℕ)) (line : List ℕ) → G earlier line → IsFaultless names earlier line → ⊥) → IsFirstAt names lines n F → IsFirstAt names lines m G → n ≡ m
 same_line names lines n m F G not_f not_g f g =
     ⊎_elim (λ l. absurd (not_earlier names lines n m F G not_f f g l))
-      (λ h. ⊎_elim (λ l. absurd (not_earlier names lines m n G F not_g g f l)) (λ k. omega arith) (cases_lt m n))
-      (cases_lt n m)
+    (λ h. ⊎_elim (λ l. absurd (not_earlier names lines m n G F not_g g f l)) (λ k. omega arith) (cases_lt m n))
+    (cases_lt n m)
 
 -- two faults that no line has both
 never_both : (names lines : List (List ℕ)) (n m : ℕ) (F G : List (List ℕ) → List ℕ → Type 0) → ((earlier : List (List ℕ)) (line : List ℕ) → F earlier line → IsFaultless names earlier line → ⊥) → ((earlier : List (List ℕ)) (line : List ℕ) → G earlier line → IsFaultless names earlier line → ⊥) → ((earlier : List (List ℕ)) (line : List ℕ) → F earlier line → G earlier line → ⊥) → IsFirstAt names lines n F → IsFirstAt names lines m G → ⊥
@@ -104,10 +104,14 @@ plan_lines : (names : List (List ℕ)) (text : List ℕ) (plan : List (Option �
 plan_lines names text plan p k l =
     let lines : List (List ℕ) = lines_of text in
     ⊎_elim (λ blank. inl blank)
-      (λ one. inr (record { name = one.0; named = one.1; known = one.2;
-        first = λ h. let at = any_take_place (λ line. Names line one.0) lines k [] (omega arith) h in
-          p.once at.0 k [] at.1 l (one.0, at.2, one.1) }))
-      (p.told k [] l)
+    (λ one. inr (record {
+      name = one.0;
+      named = one.1;
+      known = one.2;
+      first = λ h. let at = any_take_place (λ line. Names line one.0) lines k [] (omega arith) h in
+          p.once at.0 k [] at.1 l (one.0, at.2, one.1);
+    }))
+    (p.told k [] l)
 
 -- no text both spells a plan and has a fault
 first_not_in_plan : (names : List (List ℕ)) (text : List ℕ) (plan : List (Option ℕ)) (n : ℕ) (F : List (List ℕ) → List ℕ → Type 0) → ((earlier : List (List ℕ)) (line : List ℕ) → F earlier line → IsFaultless names earlier line → ⊥) → IsPlan names text plan → IsFirstAt names (lines_of text) n F → ⊥
@@ -131,6 +135,6 @@ one_plan names text plan other p q =
     let a = p.starts in
     let b = q.starts in
     same_lists plan other (omega (arith, a.each, b.each)) (λ k d l.
-      get_or_default plan k d None l
-      ∙ same_option (start_at plan k) (start_at other k) (λ s e. b.given k s (omega (arith, a.each)) (a.only k s e)) (λ s e. a.given k s (omega (arith, a.each)) (b.only k s e))
-      ∙ get_or_default other k None d (omega (arith, a.each, b.each)))
+    get_or_default plan k d None l
+    ∙ same_option (start_at plan k) (start_at other k) (λ s e. b.given k s (omega (arith, a.each)) (a.only k s e)) (λ s e. a.given k s (omega (arith, a.each)) (b.only k s e))
+    ∙ get_or_default other k None d (omega (arith, a.each, b.each)))

@@ -8,3 +8,4 @@ pub mod WrittenLemmas
 pub mod NameLemmas
 pub mod ReadLemmas
 pub mod PieceLemmas
+pub mod TestLemmas

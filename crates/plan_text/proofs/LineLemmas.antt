@@ -23,7 +23,6 @@ without_empty_last-more part (next ∷ more) h = refl
 without_empty_last-one : (part : List ℕ) → 0 < length part → without_empty_last (part ∷ []) ≡ part ∷ []
 without_empty_last-one part h = grind (arith, nat_tests)
 
-
 -- a line, its line feed and the rest
 pub lines_of-more : (line rest : List ℕ) → All (λ b. b ≢ 10) line → lines_of (line ++ 10 ∷ rest) ≡ strip_carriage_return line ∷ lines_of rest
 lines_of-more line rest h =

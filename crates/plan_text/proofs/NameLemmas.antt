@@ -17,8 +17,8 @@ pub found_none : (names : List (List ℕ)) (name : List ℕ) → position (bytes
 found_none names name e (k, l, at) =
     let first : ℕ = position_or_len (bytes_eq name) names in
     ⊎_elim (λ within. let found : position (bytes_eq name) names ≡ Some first = ap (λ b. cond b (Some first) None) ((Decides-ltb first (length names)).1 within) in absurd (cc))
-      (λ past. false≢true (sym (fails_before_first (bytes_eq name) names k name (omega arith)) ∙ (bytes_eq-Decides name (get_or names k name)).1 (sym at)))
-      (cases_lt first (length names))
+    (λ past. false≢true (sym (fails_before_first (bytes_eq name) names k name (omega arith)) ∙ (bytes_eq-Decides name (get_or names k name)).1 (sym at)))
+    (cases_lt first (length names))
 
 -- the name at a place, read and compared
 pub same_name : (names : List (List ℕ)) (i : ℕ) (held name : List ℕ) → slice_get names i ≡ Some held → held ≡ name → slice_index_or names i [] ≡ name
@@ -32,5 +32,5 @@ none_below names name n all none (k, l, at) = none k (omega arith) (get_or_defau
 pub none_more : (names : List (List ℕ)) (name held : List ℕ) (n : ℕ) → ((k : ℕ) → k < n → slice_index_or names k [] ≢ name) → slice_get names n ≡ Some held → (held ≡ name → ⊥) → (k : ℕ) → k < n + 1 → slice_index_or names k [] ≢ name
 none_more names name held n none e ne k l =
     ⊎_elim (λ below. none k below)
-      (λ past h. let at : k ≡ n = omega (arith, l) in ne (sym (get_or_from_slice_get names n held [] e) ∙ sym (ap (λ j. slice_index_or names j []) at) ∙ h))
-      (cases_lt k n)
+    (λ past h. let at : k ≡ n = omega (arith, l) in ne (sym (get_or_from_slice_get names n held [] e) ∙ sym (ap (λ j. slice_index_or names j []) at) ∙ h))
+    (cases_lt k n)

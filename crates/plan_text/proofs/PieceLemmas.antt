@@ -50,7 +50,7 @@ pub line_more : (names : List (List ℕ)) (starts : List ℕ) (n : ℕ) (name : 
 line_more names starts n name start old mid new l k e f s t =
     let line : line_text (slice_index_or names n []) (slice_index starts n) ≡ line_text name start = ap (λ x. line_text x (slice_index starts n)) e ∙ ap (line_text name) f in
     let text : plan_text names (take (n + 1) starts) ≡ plan_text names (take n starts) ++ line_text name start =
-          ap (λ m. plan_text names (take m starts)) (add-one n) ∙ plan_text-more names starts n l k ∙ ap (λ xs. plan_text names (take n starts) ++ xs) line in
+    ap (λ m. plan_text names (take m starts)) (add-one n) ∙ plan_text-more names starts n l k ∙ ap (λ xs. plan_text names (take n starts) ++ xs) line in
     subst (λ xs. ShowsSame new (after_write xs old)) (sym text) (write_more (plan_text names (take n starts)) (line_text name start) old mid new s t)
 
 -- a part of one line more was written

@@ -17,8 +17,8 @@ use Rattle.plan_text.proofs.LawLemmas.{gives_once, names_once, blank_gives_nothi
 pub same_place : (names : List (List ℕ)) (i j : ℕ) → AllPairs (λ a b. a ≢ b) names → i < length names → j < length names → slice_index_or names i [] ≡ slice_index_or names j [] → i ≡ j
 same_place names i j apart li lj e =
     ⊎_elim (λ l. absurd (apart i j [] l lj e))
-      (λ h. ⊎_elim (λ l. absurd (apart j i [] l li (sym e))) (λ k. omega arith) (cases_lt j i))
-      (cases_lt i j)
+    (λ h. ⊎_elim (λ l. absurd (apart j i [] l li (sym e))) (λ k. omega arith) (cases_lt j i))
+    (cases_lt i j)
 
 -- before the first line no name has a start
 pub none_read : (names lines : List (List ℕ)) (starts : List (Option ℕ)) → starts ≡ replicate (length names) None → HasRead names lines 0 starts
@@ -34,15 +34,15 @@ none_read names lines starts e = record {
   no_start_yet : (i start : ℕ) → start_at starts i ≡ Some start → ⊥
   no_start_yet i start h =
       ⊎_elim (λ l. let none : start_at starts i ≡ None = ap (λ xs. start_at xs i) e ∙ get_or-replicate (length names) i None None l in cc)
-        (λ past. let none : start_at starts i ≡ None = get_or_past starts i None (omega (arith, ap length e, length-replicate {A = Option ℕ} (length names) None)) in cc)
-        (cases_lt i (length names))
+      (λ past. let none : start_at starts i ≡ None = get_or_past starts i None (omega (arith, ap length e, length-replicate {A = Option ℕ} (length names) None)) in cc)
+      (cases_lt i (length names))
 
 -- one line more has no fault
 faultless_more : (names lines : List (List ℕ)) (n : ℕ) → AreFaultless names lines n → IsFaultless names (take n lines) (slice_index_or lines n []) → AreFaultless names lines (n + 1)
 faultless_more names lines n before here k l =
     ⊎_elim (λ below. before k below)
-      (λ past. let e : n ≡ k = omega (arith, l) in subst (λ m. IsFaultless names (take m lines) (slice_index_or lines m [])) e here)
-      (cases_lt k n)
+    (λ past. let e : n ≡ k = omega (arith, l) in subst (λ m. IsFaultless names (take m lines) (slice_index_or lines m [])) e here)
+    (cases_lt k n)
 
 -- a blank line
 blank_read : (names lines : List (List ℕ)) (n : ℕ) (old : List (Option ℕ)) → HasRead names lines n old → n < length lines → AreBlanks (slice_index_or lines n []) → HasRead names lines (n + 1) old
@@ -70,8 +70,8 @@ given_read names lines n old new apart r l s =
     let gives : ℕ → ℕ → List ℕ → Type 0 = λ j start line. Gives line (slice_index_or names j []) start in
     let place : s.i < length old = omega (arith, r.starts.each, s.given.place) in
     let first : IsNamedIn (take n lines) name → ⊥ = λ h.
-          let had : start_at old s.i ≡ Some h.4.0 = r.starts.given s.i h.4.0 s.given.place (h.0, h.1, h.2, h.3, h.4.1) in
-          let free = s.free in cc in
+    let had : start_at old s.i ≡ Some h.4.0 = r.starts.given s.i h.4.0 s.given.place (h.0, h.1, h.2, h.3, h.4.1) in
+    let free = s.free in cc in
     let here : start_at new s.i ≡ Some s.start = ap (λ xs. start_at xs s.i) s.set ∙ get_or-set_same old s.i (Some s.start) None place in
     let other : (j : ℕ) → j ≢ s.i → start_at new j ≡ start_at old j = λ j ne. ap (λ xs. start_at xs j) s.set ∙ get_or-set_other old s.i j (Some s.start) None ne in
     record {
@@ -80,18 +80,18 @@ given_read names lines n old new apart r l s =
       starts = record {
         each = ap length s.set ∙ length-set old s.i (Some s.start) ∙ r.starts.each;
         given = λ j start lj h. ⊎_elim
-          (λ front. let had : start_at old j ≡ Some start = r.starts.given j start lj front in
+            (λ front. let had : start_at old j ≡ Some start = r.starts.given j start lj front in
             let ne : j ≢ s.i = λ e. let free : start_at old j ≡ None = ap (start_at old) e ∙ s.free in cc in
             other j ne ∙ had)
-          (λ g. let both = gives_once line (slice_index_or names j []) name start s.start g s.given.gives in
+            (λ g. let both = gives_once line (slice_index_or names j []) name start s.start g s.given.gives in
             let e : j ≡ s.i = same_place names j s.i apart lj s.given.place both.0 in
             ap (start_at new) e ∙ here ∙ ap Some (sym both.1))
-          (any_take_cases (gives j start) lines n [] l h);
+            (any_take_cases (gives j start) lines n [] l h);
         only = λ j start h. ⊎_elim
-          (λ e. let same : s.start ≡ start = some_same (sym here ∙ ap (start_at new) (sym e) ∙ h) in
+            (λ e. let same : s.start ≡ start = some_same (sym here ∙ ap (start_at new) (sym e) ∙ h) in
             any_take_here (gives j start) lines n [] l (subst (λ x. Gives line (slice_index_or names j []) x) same (subst (λ k. Gives line (slice_index_or names k []) s.start) (sym e) s.given.gives)))
-          (λ ne. any_take_more (gives j start) lines n [] l (r.starts.only j start (sym (other j ne) ∙ h)))
-          (cases_eq j s.i);
+            (λ ne. any_take_more (gives j start) lines n [] l (r.starts.only j start (sym (other j ne) ∙ h)))
+            (cases_eq j s.i);
       };
     }
 
@@ -135,12 +135,12 @@ read_whole names text n plan r all =
     let line_ok : (k : ℕ) → k < length lines → IsFaultless names (take k lines) (slice_index_or lines k []) = λ k l. r.faultless k (omega (arith, all, l)) in
     record {
       told = λ k d l. subst (λ line. AreBlanks line ⊎ NamesOneOf names line) (get_or_default lines k [] d l)
-        (⊎_elim (λ blank. inl blank) (λ new. inr (new.name, new.named, new.known)) (line_ok k l));
+          (⊎_elim (λ blank. inl blank) (λ new. inr (new.name, new.named, new.known)) (line_ok k l));
       once = λ i j d l lj both.
-        let li : i < length lines = omega (arith, l, lj) in
-        let a : Names (slice_index_or lines i []) both.0 = subst (λ line. Names line both.0) (get_or_default lines i d [] li) both.1 in
-        let b : Names (slice_index_or lines j []) both.0 = subst (λ line. Names line both.0) (get_or_default lines j d [] lj) both.2 in
-        ⊎_elim (λ blank. blank_gives_nothing (slice_index_or lines j []) both.0 b.0 blank b.1)
+          let li : i < length lines = omega (arith, l, lj) in
+          let a : Names (slice_index_or lines i []) both.0 = subst (λ line. Names line both.0) (get_or_default lines i d [] li) both.1 in
+          let b : Names (slice_index_or lines j []) both.0 = subst (λ line. Names line both.0) (get_or_default lines j d [] lj) both.2 in
+          ⊎_elim (λ blank. blank_gives_nothing (slice_index_or lines j []) both.0 b.0 blank b.1)
           (λ new. new.first (i, slice_index_or lines i [], omega (arith, length-take-le j lines (omega arith)), get_or-take j lines i (slice_index_or lines i []) l ∙ get_or_default lines i (slice_index_or lines i []) [] li, subst (λ name. Names (slice_index_or lines i []) name) (names_once (slice_index_or lines j []) both.0 new.name b new.named) a))
           (line_ok j lj);
       starts = subst (λ xs. HasStarts names xs plan) whole r.starts;

@@ -39,8 +39,8 @@ given_line-above name start printed small =
 strip-above : (line : List ℕ) → All Above line → strip_carriage_return line ≡ line
 strip-above line h =
     ⊎_elim (λ some. let last : 32 ≤ slice_index line (length line - 1) = h (length line - 1) 0 (omega arith) in grind (arith, nat_tests))
-      (λ none. let e : line ≡ [] = nil_from_length line (omega arith) in subst (λ xs. strip_carriage_return xs ≡ xs) (sym e) refl)
-      (cases_lt 0 (length line))
+    (λ none. let e : line ≡ [] = nil_from_length line (omega arith) in subst (λ xs. strip_carriage_return xs ≡ xs) (sym e) refl)
+    (cases_lt 0 (length line))
 
 -- the lines that are written
 given_lines : List (List ℕ) → List ℕ → List (List ℕ)
@@ -99,38 +99,38 @@ spells names starts some printed apart each small =
     let written : lines ≡ given_lines names starts = lines_of-plan_text names starts printed small in
     let count : length lines ≡ length names = ap length written ∙ length-given_lines names starts each in
     let gives : (k : ℕ) (d : List ℕ) → k < length names → Gives (slice_index_or lines k d) (slice_index_or names k []) (slice_index starts k) = λ k d l.
-          subst (λ line. Gives line (slice_index_or names k []) (slice_index starts k))
-            (sym (ap (λ xs. slice_index_or xs k d) written ∙ get_or-given_lines names starts k d each l))
-            (given_line_gives (slice_index_or names k []) (slice_index starts k) (some k [] l) (printed k [] l) (small k 0 (omega (arith, each)))) in
+    subst (λ line. Gives line (slice_index_or names k []) (slice_index starts k))
+    (sym (ap (λ xs. slice_index_or xs k d) written ∙ get_or-given_lines names starts k d each l))
+    (given_line_gives (slice_index_or names k []) (slice_index starts k) (some k [] l) (printed k [] l) (small k 0 (omega (arith, each)))) in
     record {
       told = λ k d l. let lk : k < length names = omega (arith, count) in
-        inr (slice_index_or names k [], (slice_index starts k, gives k d lk), Contains-get_or names k [] lk);
+          inr (slice_index_or names k [], (slice_index starts k, gives k d lk), Contains-get_or names k [] lk);
       once = λ i j d l lj both.
-        let nj : j < length names = omega (arith, count) in
-        let ni : i < length names = omega (arith, l) in
-        let a = names_once (slice_index_or lines i d) both.0 (slice_index_or names i []) both.1 (slice_index starts i, gives i d ni) in
-        let b = names_once (slice_index_or lines j d) both.0 (slice_index_or names j []) both.2 (slice_index starts j, gives j d nj) in
-        apart i j [] l nj (sym a ∙ b);
+          let nj : j < length names = omega (arith, count) in
+          let ni : i < length names = omega (arith, l) in
+          let a = names_once (slice_index_or lines i d) both.0 (slice_index_or names i []) both.1 (slice_index starts i, gives i d ni) in
+          let b = names_once (slice_index_or lines j d) both.0 (slice_index_or names j []) both.2 (slice_index starts j, gives j d nj) in
+          apart i j [] l nj (sym a ∙ b);
       starts = record {
         each = length-map {B = Option ℕ} starts Some ∙ each;
         given = λ i start li h.
-          let lk : h.0 < length names = omega (arith, count, h.2) in
-          let both = gives_once h.1 (slice_index_or names i []) (slice_index_or names h.0 []) start (slice_index starts h.0) h.4 (subst (λ line. Gives line (slice_index_or names h.0 []) (slice_index starts h.0)) h.3 (gives h.0 h.1 lk)) in
-          let e : i ≡ h.0 = same_place names i h.0 apart li lk both.0 in
-          get_or-map Some starts i 0 None (omega (arith, each)) ∙ ap (λ k. Some (slice_index starts k)) e ∙ ap Some (sym both.1);
+            let lk : h.0 < length names = omega (arith, count, h.2) in
+            let both = gives_once h.1 (slice_index_or names i []) (slice_index_or names h.0 []) start (slice_index starts h.0) h.4 (subst (λ line. Gives line (slice_index_or names h.0 []) (slice_index starts h.0)) h.3 (gives h.0 h.1 lk)) in
+            let e : i ≡ h.0 = same_place names i h.0 apart li lk both.0 in
+            get_or-map Some starts i 0 None (omega (arith, each)) ∙ ap (λ k. Some (slice_index starts k)) e ∙ ap Some (sym both.1);
         only = λ i start h.
-          let li : i < length starts = ⊎_elim (λ l. l) (λ past. absurd (none_past i start past h)) (cases_lt i (length starts)) in
-          let e : slice_index starts i ≡ start = some_same (sym (get_or-map Some starts i 0 None li) ∙ h) in
-          let ni : i < length names = omega (arith, each) in
-          (i, slice_index_or lines i [], omega (arith, count), get_or_default lines i (slice_index_or lines i []) [] (omega (arith, count)), subst (λ s. Gives (slice_index_or lines i []) (slice_index_or names i []) s) e (gives i [] ni));
+            let li : i < length starts = ⊎_elim (λ l. l) (λ past. absurd (none_past i start past h)) (cases_lt i (length starts)) in
+            let e : slice_index starts i ≡ start = some_same (sym (get_or-map Some starts i 0 None li) ∙ h) in
+            let ni : i < length names = omega (arith, each) in
+            (i, slice_index_or lines i [], omega (arith, count), get_or_default lines i (slice_index_or lines i []) [] (omega (arith, count)), subst (λ s. Gives (slice_index_or lines i []) (slice_index_or names i []) s) e (gives i [] ni));
       };
     } where
-  none_past : (i start : ℕ) → length starts ≤ i → start_at (map Some starts) i ≡ Some start → ⊥
-  none_past i start past h = let none : start_at (map Some starts) i ≡ None = get_or_past (map Some starts) i None (omega (arith, length-map {B = Option ℕ} starts Some)) in cc
+      none_past : (i start : ℕ) → length starts ≤ i → start_at (map Some starts) i ≡ Some start → ⊥
+      none_past i start past h = let none : start_at (map Some starts) i ≡ None = get_or_past (map Some starts) i None (omega (arith, length-map {B = Option ℕ} starts Some)) in cc
 
 -- the same for names as an instance has them
 pub plan_text_spells : (limit : ℕ) (names : List (List ℕ)) (starts : List ℕ) → AreNames limit names → length starts ≡ length names → All (λ start. start < 10 ^ 9) starts → IsPlan names (plan_text names starts) (map Some starts)
 plan_text_spells limit names starts are each small =
     spells names starts (λ k d l. (are.shaped k d l).some)
-      (λ k d l. All-weaker (λ b. (32 < b) × (b ≢ 127)) (λ b. 32 < b) (λ b h. h.0) (slice_index_or names k d) (are.shaped k d l).printed)
-      are.apart each small
+    (λ k d l. All-weaker (λ b. (32 < b) × (b ≢ 127)) (λ b. 32 < b) (λ b h. h.0) (slice_index_or names k d) (are.shaped k d l).printed)
+    are.apart each small

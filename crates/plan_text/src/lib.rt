@@ -17,3 +17,6 @@ pub use laws::texts_read_one_way;
 pub use plan::Plan;
 pub use read::read_plan;
 pub use write::write_plan;
+
+#[cfg(test)]
+mod tests;

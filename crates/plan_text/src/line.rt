@@ -58,7 +58,10 @@ fn value_of(digits: &[u8]) -> u32
 fn split_name(line: &[u8]) -> (&[u8], &[u8])
     ensures { IsSplit (λ b. b ≢ 32) line.now result.0.now result.1.now }
 {
-    let end = line.iter().position(|byte| *byte == b' ').unwrap_or(line.len());
+    let end = line
+        .iter()
+        .position(|byte| *byte == b' ')
+        .unwrap_or(line.len());
     line.split_at(end)
 }
 
@@ -66,7 +69,10 @@ fn split_name(line: &[u8]) -> (&[u8], &[u8])
 fn split_blanks(text: &[u8]) -> (&[u8], &[u8])
     ensures { IsSplit (λ b. b ≡ 32) text.now result.0.now result.1.now }
 {
-    let end = text.iter().position(|byte| *byte != b' ').unwrap_or(text.len());
+    let end = text
+        .iter()
+        .position(|byte| *byte != b' ')
+        .unwrap_or(text.len());
     text.split_at(end)
 }
 
@@ -74,6 +80,9 @@ fn split_blanks(text: &[u8]) -> (&[u8], &[u8])
 fn split_digits(text: &[u8]) -> (&[u8], &[u8])
     ensures { IsSplit (λ b. digit_value b < 10) text.now result.0.now result.1.now }
 {
-    let end = text.iter().position(|byte| !byte.is_ascii_digit()).unwrap_or(text.len());
+    let end = text
+        .iter()
+        .position(|byte| !byte.is_ascii_digit())
+        .unwrap_or(text.len());
     text.split_at(end)
 }

@@ -21,7 +21,10 @@ pub fn split_line(text: &[u8]) -> (&[u8], &[u8])
 fn split_at_feed(text: &[u8]) -> (&[u8], &[u8])
     ensures { IsSplit (λ b. b ≢ 10) text.now result.0.now result.1.now }
 {
-    let end = text.iter().position(|byte| *byte == b'\n').unwrap_or(text.len());
+    let end = text
+        .iter()
+        .position(|byte| *byte == b'\n')
+        .unwrap_or(text.len());
     text.split_at(end)
 }
 

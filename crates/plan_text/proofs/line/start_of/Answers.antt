@@ -7,9 +7,9 @@ pub returns-then-is_empty-clause-none : goal.returns-then-is_empty-clause-none
 returns-then-is_empty-clause-none c =
     let text = c.args.text.now in
     elim c.then-is_empty.branch [
-      then-is_empty-via-then-is_empty w ↦ no_start text _ _ c.split_digits.ensures (inl (search rules))
-    | then-is_empty-via-else-is_empty+then-digits-gt9 w ↦ no_start text _ _ c.split_digits.ensures (inr (inl (omega arith)))
-    | then-is_empty-via-else-is_empty+else-digits-gt9+then-not-is_blank w ↦ no_start text _ _ c.split_digits.ensures (inr (inr (search rules)))
+      | then-is_empty-via-then-is_empty w ↦ no_start text _ _ c.split_digits.ensures (inl (search rules))
+      | then-is_empty-via-else-is_empty+then-digits-gt9 w ↦ no_start text _ _ c.split_digits.ensures (inr (inl (omega arith)))
+      | then-is_empty-via-else-is_empty+else-digits-gt9+then-not-is_blank w ↦ no_start text _ _ c.split_digits.ensures (inr (inr (search rules)))
     ]
 
 pub value_of-requires-clause-digits : goal.value_of-requires-clause-digits

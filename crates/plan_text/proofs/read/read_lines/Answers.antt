@@ -13,7 +13,7 @@ returns-in_err-read_line-clause-err c =
     let next = next_line (lines_of c.args.text.now) c.loop-rest.n _ _ (so_far.left ∙ c.split_line.ensures.lines) in
     let p = err_from_is_err_and c.from_residual.result c.from_residual.ensures.1 in
     rw (p.1, p.2) (refused_first names c.args.text.now c.loop-rest.n old _ so_far.read next.within
-      (subst (λ (line : List ℕ). Refuses names line old (c.loop-rest.n + 1) c.in_err-read_line.field-0.0) (sym next.is) c.in_err-read_line.ensures.err))
+    (subst (λ (line : List ℕ). Refuses names line old (c.loop-rest.n + 1) c.in_err-read_line.field-0.0) (sym next.is) c.in_err-read_line.ensures.err))
 
 pub loop-rest-preserved : goal.loop-rest-preserved
 loop-rest-preserved c =
@@ -24,7 +24,7 @@ loop-rest-preserved c =
     let next = next_line (lines_of c.args.text.now) c.loop-rest.n _ _ (so_far.left ∙ c.split_line.ensures.lines) in
     record {
       read = read_more names (lines_of c.args.text.now) c.loop-rest.n old new c.fits.ensures.names.apart so_far.read next.within
-        (subst (λ (line : List ℕ). Enters names line old new) (sym next.is) c.in_ok-read_line.ensures.ok);
+          (subst (λ (line : List ℕ). Enters names line old new) (sym next.is) c.in_ok-read_line.ensures.ok);
       left = next.left;
       few = omega (arith, so_far.few, c.split_line.ensures.shorter);
     }

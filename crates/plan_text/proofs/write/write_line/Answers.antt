@@ -15,9 +15,9 @@ returns-in_err-write_all-2-clause-err g c =
     let name = c.args.name.now in
     let named = subst (λ (xs : List ℕ). ShowsSame one (after_write xs old)) c.as_bytes.ensures.value c.in_ok-write_all.ensures.ok in
     on_err c.from_residual-in_err-write_all-2.result
-      (part_longer (name ++ (32 ∷ []) ++ decimal c.args.start) (10 ∷ []) old new
-        (part_longer (name ++ (32 ∷ [])) (decimal c.args.start) old new
-          (part_more name (32 ∷ []) old one new named c.in_err-write_all-2.ensures.err)))
+    (part_longer (name ++ (32 ∷ []) ++ decimal c.args.start) (10 ∷ []) old new
+    (part_longer (name ++ (32 ∷ [])) (decimal c.args.start) old new
+    (part_more name (32 ∷ []) old one new named c.in_err-write_all-2.ensures.err)))
 
 pub returns-in_err-write_all-3-clause-err : goal.returns-in_err-write_all-3-clause-err
 returns-in_err-write_all-3-clause-err g c =
@@ -31,9 +31,9 @@ returns-in_err-write_all-3-clause-err g c =
     let parted = write_more name (32 ∷ []) old one two named c.in_ok-write_all-2.ensures.ok in
     let digits : c.bytes.result.now ≡ decimal c.args.start = c.bytes.ensures.value ∙ c.digits_of.ensures in
     on_err c.from_residual-in_err-write_all-3.result
-      (part_longer (name ++ (32 ∷ []) ++ decimal c.args.start) (10 ∷ []) old new
-        (part_more (name ++ (32 ∷ [])) (decimal c.args.start) old two new parted
-          (subst (λ (xs : List ℕ). WritesPart xs two new) digits c.in_err-write_all-3.ensures.err)))
+    (part_longer (name ++ (32 ∷ []) ++ decimal c.args.start) (10 ∷ []) old new
+    (part_more (name ++ (32 ∷ [])) (decimal c.args.start) old two new parted
+    (subst (λ (xs : List ℕ). WritesPart xs two new) digits c.in_err-write_all-3.ensures.err)))
 
 pub returns-clause-ok : goal.returns-clause-ok
 returns-clause-ok g c =
@@ -48,7 +48,7 @@ returns-clause-ok g c =
     let digits : c.bytes.result.now ≡ decimal c.args.start = c.bytes.ensures.value ∙ c.digits_of.ensures in
     let numbered = write_more (name ++ (32 ∷ [])) (decimal c.args.start) old two three parted (subst (λ (xs : List ℕ). ShowsSame three (after_write xs two)) digits c.in_ok-write_all-3.ensures.ok) in
     on_ok_weaker c.write_all-4.result
-      (λ last. write_more (name ++ (32 ∷ []) ++ decimal c.args.start) (10 ∷ []) old three (shows c.write_all-4.new.desk) numbered last) c.write_all-4.ensures.ok
+    (λ last. write_more (name ++ (32 ∷ []) ++ decimal c.args.start) (10 ∷ []) old three (shows c.write_all-4.new.desk) numbered last) c.write_all-4.ensures.ok
 
 pub returns-clause-err : goal.returns-clause-err
 returns-clause-err g c =
@@ -63,4 +63,4 @@ returns-clause-err g c =
     let digits : c.bytes.result.now ≡ decimal c.args.start = c.bytes.ensures.value ∙ c.digits_of.ensures in
     let numbered = write_more (name ++ (32 ∷ [])) (decimal c.args.start) old two three parted (subst (λ (xs : List ℕ). ShowsSame three (after_write xs two)) digits c.in_ok-write_all-3.ensures.ok) in
     on_err_weaker c.write_all-4.result
-      (λ part. part_more (name ++ (32 ∷ []) ++ decimal c.args.start) (10 ∷ []) old three (shows c.write_all-4.new.desk) numbered part) c.write_all-4.ensures.err
+    (λ part. part_more (name ++ (32 ∷ []) ++ decimal c.args.start) (10 ∷ []) old three (shows c.write_all-4.new.desk) numbered part) c.write_all-4.ensures.err

@@ -17,8 +17,8 @@ returns-in_err-write_line-clause-err g c =
     let shows = g.D.Desk.shows in
     let names = c.args.inst.now.names in
     on_err c.from_residual.result
-      (line_part names c.args.starts.now c.loop-i.i _ _ (shows c.args.desk.now) (shows c.loop-i.desk) (shows c.write_line.new.desk) (omega arith) (omega arith)
-        (get_or_from_slice_get names c.loop-i.i _ [] c.name.ensures.value) refl c.loop-i.invariant.written c.in_err-write_line.ensures.err)
+    (line_part names c.args.starts.now c.loop-i.i _ _ (shows c.args.desk.now) (shows c.loop-i.desk) (shows c.write_line.new.desk) (omega arith) (omega arith)
+    (get_or_from_slice_get names c.loop-i.i _ [] c.name.ensures.value) refl c.loop-i.invariant.written c.in_err-write_line.ensures.err)
 
 pub returns-in_err-write_line-clause-spelled : goal.returns-in_err-write_line-clause-spelled
 returns-in_err-write_line-clause-spelled g c =
@@ -30,7 +30,7 @@ loop-i-preserved g c =
     let names = c.args.inst.now.names in
     record {
       written = line_more names c.args.starts.now c.loop-i.i _ _ (shows c.args.desk.now) (shows c.loop-i.desk) (shows c.write_line.new.desk) (omega arith) (omega arith)
-        (get_or_from_slice_get names c.loop-i.i _ [] c.name.ensures.value) refl c.loop-i.invariant.written c.in_ok-write_line.ensures.ok;
+          (get_or_from_slice_get names c.loop-i.i _ [] c.name.ensures.value) refl c.loop-i.invariant.written c.in_ok-write_line.ensures.ok;
       later = search rules;
       same = search rules;
     }
