@@ -10,7 +10,7 @@ use Rattle.std.proofs.Math.Nat.{pow-le-pow_right}
 use Rattle.std.proofs.lemmas.List.Elements.{All-nil, All-cons, All-head, All-tail, All-take}
 use Rattle.plan_text.specs.Spelling.{AreBlanks, Gives}
 use Rattle.plan_text.specs.Runs.{IsSplit, EndsInStart}
-use Rattle.plan_text.proofs.RunLemmas.{split_once, same_runs}
+use Rattle.plan_text.proofs.RunLemmas.{split_once}
 
 -- a decimal digit is a byte from 48 to 57
 pub record IsDigit (b : ℕ) : Type 0 where

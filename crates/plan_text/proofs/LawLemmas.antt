@@ -1,14 +1,14 @@
 -- A text is read in one way: a line gives one start to one name, and a text has one plan or one first fault.
-use Rattle.std.proofs.Common.{◌≡◌, ◌≢◌, ℕ, ◌+◌, ◌-◌, ◌<◌, ◌≤◌, ◌⊎◌, inl, inr, ⊎_elim, List, [], ◌∷◌, ◌++◌, length, take, get_or, slice_index, slice_index_or, Option, Some, None, refl, sym, ◌∙◌, ap, subst, arith, rules}
-use Rattle.std.specs.List.{All, Any, Contains}
+use Rattle.std.proofs.Common.{◌≡◌, ◌≢◌, ℕ, ◌-◌, ◌<◌, inl, inr, ⊎_elim, List, [], ◌++◌, length, take, slice_index, slice_index_or, Option, Some, None, refl, sym, ◌∙◌, ap, subst, arith}
+use Rattle.std.specs.List.{Contains}
 use Rattle.std.specs.Char.{digit_value}
 use Rattle.std.specs.Str.Parse.{digits_value}
 use Rattle.std.proofs.lemmas.Bool.{cases_lt}
-use Rattle.std.proofs.lemmas.List.{same_lists, get_or_default, get_or_append_left, append_assoc, length-append}
+use Rattle.std.proofs.lemmas.List.{same_lists, get_or_default, length-append}
 use Rattle.plan_text.specs.declared.fault.PlanFault.{PlanFault}
 use Rattle.plan_text.specs.declared.fault.PlanFault.TheVariants.{BadLine, UnknownName, Twice, Memory}
-use Rattle.plan_text.specs.Spelling.{lines_of, AreBlanks, Gives, Names, NamesOneOf, NameTheSame, HasStarts, start_at, IsPlan}
-use Rattle.plan_text.specs.FirstFault.{IsBadLine, HasUnknownName, IsRepeated, IsNew, IsNamedIn, IsFaultless, AreFaultless, IsFirstAt, HasPlanFault}
+use Rattle.plan_text.specs.Spelling.{lines_of, AreBlanks, Gives, Names, start_at, IsPlan}
+use Rattle.plan_text.specs.FirstFault.{IsBadLine, HasUnknownName, IsRepeated, IsNamedIn, IsFaultless, AreFaultless, IsFirstAt, HasPlanFault}
 use Rattle.plan_text.specs.Runs.{EndsInStart}
 use Rattle.plan_text.proofs.RunLemmas.{same_runs}
 use Rattle.plan_text.proofs.AnyLemmas.{any_take_place}

@@ -1,5 +1,5 @@
 -- The lines of a text, one after another.
-use Rattle.std.proofs.Common.{◌≡◌, ◌≢◌, ℕ, ◌+◌, ◌<◌, Bool, true, false, cond, eqb, List, [], ◌∷◌, ◌++◌, length, drop, get_or, map, refl, ⊎_elim, ◌≤◌, sym, ◌∙◌, ap, subst, arith, rules}
+use Rattle.std.proofs.Common.{◌≡◌, ◌≢◌, ℕ, ◌<◌, false, eqb, List, [], ◌∷◌, ◌++◌, length, drop, get_or, map, refl, ⊎_elim, sym, ◌∙◌, ap, subst, arith, rules}
 use Rattle.std.specs.List.{All, slice_split}
 use Rattle.std.specs.Str.Lines.{strip_carriage_return}
 use Rattle.std.proofs.lemmas.Bool.Decides.{nat_tests}

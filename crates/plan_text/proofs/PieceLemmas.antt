@@ -1,6 +1,6 @@
 -- A text that is written piece by piece.
-use Rattle.std.proofs.Common.{◌≡◌, ℕ, zero, suc, ◌+◌, ◌<◌, ◌≤◌, List, [], ◌∷◌, ◌++◌, length, take, drop, get_or, slice_index, slice_index_or, Result, OnErr, Ok, Err, refl, sym, ◌∙◌, ap, subst, arith, rules, add-one}
-use Rattle.std.proofs.lemmas.List.{append_assoc, append-nil, take-append-le, length-append, take_all}
+use Rattle.std.proofs.Common.{◌≡◌, ℕ, zero, suc, ◌+◌, ◌<◌, List, [], ◌∷◌, ◌++◌, length, take, drop, slice_index, slice_index_or, Result, OnErr, Ok, Err, refl, sym, ◌∙◌, ap, subst, arith, rules, add-one}
+use Rattle.std.proofs.lemmas.List.{append_assoc, append-nil, take-append-le, length-append}
 use Rattle.std.proofs.Math.Seq.{take-append-add}
 use Rattle.plan_desk.specs.Desk.{Shown, ShowsSame, after_write}
 use Rattle.plan_desk.proofs.Appended.{write_more, write_none}

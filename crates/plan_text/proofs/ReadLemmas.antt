@@ -1,5 +1,5 @@
 -- The answer of the whole call.
-use Rattle.std.proofs.Common.{◌≡◌, ◌⊎◌, inl, inr, ℕ, List, Option, Result, Ok, Err, refl, sym, ◌∙◌, ap}
+use Rattle.std.proofs.Common.{◌≡◌, inl, ℕ, List, Option, Result, Ok, Err, ◌∙◌, ap}
 use Rattle.plan_text.specs.declared.fault.PlanFault.{PlanFault}
 use Rattle.plan_text.specs.Spelling.{IsPlan}
 use Rattle.plan_text.specs.FirstFault.{HasPlanFault, Answers}

@@ -1,16 +1,16 @@
 -- What is known after one more line.
-use Rattle.std.proofs.Common.{◌≡◌, ◌≢◌, ℕ, ◌+◌, ◌-◌, ◌<◌, ◌≤◌, ◌⊎◌, inl, inr, ⊎_elim, List, [], ◌∷◌, ◌++◌, length, take, drop, get_or, set, replicate, slice_index_or, Option, Some, None, true, refl, sym, ◌∙◌, ap, subst, arith, rules}
-use Rattle.std.specs.List.{All, AllPairs, Any, Contains}
+use Rattle.std.proofs.Common.{◌≡◌, ◌≢◌, ℕ, ◌+◌, ◌-◌, ◌<◌, ◌≤◌, ◌⊎◌, inl, inr, ⊎_elim, List, [], ◌∷◌, length, take, drop, get_or, replicate, slice_index_or, Option, Some, None, true, refl, sym, ◌∙◌, ap, subst, arith}
+use Rattle.std.specs.List.{AllPairs}
 use Rattle.std.specs.Option.{is_some}
 use Rattle.std.proofs.lemmas.Bool.{cases_lt, cases_eq}
-use Rattle.std.proofs.lemmas.List.{get_or-set_same, get_or-set_other, length-set, get_or-replicate, length-replicate, get_or_past, drop_all, length-drop, drop_more, take_all, get_or_default, get_or-take, length-take-le, nil_from_length}
+use Rattle.std.proofs.lemmas.List.{get_or-set_same, get_or-set_other, length-set, get_or-replicate, length-replicate, get_or_past, length-drop, drop_more, take_all, get_or_default, get_or-take, length-take-le, nil_from_length}
 use Rattle.std.proofs.lemmas.List.Elements.{Contains-get_or}
 use Rattle.plan_text.specs.declared.fault.PlanFault.{PlanFault}
 use Rattle.plan_text.specs.declared.fault.PlanFault.TheVariants.{BadLine, UnknownName, Twice, Memory}
-use Rattle.plan_text.specs.Spelling.{lines_of, AreBlanks, Gives, Names, NamesOneOf, NameTheSame, HasStarts, start_at, IsPlan}
-use Rattle.plan_text.specs.FirstFault.{IsBadLine, HasUnknownName, IsRepeated, IsNew, IsNamedIn, IsFaultless, AreFaultless, IsFirstAt, HasPlanFault}
-use Rattle.plan_text.specs.Steps.{GivesAt, SetsStart, Enters, IsTaken, Refuses, HasRead}
-use Rattle.plan_text.proofs.AnyLemmas.{any_take_more, any_take_here, any_take_cases, any_take_place}
+use Rattle.plan_text.specs.Spelling.{lines_of, AreBlanks, Gives, Names, NamesOneOf, HasStarts, start_at, IsPlan}
+use Rattle.plan_text.specs.FirstFault.{IsRepeated, IsNamedIn, IsFaultless, AreFaultless, IsFirstAt, HasPlanFault}
+use Rattle.plan_text.specs.Steps.{SetsStart, Enters, IsTaken, Refuses, HasRead}
+use Rattle.plan_text.proofs.AnyLemmas.{any_take_more, any_take_here, any_take_cases}
 use Rattle.plan_text.proofs.LawLemmas.{gives_once, names_once, blank_gives_nothing}
 
 -- the same name stands at one place

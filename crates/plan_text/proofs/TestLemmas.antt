@@ -1,9 +1,9 @@
 -- The tables of the tests' instance fit: two names, one period, and starts that pass its end.
-use Rattle.std.proofs.Common.{◌≡◌, ◌≢◌, ℕ, zero, suc, ◌++◌, map, ◌<◌, ◌≤◌, Bool, true, false, List, [], ◌∷◌, length, refl, sym, ◌∙◌, ap, subst, arith, rules, codes, slice_index_or}
+use Rattle.std.proofs.Common.{◌≡◌, ◌≢◌, ℕ, zero, suc, ◌++◌, map, ◌<◌, ◌≤◌, List, [], ◌∷◌, length, refl, ◌∙◌, ap, subst, arith, codes, slice_index_or}
 use Rattle.std.specs.List.{All, AllPairs}
 use Rattle.std.proofs.lemmas.List.Elements.{All-nil, All-cons}
 use Rattle.instance_model.specs.Naturals.{count_sum}
-use Rattle.instance_model.specs.Tables.{Tables, is_allowed, allowed_of, durations, tmax, delta_of, in_run, entries_at, entries_of, all_entries, scenarios_before, periods_before}
+use Rattle.instance_model.specs.Tables.{Tables, is_allowed, allowed_of, durations, tmax, delta_of, entries_at, entries_of, all_entries, scenarios_before, periods_before}
 use Rattle.instance_model.specs.Fitting.{IsFitting, AreNames, IsName, AreCells}
 
 abbrev pub test_tables : Tables

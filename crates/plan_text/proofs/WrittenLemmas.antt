@@ -1,16 +1,16 @@
 -- The text that is written for some starts spells them.
-use Rattle.std.proofs.Common.{◌≡◌, ◌≢◌, ℕ, zero, suc, ◌+◌, ◌-◌, ◌^◌, ◌<◌, ◌≤◌, ◌⊎◌, inl, inr, ⊎_elim, Bool, true, false, cond, eqb, List, [], ◌∷◌, ◌++◌, length, take, map, get_or, slice_index, slice_index_or, Option, Some, None, refl, sym, ◌∙◌, ap, subst, arith, rules, decimal}
-use Rattle.std.specs.List.{All, AllPairs, Any, Contains, flat_map, zip}
+use Rattle.std.proofs.Common.{◌≡◌, ◌≢◌, ℕ, zero, suc, ◌-◌, ◌^◌, ◌<◌, ◌≤◌, inr, ⊎_elim, List, [], ◌∷◌, ◌++◌, length, map, get_or, slice_index, slice_index_or, Option, Some, None, refl, sym, ◌∙◌, ap, subst, arith, decimal}
+use Rattle.std.specs.List.{All, AllPairs, zip}
 use Rattle.std.specs.Char.{digit_value}
 use Rattle.std.specs.Str.Lines.{strip_carriage_return}
-use Rattle.std.specs.Str.Parse.{AllDigits, IsNumeral, digits_value}
+use Rattle.std.specs.Str.Parse.{IsNumeral, digits_value}
 use Rattle.std.proofs.lemmas.Bool.{cases_lt}
 use Rattle.std.proofs.lemmas.Bool.Decides.{nat_tests}
 use Rattle.std.proofs.lemmas.Fmt.{decimal_is_IsNumeral, length-decimal-le}
 use Rattle.std.proofs.lemmas.List.{append_assoc, append-nil, nil_from_length, length-map, get_or-map, get_or_past, get_or_default}
-use Rattle.std.proofs.lemmas.List.Elements.{All-nil, All-cons, All-head, All-tail, All-append, All-weaker, All-get_or, Contains-get_or}
-use Rattle.instance_model.specs.Fitting.{AreNames, IsName}
-use Rattle.plan_text.specs.Spelling.{lines_of, AreBlanks, Gives, Names, NamesOneOf, NameTheSame, HasStarts, start_at, IsPlan, line_text, plan_text}
+use Rattle.std.proofs.lemmas.List.Elements.{All-nil, All-cons, All-head, All-tail, All-append, All-weaker, Contains-get_or}
+use Rattle.instance_model.specs.Fitting.{AreNames}
+use Rattle.plan_text.specs.Spelling.{lines_of, Gives, start_at, IsPlan, plan_text}
 use Rattle.plan_text.proofs.LineLemmas.{lines_of-more}
 use Rattle.plan_text.proofs.GiveLemmas.{IsDigit, digit_bytes, digits-each}
 use Rattle.plan_text.proofs.LawLemmas.{gives_once, names_once}

@@ -1,9 +1,9 @@
 -- Which fault a text has that spells no plan: that of its first line with one. Lines count from 1, and blank lines
 -- count too.
-use Rattle.std.specs.Prelude.{◌≡◌, ◌⊎◌, ℕ, ◌+◌, ◌-◌, ◌<◌, ◌≤◌, List, [], length, take, Any, Contains, slice_index_or, Result, Err}
+use Rattle.std.specs.Prelude.{◌≡◌, ◌⊎◌, ℕ, ◌-◌, ◌<◌, ◌≤◌, List, [], length, take, Any, Contains, slice_index_or, Result, Err}
 use Rattle.plan_text.specs.declared.fault.PlanFault.{PlanFault}
 use Rattle.plan_text.specs.declared.fault.PlanFault.TheVariants.{BadLine, UnknownName, Twice, Memory}
-use Rattle.plan_text.specs.Spelling.{lines_of, AreBlanks, Gives, Names}
+use Rattle.plan_text.specs.Spelling.{lines_of, AreBlanks, Names}
 
 -- one of the lines names the name
 abbrev pub IsNamedIn : List (List ℕ) → List ℕ → Type 0

@@ -1,4 +1,4 @@
-use Rattle.std.proofs.Common.{arith, ◌⊎◌, ◌≡◌, ◌<◌, ⊎_elim, inl, inr, length, rules}
+use Rattle.std.proofs.Common.{arith, inl, inr, rules}
 use Rattle.plan_text.proofs.GiveLemmas.{no_start, each-digits, joined_start}
 use Rattle.plan_text.proofs.line.start_of.Goals as goal
 use Rattle.plan_text.proofs.line.start_of.Goals.{then-is_empty-via-then-is_empty, then-is_empty-via-else-is_empty+then-digits-gt9, then-is_empty-via-else-is_empty+else-digits-gt9+then-not-is_blank}

@@ -1,7 +1,7 @@
-use Rattle.std.proofs.Common.{arith, ◌∙◌, ◌≡◌, ◌≤◌, sym, ap, subst, length, take}
+use Rattle.std.proofs.Common.{arith, ◌≡◌, ap, take}
 use Rattle.std.specs.Str.Parse.{digits_value}
 use Rattle.std.proofs.lemmas.List.{take_all}
-use Rattle.plan_text.proofs.GiveLemmas.{NextValue, next_value, digits_value-small}
+use Rattle.plan_text.proofs.GiveLemmas.{next_value, digits_value-small}
 use Rattle.plan_text.proofs.line.value_of.Goals as goal
 
 pub overflow_mul-value : goal.overflow_mul-value

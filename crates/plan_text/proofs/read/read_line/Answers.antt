@@ -1,4 +1,4 @@
-use Rattle.std.proofs.Common.{◌∙◌, ◌≡◌, sym, subst, refl, List, ℕ, length, arith}
+use Rattle.std.proofs.Common.{◌∙◌, sym, subst, refl, List, ℕ, arith}
 use Rattle.std.proofs.lemmas.Bool.{false≢true}
 use Rattle.plan_text.specs.Spelling.{Gives}
 use Rattle.plan_text.proofs.StepLemmas.{taken_at}

@@ -1,8 +1,8 @@
-use Rattle.std.proofs.Common.{◌∙◌, ◌≡◌, ◌+◌, sym, subst, ap, List, ℕ, length, arith, rules}
+use Rattle.std.proofs.Common.{◌∙◌, ◌+◌, sym, subst, List, ℕ, arith, rules}
 use Rattle.std.proofs.lemmas.Result.{err_from_is_err_and}
 use Rattle.plan_text.specs.Spelling.{lines_of}
 use Rattle.plan_text.specs.Steps.{Enters, Refuses}
-use Rattle.plan_text.proofs.StepLemmas.{NextLine, next_line, refused_first, read_more, nothing_left}
+use Rattle.plan_text.proofs.StepLemmas.{next_line, refused_first, read_more, nothing_left}
 use Rattle.plan_text.proofs.read.read_lines.Goals as goal
 
 pub returns-in_err-read_line-clause-err : goal.returns-in_err-read_line-clause-err

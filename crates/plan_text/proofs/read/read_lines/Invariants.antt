@@ -1,6 +1,4 @@
-use Rattle.std.proofs.Common.{◌≡◌, ◌+◌, ◌≤◌, length, drop}
-use Rattle.plan_text.specs.Spelling.{lines_of}
-use Rattle.plan_text.specs.Steps.{HasRead}
+use Rattle.std.proofs.Common.{length}
 use Rattle.plan_text.proofs.StepLemmas.{ReadSoFar}
 use Rattle.plan_text.proofs.read.read_lines.Given as goal
 

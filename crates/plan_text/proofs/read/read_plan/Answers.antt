@@ -2,7 +2,6 @@ use Rattle.std.proofs.Common.{◌∙◌, sym, ap, subst, refl, Err}
 use Rattle.std.proofs.lemmas.Result.{err_from_is_err_and}
 use Rattle.plan_text.specs.declared.fault.PlanFault.{PlanFault}
 use Rattle.plan_text.specs.Spelling.{IsPlan}
-use Rattle.plan_text.specs.FirstFault.{HasPlanFault}
 use Rattle.plan_text.proofs.ReadLemmas.{read_complete, read_refuses, fault_complete, fault_refuses}
 use Rattle.plan_text.proofs.read.read_plan.Goals as goal
 

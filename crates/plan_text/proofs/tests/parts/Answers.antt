@@ -1,4 +1,4 @@
-use Rattle.std.proofs.Common.{◌≡◌, ◌∙◌, [], ◌∷◌, List, ℕ, ap, sym, map, rules, string_bytes}
+use Rattle.std.proofs.Common.{◌≡◌, ◌∙◌, [], ◌∷◌, ap, sym, map, rules, string_bytes}
 use Rattle.std.proofs.lemmas.List.{nil_from_length}
 use Rattle.plan_text.proofs.TestLemmas.{fits_where, two_pushed}
 use Rattle.plan_text.proofs.tests.parts.Goals as goal
