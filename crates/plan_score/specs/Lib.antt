@@ -1,0 +1,3 @@
+pub mod Values
+pub mod Verdict
+pub mod Periods

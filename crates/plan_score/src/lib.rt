@@ -1,0 +1,22 @@
+//! The verdict on a plan, from scratch: the first broken rule, or the values of a plan that breaks none.
+//!
+//! A contract sees a plan as a list with one start or none for each intervention, in file order. Periods, starts and
+//! scenarios count from 1; interventions, resources and exclusions count from 0.
+#![tactic(auto)]
+
+mod bands;
+mod enclosure;
+mod exclusions;
+mod laws;
+mod period;
+mod progress;
+mod rank;
+mod starts;
+mod values;
+mod verdict;
+
+pub use instance_model::Rule;
+pub use laws::printed_values_enclose;
+pub use starts::broken_start;
+pub use values::Values;
+pub use verdict::{judge, Verdict};

@@ -1,0 +1,160 @@
+ghost use Rattle.std.specs.Prelude.{◌≡◌, ℕ, ◌+◌, ◌-◌, ◌*◌, ◌<◌, ◌≤◌, ℤ, pos, ◌+ℤ◌, ◌-ℤ◌, ◌*ℤ◌, length, IfOk, OnOk, IfSome, IsTrue, unsigned_abs, All, slice_index_or};
+ghost use Rattle.std.specs.Int.{int_max};
+ghost use Rattle.fixed_num.specs.Sums.{total, list_of};
+ghost use Rattle.instance_model.specs.Tables.{scenarios_of, risk_of, is_allowed, in_run};
+ghost use Rattle.instance_model.specs.Plans.{start_of, soft_at, soft_count, scenario_sums, RunsAreAllowed, IsSmallSum};
+ghost use Rattle.plan_score.specs.Periods.{sums_before, IsPeriod};
+
+use crate::progress::is_in_progress;
+use crate::rank::sum_at_rank;
+use fixed_num::Steps;
+use instance_model::Instance;
+use std::alloc::AllocError;
+use std::sync::ledger::Ledger;
+
+/// What the scenario sums of a period come to.
+#[derive(Drop)]
+pub(crate) struct Period {
+    /// The sum of the scenario sums.
+    pub(crate) total: i128,
+    /// How far n times the quantile is above it, or 0.
+    pub(crate) excess: i128,
+    /// The two weighted, times n.
+    pub(crate) numerator: i128,
+    /// How many interventions are in progress at a start that is soft in the period.
+    pub(crate) soft: u32,
+}
+
+/// Adds the risks of intervention `i` at start `s` in period `t` to the scenario sums.
+fn add_risks<L: Ledger>(inst: &Instance, i: u32, s: u32, t: u32, sums: &mut [i128], steps: &mut Steps<L>)
+    requires number { i < length inst.now.names }
+    requires allowed { IsTrue (is_allowed inst.now i s) }
+    requires running { IsTrue (in_run inst.now i s t) }
+    requires from { 1 ≤ t }
+    requires to { t ≤ inst.now.periods }
+    requires each { length sums.old ≡ scenarios_of inst.now t }
+    requires room { All IsSmallSum sums.old }
+    ensures { sums.new ≡ list_of (scenarios_of inst.now t) (λ k. slice_index_or sums.old k (pos 0) +ℤ risk_of inst.now i s t (k + 1)) }
+{
+    for k in 0..inst.scenarios(t) {
+        sums[k as usize] += inst.risk_cell(i, s, t, k + 1, steps).count();
+    }
+}
+
+/// Adds intervention `i` to the scenario sums of those before it: 1 where its start is soft in the period, and else 0.
+fn add_run<L: Ledger>(inst: &Instance, plan: &[Option<u32>], t: u32, i: u32, sums: &mut [i128], steps: &mut Steps<L>) -> u32
+    requires each { length plan.now ≡ length inst.now.names }
+    requires allowed { RunsAreAllowed inst.now plan.now }
+    requires from { 1 ≤ t }
+    requires to { t ≤ inst.now.periods }
+    requires number { i < length inst.now.names }
+    requires before { sums.old ≡ sums_before inst.now plan.now t i }
+    ensures after { sums.new ≡ sums_before inst.now plan.now t (i + 1) }
+    ensures soft { result ≡ soft_at inst.now t i (start_of plan.now i) }
+    ensures small { result ≤ 1 }
+{
+    inst.fits();
+    let Some(s) = plan[i as usize] else {
+        return 0;
+    };
+    if !is_in_progress(inst, i, s, t) {
+        return 0;
+    }
+    add_risks(inst, i, s, t, sums, steps);
+    if inst.soft(i, s, t) { 1 } else { 0 }
+}
+
+/// Makes the sums `n` zeros, in the room that they have.
+fn reset(sums: &mut Vec<i128>, n: u32) -> Result<(), AllocError>
+    ensures { OnOk result (sums.new.items ≡ list_of n (λ k. pos 0)) }
+{
+    sums.clear();
+    for k in 0..n {
+        sums.push(0)?;
+    }
+    Ok(())
+}
+
+/// Makes the sums the scenario sums of period `t`: the number of interventions in progress at a start that is soft there.
+fn sum_scenarios<L: Ledger>(
+    inst: &Instance,
+    plan: &[Option<u32>],
+    t: u32,
+    sums: &mut Vec<i128>,
+    steps: &mut Steps<L>,
+) -> Result<u32, AllocError>
+    requires each { length plan.now ≡ length inst.now.names }
+    requires allowed { RunsAreAllowed inst.now plan.now }
+    requires from { 1 ≤ t }
+    requires to { t ≤ inst.now.periods }
+    ensures sums { OnOk result (sums.new.items ≡ scenario_sums inst.now plan.now t) }
+    ensures soft { IfOk result (λ soft. soft ≡ soft_count inst.now plan.now t) }
+    ensures few { IfOk result (λ soft. soft ≤ 1024) }
+{
+    reset(sums, inst.scenarios(t))?;
+    let mut soft = 0;
+    for i in 0..inst.interventions() {
+        soft += add_run(inst, plan, t, i, sums.as_mut_slice(), steps);
+    }
+    Ok(soft)
+}
+
+/// The sum of a period's scenario sums.
+fn total_of(sums: &[i128]) -> i128
+    requires few { length sums.now ≤ 1024 }
+    requires small { All IsSmallSum sums.now }
+    ensures value { result ≡ total sums.now }
+    ensures small { unsigned_abs result ≤ 104_857_600_000_000_000_000_000_000 }
+{
+    let mut sum: i128 = 0;
+    for one in sums {
+        sum += *one;
+    }
+    sum
+}
+
+/// How far `n` times the quantile is above the sum of the scenario sums, or 0.
+fn excess_above(n: u32, quantile: i128, sum: i128) -> i128
+    requires few { n ≤ 1024 }
+    requires quantile { IsSmallSum quantile }
+    requires sum { unsigned_abs sum ≤ 104_857_600_000_000_000_000_000_000 }
+    ensures value { result ≡ int_max (pos 0) (pos n *ℤ quantile -ℤ sum) }
+    ensures small { unsigned_abs result ≤ 209_715_200_000_000_000_000_000_000 }
+{
+    let above = n as i128 * quantile - sum;
+    if above > 0 { above } else { 0 }
+}
+
+/// The total weighted by `alpha` in millionths, and the excess by the rest.
+fn weigh(alpha: u32, sum: i128, excess: i128) -> i128
+    requires alpha { alpha ≤ 1_000_000 }
+    requires sum { unsigned_abs sum ≤ 104_857_600_000_000_000_000_000_000 }
+    requires excess { unsigned_abs excess ≤ 209_715_200_000_000_000_000_000_000 }
+    ensures value { result ≡ (pos alpha *ℤ sum) +ℤ (pos (1_000_000 - alpha) *ℤ excess) }
+    ensures small { unsigned_abs result ≤ 314_572_800_000_000_000_000_000_000_000_000 }
+{
+    alpha as i128 * sum + (1_000_000 - alpha) as i128 * excess
+}
+
+/// What the scenario sums of period `t` come to. They are built in `sums`, which is left in ascending order.
+pub(crate) fn period_of<L: Ledger>(
+    inst: &Instance,
+    plan: &[Option<u32>],
+    t: u32,
+    sums: &mut Vec<i128>,
+    steps: &mut Steps<L>,
+) -> Result<Period, AllocError>
+    requires each { length plan.now ≡ length inst.now.names }
+    requires allowed { RunsAreAllowed inst.now plan.now }
+    requires from { 1 ≤ t }
+    requires to { t ≤ inst.now.periods }
+    ensures { IfOk result (IsPeriod inst.now plan.now t) }
+{
+    inst.fits();
+    let soft = sum_scenarios(inst, plan, t, sums, steps)?;
+    let total = total_of(sums.as_slice());
+    let quantile = sum_at_rank(sums, inst.rank(t));
+    let excess = excess_above(inst.scenarios(t), quantile, total);
+    let numerator = weigh(inst.alpha(), total, excess);
+    Ok(Period { total, excess, numerator, soft })
+}

@@ -1,0 +1,51 @@
+ghost use Rattle.std.specs.Prelude.{◌≡◌, length, IfOk};
+ghost use Rattle.instance_model.specs.Rules.{first_rule};
+ghost use Rattle.plan_score.specs.Values.{values_of};
+ghost use Rattle.plan_score.specs.Verdict.{IfFeasible, IfBroken};
+
+use crate::bands::broken_band;
+use crate::exclusions::broken_exclusion;
+use crate::starts::broken_start;
+use crate::values::{values_on, Values};
+use instance_model::{Instance, Rule};
+use std::alloc::{AllocError, Global};
+use std::marker::Brand;
+use std::sync::ledger::Blank;
+
+/// The values of a plan that breaks no rule, or the first rule that it breaks.
+#[derive(Clone, Copy, Debug, PartialEq, Eq)]
+pub enum Verdict {
+    Feasible(Values),
+    Broken(Rule),
+}
+
+/// The first broken rule: starts, then bands, then exclusions.
+fn broken_rule(inst: &Instance, plan: &[Option<u32>]) -> Option<Rule>
+    requires { length plan.now ≡ length inst.now.names }
+    ensures { result ≡ first_rule inst.now plan.now }
+{
+    if let Some(rule) = broken_start(inst, plan) {
+        return Some(rule);
+    }
+    if let Some(rule) = broken_band(inst, plan) {
+        return Some(rule);
+    }
+    broken_exclusion(inst, plan)
+}
+
+/// The verdict on a plan, from scratch: one of the two, so each comes exactly where its clause says.
+///
+/// Reads each load and each risk of the plan's runs once, and none of other starts. Takes memory for the scenario sums
+/// of one period.
+pub fn judge(alloc: Global, inst: &Instance, plan: &[Option<u32>]) -> Result<Verdict, AllocError>
+    requires { length plan.now ≡ length inst.now.names }
+    ensures broken { IfOk result (λ verdict. IfBroken verdict (λ rule. first_rule inst.now plan.now ≡ Some rule)) }
+    ensures feasible { IfOk result (λ verdict. IfFeasible verdict (λ values. first_rule inst.now plan.now ≡ None)) }
+    ensures values { IfOk result (λ verdict. IfFeasible verdict (λ values. values ≡ values_of inst.now plan.now)) }
+{
+    if let Some(rule) = broken_rule(inst, plan) {
+        return Ok(Verdict::Broken(rule));
+    }
+    let values = values_on::<Brand>(alloc, inst, plan, Blank::new(1))?;
+    Ok(Verdict::Feasible(values))
+}
