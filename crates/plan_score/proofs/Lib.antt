@@ -1,5 +1,5 @@
 pub mod BandLemmas
+pub mod EnclosureLemmas
 pub mod ClashLemmas
 pub mod PeriodLemmas
 pub mod TotalLemmas
-pub mod NearLemmas

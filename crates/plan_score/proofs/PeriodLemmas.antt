@@ -1,7 +1,8 @@
 -- What the calls over a period make.
-use Rattle.std.proofs.Common.{◌≡◌, ℕ, ◌+◌, ◌-◌, ◌*◌, ◌<◌, ◌≤◌, ◌^◌, refl, sym, ◌∙◌, ap, subst, arith, ℤ, pos, ◌+ℤ◌, ◌-ℤ◌, ◌*ℤ◌, List, Option, Some, None, length, get_or, All, unsigned_abs, to_z, of_z, Bool, true, false, cond, IsTrue, zero, suc}
+use Rattle.std.proofs.Common.{◌≡◌, ℕ, ◌+◌, ◌-◌, ◌*◌, ◌<◌, ◌≤◌, ◌^◌, refl, sym, ◌∙◌, ap, subst, arith, ℤ, pos, ◌+ℤ◌, ◌-ℤ◌, ◌*ℤ◌, List, Option, Some, None, length, get_or, All, unsigned_abs, to_z, of_z, Bool, true, false, cond, IsTrue, take, drop, ◌++◌}
 use Rattle.std.specs.Int.{w128, int_max}
 use Rattle.std.proofs.lemmas.List.{ext_get_or}
+use Rattle.std.proofs.Math.Seq.{take-append_seam}
 use Rattle.std.proofs.lemmas.List.Elements.{All-from_get_or, All-map}
 use Rattle.std.proofs.lemmas.List.FromFn.{length-map-range_with_len, get_or-map-range_with_len}
 use Rattle.fixed_num.specs.Sums.{sum_below, total, list_of}
@@ -28,10 +29,10 @@ pub list_of-from : (n : ℕ) (f : ℕ → ℤ) (xs : List ℤ) → length xs ≡
 list_of-from n f xs each h =
     ext_get_or (pos 0) xs (list_of n f) (each ∙ sym (length-map-range_with_len f 0 n)) (λ k l.
       let low : k < n = omega (arith, each, l) in
-      h k low ∙ sym (get_or-map-range_with_len f 0 n k k (pos 0) low refl))
+      h k low ∙ sym (get_or-map-range_with_len f 0 n k k (pos 0) low (omega arith)))
 
 pub get_or-list_of : (n : ℕ) (f : ℕ → ℤ) (k : ℕ) → k < n → get_or (list_of n f) k (pos 0) ≡ f k
-get_or-list_of n f k l = get_or-map-range_with_len f 0 n k k (pos 0) l refl
+get_or-list_of n f k l = get_or-map-range_with_len f 0 n k k (pos 0) l (omega arith)
 
 pub length-list_of : (n : ℕ) (f : ℕ → ℤ) → length (list_of n f) ≡ n
 length-list_of n f = length-map-range_with_len f 0 n
@@ -135,3 +136,8 @@ IsPeriod-made inst plan t n r a g xs ys sum q e w y x en er ea es eq ee ew sq ss
       numerator_small = rw bw sw;
       soft_small = sg;
     }
+
+-- ---- a slice that is written back
+
+pub written_back : (xs ys : List ℤ) (n : ℕ) → length ys ≡ n → take n (ys ++ drop (length ys) xs) ≡ ys
+written_back xs ys n e = rw (sym e) (take-append_seam ys (drop (length ys) xs))

@@ -1,5 +1,5 @@
 -- What the walk over the periods has so far. Cited by private functions only: no part of any promise.
-use Rattle.std.specs.Prelude.{◌≡◌, ℕ, ◌+◌, ◌-◌, ◌*◌, ◌≤◌, ℤ, pos, ◌+ℤ◌, ◌-ℤ◌, List, Option, unsigned_abs}
+use Rattle.std.specs.Prelude.{◌≡◌, ℕ, ◌+◌, ◌-◌, ◌*◌, ◌≤◌, ◌^◌, ℤ, pos, ◌+ℤ◌, ◌-ℤ◌, List, Option, unsigned_abs}
 use Rattle.std.specs.Int.{int_max}
 use Rattle.fixed_num.specs.Floors.{floor_of, ceil_of}
 use Rattle.fixed_num.specs.Sums.{sum_below, list_of}
@@ -21,17 +21,17 @@ pub record IsPeriod (inst : Tables) (plan : List (Option ℕ)) (t : ℕ) (p : Pe
   pub excess : p.excess ≡ excess_of inst plan t
   pub numerator : p.numerator ≡ numerator_of inst plan t
   pub soft : p.soft ≡ soft_count inst plan t
-  pub total_small : unsigned_abs p.total ≤ 104_857_600_000_000_000_000_000_000
-  pub excess_small : unsigned_abs p.excess ≤ 209_715_200_000_000_000_000_000_000
-  pub numerator_small : unsigned_abs p.numerator ≤ 314_572_800_000_000_000_000_000_000_000_000
+  pub total_small : unsigned_abs p.total ≤ 1024 * 1024 * 10 ^ 20
+  pub excess_small : unsigned_abs p.excess ≤ 2 * 1024 * 1024 * 10 ^ 20
+  pub numerator_small : unsigned_abs p.numerator ≤ 3 * 1024 * 1024 * 10 ^ 26
   pub soft_small : p.soft ≤ 1024
 
 -- e has the sums of f and g over the first u periods, none above 10^33 a period
 pub record AreSumsTo (f g : ℕ → ℤ) (u : ℕ) (e : Enclosure) : Type 0 where
   pub low : e.low ≡ sum_below u f
   pub high : e.high ≡ sum_below u g
-  pub low_small : unsigned_abs e.low ≤ u * 1_000_000_000_000_000_000_000_000_000_000_000
-  pub high_small : unsigned_abs e.high ≤ u * 1_000_000_000_000_000_000_000_000_000_000_000
+  pub low_small : unsigned_abs e.low ≤ u * 10 ^ 33
+  pub high_small : unsigned_abs e.high ≤ u * 10 ^ 33
 
 -- f(t) / n rounded down, and rounded up, for the period after u
 abbrev pub floor_at : Tables → (ℕ → ℤ) → ℕ → ℤ

@@ -1,4 +1,4 @@
-ghost use Rattle.std.specs.Prelude.{◌≡◌, ℕ, ◌+◌, ◌<◌, ◌≤◌, length, IfSome, IsTrue, unsigned_abs};
+ghost use Rattle.std.specs.Prelude.{◌≡◌, ℕ, ◌+◌, ◌*◌, ◌^◌, ◌<◌, ◌≤◌, length, IfSome, IsTrue, unsigned_abs};
 ghost use Rattle.instance_model.specs.Tables.{is_allowed};
 ghost use Rattle.instance_model.specs.Plans.{load_at, load_sum, RunsAreAllowed};
 ghost use Rattle.instance_model.specs.Rules.{first_of, band_rule_at, first_band_rule};
@@ -13,7 +13,7 @@ fn load_part(inst: &Instance, c: u32, t: u32, i: u32, start: Option<u32>) -> i12
     requires resource { c < length inst.now.resource_names }
     requires allowed { IfSome start (λ s. IsTrue (is_allowed inst.now i s)) }
     ensures value { result ≡ load_at inst.now c t i start }
-    ensures small { unsigned_abs result ≤ 100_000_000_000_000_000_000 }
+    ensures small { unsigned_abs result ≤ 10 ^ 20 }
 {
     let Some(s) = start else {
         return 0;
@@ -30,7 +30,7 @@ fn load_of_plan(inst: &Instance, plan: &[Option<u32>], c: u32, t: u32) -> i128
     requires allowed { RunsAreAllowed inst.now plan.now }
     requires resource { c < length inst.now.resource_names }
     ensures value { result ≡ load_sum inst.now plan.now c t }
-    ensures small { unsigned_abs result ≤ 102_400_000_000_000_000_000_000 }
+    ensures small { unsigned_abs result ≤ 1024 * 10 ^ 20 }
 {
     let mut load: i128 = 0;
     for i in 0..inst.interventions() {

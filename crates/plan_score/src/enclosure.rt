@@ -39,9 +39,8 @@ impl Enclosure {
         ensures low_small { unsigned_abs self.new.low ≤ unsigned_abs self.old.low + 10 ^ 33 }
         ensures high_small { unsigned_abs self.new.high ≤ unsigned_abs self.old.high + 10 ^ 33 }
     {
-        let low = floor_div(value, n as i128) - margin as i128;
-        self.low += low.max(0);
-        self.high += ceil_div(value, n as i128) + margin as i128;
+        self.low += floor_above_zero(value, n, margin);
+        self.high += ceil_and_more(value, n, margin);
     }
 
     /// The sums, made less and more by a margin, as shares of `by`, rounded down and up.
@@ -59,4 +58,27 @@ impl Enclosure {
         let high = self.high + margin as i128;
         (floor_div(low, by as i128), ceil_div(high, by as i128))
     }
+}
+
+/// `value / n` rounded down and less a margin, but not below 0.
+fn floor_above_zero(value: i128, n: u32, margin: u32) -> i128
+    requires some { 1 ≤ n }
+    requires few { margin ≤ 1024 }
+    requires value { unsigned_abs value ≤ 10 ^ 32 }
+    ensures value { result ≡ int_max (pos 0) (floor_of value n -ℤ pos margin) }
+    ensures small { unsigned_abs result ≤ 10 ^ 33 }
+{
+    let low = floor_div(value, n as i128) - margin as i128;
+    0_i128.max(low)
+}
+
+/// `value / n` rounded up and more by a margin.
+fn ceil_and_more(value: i128, n: u32, margin: u32) -> i128
+    requires some { 1 ≤ n }
+    requires few { margin ≤ 1024 }
+    requires value { unsigned_abs value ≤ 10 ^ 32 }
+    ensures value { result ≡ ceil_of value n +ℤ pos margin }
+    ensures small { unsigned_abs result ≤ 10 ^ 33 }
+{
+    ceil_div(value, n as i128) + margin as i128
 }

@@ -7,7 +7,6 @@
 mod bands;
 mod enclosure;
 mod exclusions;
-mod laws;
 mod period;
 mod progress;
 mod rank;
@@ -16,7 +15,6 @@ mod values;
 mod verdict;
 
 pub use instance_model::Rule;
-pub use laws::printed_values_enclose;
 pub use starts::broken_start;
 pub use values::Values;
 pub use verdict::{judge, Verdict};

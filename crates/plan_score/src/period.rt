@@ -1,4 +1,4 @@
-ghost use Rattle.std.specs.Prelude.{◌≡◌, ℕ, ◌+◌, ◌-◌, ◌*◌, ◌<◌, ◌≤◌, ℤ, pos, ◌+ℤ◌, ◌-ℤ◌, ◌*ℤ◌, length, IfOk, OnOk, IfSome, IsTrue, unsigned_abs, All, slice_index_or};
+ghost use Rattle.std.specs.Prelude.{◌≡◌, ℕ, ◌+◌, ◌-◌, ◌*◌, ◌<◌, ◌≤◌, ◌^◌, ℤ, pos, ◌+ℤ◌, ◌-ℤ◌, ◌*ℤ◌, length, IfOk, OnOk, IfSome, IsTrue, unsigned_abs, All, slice_index_or};
 ghost use Rattle.std.specs.Int.{int_max};
 ghost use Rattle.fixed_num.specs.Sums.{total, list_of};
 ghost use Rattle.instance_model.specs.Tables.{scenarios_of, risk_of, is_allowed, in_run};
@@ -104,7 +104,7 @@ fn total_of(sums: &[i128]) -> i128
     requires few { length sums.now ≤ 1024 }
     requires small { All IsSmallSum sums.now }
     ensures value { result ≡ total sums.now }
-    ensures small { unsigned_abs result ≤ 104_857_600_000_000_000_000_000_000 }
+    ensures small { unsigned_abs result ≤ 1024 * 1024 * 10 ^ 20 }
 {
     let mut sum: i128 = 0;
     for one in sums {
@@ -117,9 +117,9 @@ fn total_of(sums: &[i128]) -> i128
 fn excess_above(n: u32, quantile: i128, sum: i128) -> i128
     requires few { n ≤ 1024 }
     requires quantile { IsSmallSum quantile }
-    requires sum { unsigned_abs sum ≤ 104_857_600_000_000_000_000_000_000 }
+    requires sum { unsigned_abs sum ≤ 1024 * 1024 * 10 ^ 20 }
     ensures value { result ≡ int_max (pos 0) (pos n *ℤ quantile -ℤ sum) }
-    ensures small { unsigned_abs result ≤ 209_715_200_000_000_000_000_000_000 }
+    ensures small { unsigned_abs result ≤ 2 * 1024 * 1024 * 10 ^ 20 }
 {
     let above = n as i128 * quantile - sum;
     if above > 0 { above } else { 0 }
@@ -128,10 +128,10 @@ fn excess_above(n: u32, quantile: i128, sum: i128) -> i128
 /// The total weighted by `alpha` in millionths, and the excess by the rest.
 fn weigh(alpha: u32, sum: i128, excess: i128) -> i128
     requires alpha { alpha ≤ 1_000_000 }
-    requires sum { unsigned_abs sum ≤ 104_857_600_000_000_000_000_000_000 }
-    requires excess { unsigned_abs excess ≤ 209_715_200_000_000_000_000_000_000 }
+    requires sum { unsigned_abs sum ≤ 1024 * 1024 * 10 ^ 20 }
+    requires excess { unsigned_abs excess ≤ 2 * 1024 * 1024 * 10 ^ 20 }
     ensures value { result ≡ (pos alpha *ℤ sum) +ℤ (pos (1_000_000 - alpha) *ℤ excess) }
-    ensures small { unsigned_abs result ≤ 314_572_800_000_000_000_000_000_000_000_000 }
+    ensures small { unsigned_abs result ≤ 3 * 1024 * 1024 * 10 ^ 26 }
 {
     alpha as i128 * sum + (1_000_000 - alpha) as i128 * excess
 }

@@ -1,4 +1,5 @@
-ghost use Rattle.std.specs.Prelude.{◌≡◌, length, IfOk};
+ghost use Rattle.std.specs.Prelude.{◌≡◌, ℕ, ℤ, List, length, IfOk};
+ghost use Rattle.instance_model.specs.Exact.{IsReading, EnclosesReading};
 ghost use Rattle.instance_model.specs.Rules.{first_rule};
 ghost use Rattle.plan_score.specs.Values.{values_of};
 ghost use Rattle.plan_score.specs.Verdict.{IfFeasible, IfBroken};
@@ -42,10 +43,15 @@ pub fn judge(alloc: Global, inst: &Instance, plan: &[Option<u32>]) -> Result<Ver
     ensures broken { IfOk result (λ verdict. IfBroken verdict (λ rule. first_rule inst.now plan.now ≡ Some rule)) }
     ensures feasible { IfOk result (λ verdict. IfFeasible verdict (λ values. first_rule inst.now plan.now ≡ None)) }
     ensures values { IfOk result (λ verdict. IfFeasible verdict (λ values. values ≡ values_of inst.now plan.now)) }
+
+    // The numbers of the file, of which f make one count, are such a reading: the kept counts may be rounded from them.
+    ensures encloses { IfOk result (λ verdict. IfFeasible verdict (λ values. (f : ℕ) (numbers : List ℤ) →
+        IsReading inst.now f numbers → EnclosesReading inst.now plan.now f numbers)) }
 {
     if let Some(rule) = broken_rule(inst, plan) {
         return Ok(Verdict::Broken(rule));
     }
+    inst.printed_values_enclose();
     let values = values_on::<Brand>(alloc, inst, plan, Blank::new(1))?;
     Ok(Verdict::Feasible(values))
 }
