@@ -7,10 +7,7 @@ use Rattle.instance_model.specs.declared.rule.Rule.TheVariants.{Over, Under}
 use Rattle.instance_model.specs.Tables.{Tables, upper_of, lower_of}
 use Rattle.instance_model.specs.Plans.{load_sum}
 use Rattle.instance_model.specs.Rules.{band_rule_at}
-
--- a number as the code hands it on: by its bits
-abbrev pub by_bits : ℤ → ℤ
-by_bits z = to_z w128 (of_z w128 z)
+use Rattle.plan_score.proofs.Bits.{by_bits}
 
 -- what the code has read: the load and the limits
 pub record AreLoadAndLimits (inst : Tables) (plan : List (Option ℕ)) (c t : ℕ) (load upper lower : ℤ) : Type 0 where

@@ -50,8 +50,8 @@ clash_found inst plan e t x first second ex f s within m =
     let d : t - 1 + 1 ≡ t = omega (arith, p) in
     let here : clashes inst plan e t ≡ true = clash inst plan e t x first second ex f s m.one in
     sym (first_of_ends (t - 1) inst.periods (λ u. if clashes inst plan e (u + 1) then Some (Clash e (u + 1)) else None) (Clash e t) (omega (arith, p))
-      (first_of-all_none (t - 1) (λ u. if clashes inst plan e (u + 1) then Some (Clash e (u + 1)) else None) (λ u l. let n : clashes inst plan e (u + 1) ≡ false = no_clash inst plan e (u + 1) x first second ex f s (m.least (u + 1) (omega (arith, l))) in rw n refl))
-      (rw (d, here) refl))
+    (first_of-all_none (t - 1) (λ u. if clashes inst plan e (u + 1) then Some (Clash e (u + 1)) else None) (λ u l. let n : clashes inst plan e (u + 1) ≡ false = no_clash inst plan e (u + 1) x first second ex f s (m.least (u + 1) (omega (arith, l))) in rw n refl))
+    (rw (d, here) refl))
 
 pub clash_missing : (inst : Tables) (plan : List (Option ℕ)) (e : ℕ) (x : Exclusion) (first second : Window) → x ≡ exclusion_of inst e → IsWindowOf inst plan x.first first → IsWindowOf inst plan x.second second → ((t : ℕ) → ¬ IsMeeting inst x.season first second t) → None ≡ clash_rule_at inst plan e
 unfolding clash_rule_at
@@ -63,10 +63,10 @@ pub first_idle : (inst : Tables) (plan : List (Option ℕ)) (e : ℕ) (x : Exclu
 unfolding clash_rule_at clashes
 first_idle inst plan e x ex h =
     sym (first_of-all_none inst.periods (λ u. if clashes inst plan e (u + 1) then Some (Clash e (u + 1)) else None) (λ u l.
-      let n : (in_season_of inst (exclusion_of inst e).season (u + 1) && runs_at inst (exclusion_of inst e).first (u + 1) (start_of plan (exclusion_of inst e).first) && runs_at inst (exclusion_of inst e).second (u + 1) (start_of plan (exclusion_of inst e).second)) ≡ false = rw (sym ex) (first_false (in_season_of inst x.season (u + 1)) (runs_at inst x.first (u + 1) (start_of plan x.first)) (runs_at inst x.second (u + 1) (start_of plan x.second)) (rw h refl)) in rw n refl))
+    let n : (in_season_of inst (exclusion_of inst e).season (u + 1) && runs_at inst (exclusion_of inst e).first (u + 1) (start_of plan (exclusion_of inst e).first) && runs_at inst (exclusion_of inst e).second (u + 1) (start_of plan (exclusion_of inst e).second)) ≡ false = rw (sym ex) (first_false (in_season_of inst x.season (u + 1)) (runs_at inst x.first (u + 1) (start_of plan x.first)) (runs_at inst x.second (u + 1) (start_of plan x.second)) (rw h refl)) in rw n refl))
 
 pub second_idle : (inst : Tables) (plan : List (Option ℕ)) (e : ℕ) (x : Exclusion) → x ≡ exclusion_of inst e → start_of plan x.second ≡ None → None ≡ clash_rule_at inst plan e
 unfolding clash_rule_at clashes
 second_idle inst plan e x ex h =
     sym (first_of-all_none inst.periods (λ u. if clashes inst plan e (u + 1) then Some (Clash e (u + 1)) else None) (λ u l.
-      let n : (in_season_of inst (exclusion_of inst e).season (u + 1) && runs_at inst (exclusion_of inst e).first (u + 1) (start_of plan (exclusion_of inst e).first) && runs_at inst (exclusion_of inst e).second (u + 1) (start_of plan (exclusion_of inst e).second)) ≡ false = rw (sym ex) (second_false (in_season_of inst x.season (u + 1)) (runs_at inst x.first (u + 1) (start_of plan x.first)) (runs_at inst x.second (u + 1) (start_of plan x.second)) (rw h refl)) in rw n refl))
+    let n : (in_season_of inst (exclusion_of inst e).season (u + 1) && runs_at inst (exclusion_of inst e).first (u + 1) (start_of plan (exclusion_of inst e).first) && runs_at inst (exclusion_of inst e).second (u + 1) (start_of plan (exclusion_of inst e).second)) ≡ false = rw (sym ex) (second_false (in_season_of inst x.season (u + 1)) (runs_at inst x.first (u + 1) (start_of plan x.first)) (runs_at inst x.second (u + 1) (start_of plan x.second)) (rw h refl)) in rw n refl))

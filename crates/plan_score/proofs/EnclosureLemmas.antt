@@ -5,9 +5,7 @@ use Rattle.std.proofs.lemmas.Int.{to_z_pos}
 use Rattle.fixed_num.specs.Floors.{floor_of, ceil_of, floor_quotient, ceil_quotient}
 use Rattle.fixed_num.proofs.SignedLemmas.{back_from_abs, signed_arith}
 use Rattle.fixed_num.proofs.SumLemmas.{added, abs-sum}
-
-abbrev pub by_bits : ℤ → ℤ
-by_bits z = to_z w128 (of_z w128 z)
+use Rattle.plan_score.proofs.Bits.{by_bits}
 
 -- a quotient, rounded down and up
 pub floor_is : (q v : ℤ) (n : ℕ) → n < 2 ^ 64 → unsigned_abs v ≤ 10 ^ 37 → q ≡ floor_quotient (by_bits v) (to_z w128 n) → q ≡ floor_of v n

@@ -1,3 +1,4 @@
+pub mod Bits
 pub mod BandLemmas
 pub mod EnclosureLemmas
 pub mod ClashLemmas

@@ -17,10 +17,7 @@ use Rattle.instance_model.specs.Values.{excess_in, numerator_in, risk_total, exc
 use Rattle.instance_model.proofs.PlanLemmas.{length-scenario_sums, risk_at_small}
 use Rattle.plan_score.specs.declared.period.Period.{Period}
 use Rattle.plan_score.specs.Periods.{sums_before, IsPeriod}
-
--- a number as a call is handed it: by its bits
-abbrev pub by_bits : ℤ → ℤ
-by_bits z = to_z w128 (of_z w128 z)
+use Rattle.plan_score.proofs.Bits.{by_bits}
 
 -- ---- lists by number
 
@@ -28,8 +25,8 @@ by_bits z = to_z w128 (of_z w128 z)
 pub list_of-from : (n : ℕ) (f : ℕ → ℤ) (xs : List ℤ) → length xs ≡ n → ((k : ℕ) → k < n → get_or xs k (pos 0) ≡ f k) → xs ≡ list_of n f
 list_of-from n f xs each h =
     ext_get_or (pos 0) xs (list_of n f) (each ∙ sym (length-map-range_with_len f 0 n)) (λ k l.
-      let low : k < n = omega (arith, each, l) in
-      h k low ∙ sym (get_or-map-range_with_len f 0 n k k (pos 0) low (omega arith)))
+    let low : k < n = omega (arith, each, l) in
+    h k low ∙ sym (get_or-map-range_with_len f 0 n k k (pos 0) low (omega arith)))
 
 pub get_or-list_of : (n : ℕ) (f : ℕ → ℤ) (k : ℕ) → k < n → get_or (list_of n f) k (pos 0) ≡ f k
 get_or-list_of n f k l = get_or-map-range_with_len f 0 n k k (pos 0) l (omega arith)
@@ -50,9 +47,9 @@ pub sums_before_small : (inst : Tables) (plan : List (Option ℕ)) (t i : ℕ) �
 unfolding sums_before
 sums_before_small inst plan t i f few =
     All-from_get_or IsSmallSum (list_of (scenarios_of inst t) (λ k. sum_below i (λ j. risk_at inst t (k + 1) j (start_of plan j)))) (pos 0) (λ k l.
-      let low : k < scenarios_of inst t = omega (arith, l, length-list_of (scenarios_of inst t) (λ k. sum_below i (λ j. risk_at inst t (k + 1) j (start_of plan j)))) in
-      let one = sum_below-within i 100_000_000_000_000_000_000 (λ j. risk_at inst t (k + 1) j (start_of plan j)) (λ j m. risk_at_small inst t (k + 1) j (start_of plan j) f) in
-      subst IsSmallSum (sym (get_or-list_of (scenarios_of inst t) (λ k. sum_below i (λ j. risk_at inst t (k + 1) j (start_of plan j))) k low)) (record { small = omega (arith, one, few, f.names.few) }))
+    let low : k < scenarios_of inst t = omega (arith, l, length-list_of (scenarios_of inst t) (λ k. sum_below i (λ j. risk_at inst t (k + 1) j (start_of plan j)))) in
+    let one = sum_below-within i 100_000_000_000_000_000_000 (λ j. risk_at inst t (k + 1) j (start_of plan j)) (λ j m. risk_at_small inst t (k + 1) j (start_of plan j) f) in
+    subst IsSmallSum (sym (get_or-list_of (scenarios_of inst t) (λ k. sum_below i (λ j. risk_at inst t (k + 1) j (start_of plan j))) k low)) (record { small = omega (arith, one, few, f.names.few) }))
 
 pub sums_before-none : (inst : Tables) (plan : List (Option ℕ)) (t : ℕ) → list_of (scenarios_of inst t) (λ k. pos 0) ≡ sums_before inst plan t 0
 unfolding sums_before
@@ -67,14 +64,14 @@ pub sums_before_more : (inst : Tables) (plan : List (Option ℕ)) (t i : ℕ) (f
 unfolding sums_before
 sums_before_more inst plan t i f h =
     list_of_same (scenarios_of inst t) (λ k. get_or (list_of (scenarios_of inst t) (λ k. sum_below i (λ j. risk_at inst t (k + 1) j (start_of plan j)))) k (pos 0) +ℤ f k) (λ k. sum_below (i + 1) (λ j. risk_at inst t (k + 1) j (start_of plan j)))
-      (λ k l. ap (λ (x : ℤ). x +ℤ f k) (get_or-list_of (scenarios_of inst t) (λ k. sum_below i (λ j. risk_at inst t (k + 1) j (start_of plan j))) k l) ∙ ap (λ (x : ℤ). sum_below i (λ j. risk_at inst t (k + 1) j (start_of plan j)) +ℤ x) (sym (h k)) ∙ sym (sum_below_more i (λ j. risk_at inst t (k + 1) j (start_of plan j))))
+    (λ k l. ap (λ (x : ℤ). x +ℤ f k) (get_or-list_of (scenarios_of inst t) (λ k. sum_below i (λ j. risk_at inst t (k + 1) j (start_of plan j))) k l) ∙ ap (λ (x : ℤ). sum_below i (λ j. risk_at inst t (k + 1) j (start_of plan j)) +ℤ x) (sym (h k)) ∙ sym (sum_below_more i (λ j. risk_at inst t (k + 1) j (start_of plan j))))
 
 -- one that is not in progress
 pub sums_before_idle : (inst : Tables) (plan : List (Option ℕ)) (t i : ℕ) → ((k : ℕ) → risk_at inst t (k + 1) i (start_of plan i) ≡ pos 0) → sums_before inst plan t i ≡ sums_before inst plan t (i + 1)
 unfolding sums_before
 sums_before_idle inst plan t i h =
     list_of_same (scenarios_of inst t) (λ k. sum_below i (λ j. risk_at inst t (k + 1) j (start_of plan j))) (λ k. sum_below (i + 1) (λ j. risk_at inst t (k + 1) j (start_of plan j)))
-      (λ k l. sym (+ℤ-zero (sum_below i (λ j. risk_at inst t (k + 1) j (start_of plan j)))) ∙ ap (λ (x : ℤ). sum_below i (λ j. risk_at inst t (k + 1) j (start_of plan j)) +ℤ x) (sym (h k)) ∙ sym (sum_below_more i (λ j. risk_at inst t (k + 1) j (start_of plan j))))
+    (λ k l. sym (+ℤ-zero (sum_below i (λ j. risk_at inst t (k + 1) j (start_of plan j)))) ∙ ap (λ (x : ℤ). sum_below i (λ j. risk_at inst t (k + 1) j (start_of plan j)) +ℤ x) (sym (h k)) ∙ sym (sum_below_more i (λ j. risk_at inst t (k + 1) j (start_of plan j))))
   where
     +ℤ-zero : (z : ℤ) → z +ℤ pos 0 ≡ z
     +ℤ-zero z = omega (arith, signed_arith)

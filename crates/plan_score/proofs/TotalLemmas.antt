@@ -13,10 +13,7 @@ use Rattle.instance_model.proofs.EntryLemmas.{count_sum-zero, count_sum_more, co
 use Rattle.plan_score.specs.declared.enclosure.Enclosure.{Enclosure}
 use Rattle.plan_score.specs.declared.values.Values.{Values}
 use Rattle.plan_score.specs.Periods.{AreSumsTo, IsSlack, AreTotals, floor_at, ceil_at, excess_floor_at, excess_ceil_at, half_at}
-
--- a number as a call is handed it: by its bits
-abbrev pub by_bits : ℤ → ℤ
-by_bits z = to_z w128 (of_z w128 z)
+use Rattle.plan_score.proofs.Bits.{by_bits}
 
 pub AreSumsTo-none : (f g : ℕ → ℤ) → AreSumsTo f g 0 (record { low = pos 0; high = pos 0 })
 AreSumsTo-none f g = record { low = sym (sum_below-zero f); high = sym (sum_below-zero g); low_small = omega arith; high_small = omega arith }

@@ -52,10 +52,20 @@ fn band_rule(inst: &Instance, plan: &[Option<u32>], c: u32, t: u32) -> Option<Ru
     let upper = inst.upper(c, t);
     let lower = inst.lower(c, t);
     if load > upper {
-        return Some(Rule::Over { c, t, load, limit: upper });
+        return Some(Rule::Over {
+            c,
+            t,
+            load,
+            limit: upper,
+        });
     }
     if load < lower {
-        return Some(Rule::Under { c, t, load, limit: lower });
+        return Some(Rule::Under {
+            c,
+            t,
+            load,
+            limit: lower,
+        });
     }
     None
 }

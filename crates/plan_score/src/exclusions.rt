@@ -3,7 +3,7 @@ ghost use Rattle.instance_model.specs.Plans.{start_of, RunsAreAllowed, runs_at};
 ghost use Rattle.instance_model.specs.Rules.{clash_rule_at, first_clash_rule};
 ghost use Rattle.duration_calendar.specs.Windows.{in_window, IsInHorizon};
 
-use duration_calendar::{meets_in, run, Window};
+use duration_calendar::{Window, meets_in, run};
 use instance_model::{Instance, Rule};
 
 /// The periods in which intervention `i` is in progress, where it has a start.

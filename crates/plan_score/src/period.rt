@@ -26,7 +26,14 @@ pub(crate) struct Period {
 }
 
 /// Adds the risks of intervention `i` at start `s` in period `t` to the scenario sums.
-fn add_risks<L: Ledger>(inst: &Instance, i: u32, s: u32, t: u32, sums: &mut [i128], steps: &mut Steps<L>)
+fn add_risks<L: Ledger>(
+    inst: &Instance,
+    i: u32,
+    s: u32,
+    t: u32,
+    sums: &mut [i128],
+    steps: &mut Steps<L>,
+)
     requires number { i < length inst.now.names }
     requires allowed { IsTrue (is_allowed inst.now i s) }
     requires running { IsTrue (in_run inst.now i s t) }
@@ -42,7 +49,14 @@ fn add_risks<L: Ledger>(inst: &Instance, i: u32, s: u32, t: u32, sums: &mut [i12
 }
 
 /// Adds intervention `i` to the scenario sums of those before it: 1 where its start is soft in the period, and else 0.
-fn add_run<L: Ledger>(inst: &Instance, plan: &[Option<u32>], t: u32, i: u32, sums: &mut [i128], steps: &mut Steps<L>) -> u32
+fn add_run<L: Ledger>(
+    inst: &Instance,
+    plan: &[Option<u32>],
+    t: u32,
+    i: u32,
+    sums: &mut [i128],
+    steps: &mut Steps<L>,
+) -> u32
     requires each { length plan.now ≡ length inst.now.names }
     requires allowed { RunsAreAllowed inst.now plan.now }
     requires from { 1 ≤ t }
@@ -156,5 +170,10 @@ pub(crate) fn period_of<L: Ledger>(
     let quantile = sum_at_rank(sums, inst.rank(t));
     let excess = excess_above(inst.scenarios(t), quantile, total);
     let numerator = weigh(inst.alpha(), total, excess);
-    Ok(Period { total, excess, numerator, soft })
+    Ok(Period {
+        total,
+        excess,
+        numerator,
+        soft,
+    })
 }

@@ -62,7 +62,13 @@ fn totals_of<L: Ledger>(
         cost_slack += half(period.soft, 2_000_000 - inst.alpha());
         mean_slack += half(period.soft, 1);
     }
-    Ok(Totals { score, mean, excess, cost_slack, mean_slack })
+    Ok(Totals {
+        score,
+        mean,
+        excess,
+        cost_slack,
+        mean_slack,
+    })
 }
 
 /// Half of a product, rounded up.

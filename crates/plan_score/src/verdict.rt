@@ -7,7 +7,7 @@ ghost use Rattle.plan_score.specs.Verdict.{IfFeasible, IfBroken};
 use crate::bands::broken_band;
 use crate::exclusions::broken_exclusion;
 use crate::starts::broken_start;
-use crate::values::{values_on, Values};
+use crate::values::{Values, values_on};
 use instance_model::{Instance, Rule};
 use std::alloc::{AllocError, Global};
 use std::marker::Brand;

@@ -6,5 +6,5 @@ use Rattle.plan_score.proofs.bands.load_of_plan.Given as goal
 abbrev pub invariant-loop-i : goal.invariant-loop-i
 invariant-loop-i l = record {
   value : l.load ≡ sum_below l.i (λ j. load_at l.inst l.c l.t j (start_of l.plan j));
-  small : unsigned_abs l.load ≤ l.i * 100_000_000_000_000_000_000
+  small : unsigned_abs l.load ≤ l.i * 100_000_000_000_000_000_000;
 }

@@ -8,5 +8,5 @@ abbrev pub invariant-loop-i : goal.invariant-loop-i
 invariant-loop-i g l = record {
   sums : l.sums.items ≡ sums_before l.inst l.plan l.t l.i;
   soft : l.soft ≡ count_sum l.i (λ j. soft_at l.inst l.t j (start_of l.plan j));
-  few : l.soft ≤ l.i
+  few : l.soft ≤ l.i;
 }

@@ -5,5 +5,5 @@ use Rattle.plan_score.proofs.period.total_of.Given as goal
 abbrev pub invariant-loop-one : goal.invariant-loop-one
 invariant-loop-one l = record {
   value : l.sum ≡ total (take l.one-index l.sums);
-  small : unsigned_abs l.sum ≤ l.one-index * 102_400_000_000_000_000_000_000
+  small : unsigned_abs l.sum ≤ l.one-index * 102_400_000_000_000_000_000_000;
 }

@@ -9,5 +9,5 @@ invariant-loop-u g l = record {
   mean : AreSumsTo (floor_at l.inst (risk_total l.inst l.plan)) (ceil_at l.inst (risk_total l.inst l.plan)) l.u l.mean;
   excess : AreSumsTo (excess_floor_at l.inst l.plan) (excess_ceil_at l.inst l.plan) l.u l.excess;
   cost : IsSlack l.inst l.plan (2_000_000 - l.inst.alpha) l.u l.cost_slack;
-  mean_slack : IsSlack l.inst l.plan 1 l.u l.mean_slack
+  mean_slack : IsSlack l.inst l.plan 1 l.u l.mean_slack;
 }

@@ -1,7 +1,8 @@
 use Rattle.std.proofs.Common.{◌≡◌, ◌∙◌, refl, ap, arith, ℕ, ℤ, ◌*◌, ◌≤◌, ◌^◌, unsigned_abs}
 use Rattle.instance_model.specs.Values.{risk_total, numerator_of, score_of, roof_of, cost_low_of, cost_high_of, mean_low_of, mean_high_of, excess_low_of, excess_high_of}
 use Rattle.plan_score.specs.Values.{values_of}
-use Rattle.plan_score.proofs.TotalLemmas.{by_bits, kept, score_low_is, score_high_is, excess_low_is, excess_high_is, cost_slack_is, mean_slack_is, no_margin, no_margin_more, values_same}
+use Rattle.plan_score.proofs.Bits.{by_bits}
+use Rattle.plan_score.proofs.TotalLemmas.{kept, score_low_is, score_high_is, excess_low_is, excess_high_is, cost_slack_is, mean_slack_is, no_margin, no_margin_more, values_same}
 use Rattle.plan_score.proofs.values.values_on.Goals as goal
 
 pub returns : goal.returns
@@ -24,11 +25,11 @@ returns g c =
     let b = c.shares-mean_low.ensures in
     let d = c.shares-excess_low.ensures in
     values_same _ _ _ _ _ _ _ _ _ _ _ _ _ _ _ _
-      (kept s.totals.score.low (score_of i p) (omega (arith, s.ensures.score.low_small, few, n)) sl)
-      (kept s.totals.score.high (roof_of i p) (omega (arith, s.ensures.score.high_small, few, n)) sh)
-      (kept c.shares-cost_low.result.0 (cost_low_of i p) a.low_small (a.low ∙ rw (sl, cs, n) refl))
-      (kept c.shares-cost_low.result.1 (cost_high_of i p) a.high_small (a.high ∙ rw (sh, cs, n) refl))
-      (kept c.shares-mean_low.result.0 (mean_low_of i p) b.low_small (b.low ∙ rw (ml, ms, n) refl))
-      (kept c.shares-mean_low.result.1 (mean_high_of i p) b.high_small (b.high ∙ rw (mh, ms, n) refl))
-      (kept c.shares-excess_low.result.0 (excess_low_of i p) d.low_small (d.low ∙ rw (no_margin s.totals.excess.low, el, n) refl))
-      (kept c.shares-excess_low.result.1 (excess_high_of i p) d.high_small (d.high ∙ rw (no_margin_more s.totals.excess.high, eh, n) refl))
+    (kept s.totals.score.low (score_of i p) (omega (arith, s.ensures.score.low_small, few, n)) sl)
+    (kept s.totals.score.high (roof_of i p) (omega (arith, s.ensures.score.high_small, few, n)) sh)
+    (kept c.shares-cost_low.result.0 (cost_low_of i p) a.low_small (a.low ∙ rw (sl, cs, n) refl))
+    (kept c.shares-cost_low.result.1 (cost_high_of i p) a.high_small (a.high ∙ rw (sh, cs, n) refl))
+    (kept c.shares-mean_low.result.0 (mean_low_of i p) b.low_small (b.low ∙ rw (ml, ms, n) refl))
+    (kept c.shares-mean_low.result.1 (mean_high_of i p) b.high_small (b.high ∙ rw (mh, ms, n) refl))
+    (kept c.shares-excess_low.result.0 (excess_low_of i p) d.low_small (d.low ∙ rw (no_margin s.totals.excess.low, el, n) refl))
+    (kept c.shares-excess_low.result.1 (excess_high_of i p) d.high_small (d.high ∙ rw (no_margin_more s.totals.excess.high, eh, n) refl))
