@@ -1,8 +1,6 @@
 -- The rule that a load breaks, from the comparisons.
-use Rattle.std.proofs.Common.{◌≡◌, ℕ, ◌<◌, ◌≤◌, ◌^◌, refl, sym, arith, ℤ, ◌<ℤ◌, ◌≤ℤ◌, true, false, int_lt, List, Option, Some, None, unsigned_abs, to_z, of_z}
-use Rattle.std.specs.Int.{w128}
+use Rattle.std.proofs.Common.{◌≡◌, ℕ, ◌<◌, ◌≤◌, refl, sym, arith, ℤ, true, false, int_lt, List, Option, Some, None, unsigned_abs}
 use Rattle.fixed_num.proofs.SignedLemmas.{back_from_abs}
-use Rattle.instance_model.specs.declared.rule.Rule.{Rule}
 use Rattle.instance_model.specs.declared.rule.Rule.TheVariants.{Over, Under}
 use Rattle.instance_model.specs.Tables.{Tables, upper_of, lower_of}
 use Rattle.instance_model.specs.Plans.{load_sum}

@@ -1,6 +1,5 @@
 -- The rule that an exclusion breaks, from the windows of its two interventions.
-use Rattle.std.proofs.Common.{◌≡◌, ℕ, ◌+◌, ◌-◌, ◌<◌, ◌≤◌, refl, sym, ◌∙◌, arith, Bool, true, false, ◌&&◌, IsTrue, List, Option, Some, None, if◌then◌else◌}
-use Rattle.instance_model.specs.declared.rule.Rule.{Rule}
+use Rattle.std.proofs.Common.{◌≡◌, ℕ, ◌+◌, ◌-◌, refl, sym, arith, Bool, true, false, ◌&&◌, List, Option, Some, None, if◌then◌else◌}
 use Rattle.instance_model.specs.declared.rule.Rule.TheVariants.{Clash}
 use Rattle.instance_model.specs.declared.parts.Exclusion.{Exclusion}
 use Rattle.instance_model.specs.Tables.{Tables, in_season_of, exclusion_of}

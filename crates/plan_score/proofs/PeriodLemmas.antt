@@ -1,21 +1,19 @@
 -- What the calls over a period make.
-use Rattle.std.proofs.Common.{◌≡◌, ℕ, ◌+◌, ◌-◌, ◌*◌, ◌<◌, ◌≤◌, ◌^◌, refl, sym, ◌∙◌, ap, subst, arith, ℤ, pos, ◌+ℤ◌, ◌-ℤ◌, ◌*ℤ◌, List, Option, Some, None, length, get_or, All, unsigned_abs, to_z, of_z, Bool, true, false, cond, IsTrue, take, drop, ◌++◌}
+use Rattle.std.proofs.Common.{◌≡◌, ℕ, ◌+◌, ◌-◌, ◌<◌, ◌≤◌, refl, sym, ◌∙◌, ap, subst, arith, ℤ, pos, ◌+ℤ◌, ◌-ℤ◌, ◌*ℤ◌, List, Option, Some, None, length, get_or, All, unsigned_abs, to_z, of_z, Bool, true, false, cond, take, drop, ◌++◌}
 use Rattle.std.specs.Int.{w128, int_max}
 use Rattle.std.proofs.lemmas.List.{ext_get_or}
 use Rattle.std.proofs.Math.Seq.{take-append_seam}
-use Rattle.std.proofs.lemmas.List.Elements.{All-from_get_or, All-map}
+use Rattle.std.proofs.lemmas.List.Elements.{All-from_get_or}
 use Rattle.std.proofs.lemmas.List.FromFn.{length-map-range_with_len, get_or-map-range_with_len}
 use Rattle.fixed_num.specs.Sums.{sum_below, total, list_of}
 use Rattle.fixed_num.specs.Rank.{mth_smallest}
 use Rattle.fixed_num.proofs.SignedLemmas.{back_from_abs, signed_arith}
 use Rattle.fixed_num.proofs.SumLemmas.{sum_below-zero, sum_below_more, sum_below-within}
 use Rattle.instance_model.specs.Fitting.{IsFitting}
-use Rattle.instance_model.specs.Naturals.{count_sum}
 use Rattle.instance_model.specs.Tables.{Tables, scenarios_of, rank_of, in_run, risk_of, soft_of}
 use Rattle.instance_model.specs.Plans.{start_of, risk_at, soft_at, scenario_sum, scenario_sums, soft_count, IsSmallSum}
-use Rattle.instance_model.specs.Values.{excess_in, numerator_in, risk_total, excess_of, numerator_of}
+use Rattle.instance_model.specs.Values.{excess_in, numerator_in, excess_of, numerator_of}
 use Rattle.instance_model.proofs.PlanLemmas.{length-scenario_sums, risk_at_small}
-use Rattle.plan_score.specs.declared.period.Period.{Period}
 use Rattle.plan_score.specs.Periods.{sums_before, IsPeriod}
 use Rattle.plan_score.proofs.Bits.{by_bits}
 

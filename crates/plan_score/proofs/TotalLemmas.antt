@@ -1,6 +1,5 @@
 -- What the walk over the periods adds up.
-use Rattle.std.proofs.Common.{◌≡◌, ℕ, ◌+◌, ◌-◌, ◌*◌, ◌/◌, ◌<◌, ◌≤◌, ◌^◌, refl, sym, ◌∙◌, ap, arith, ℤ, pos, ◌+ℤ◌, ◌-ℤ◌, List, Option, unsigned_abs, to_z, of_z}
-use Rattle.std.specs.Int.{w128, int_max}
+use Rattle.std.proofs.Common.{◌≡◌, ℕ, ◌+◌, ◌-◌, ◌*◌, ◌≤◌, ◌^◌, refl, sym, ◌∙◌, ap, arith, ℤ, pos, ◌+ℤ◌, ◌-ℤ◌, List, Option, unsigned_abs}
 use Rattle.fixed_num.specs.Sums.{sum_below}
 use Rattle.fixed_num.specs.Floors.{floor_of, ceil_of}
 use Rattle.fixed_num.proofs.SignedLemmas.{back_from_abs, signed_arith}
@@ -8,11 +7,11 @@ use Rattle.fixed_num.proofs.SumLemmas.{sum_below-zero, sum_below_more}
 use Rattle.instance_model.specs.Naturals.{count_sum, ceil_div_of}
 use Rattle.instance_model.specs.Tables.{Tables, scenarios_of}
 use Rattle.instance_model.specs.Plans.{soft_count}
-use Rattle.instance_model.specs.Values.{risk_total, excess_of, numerator_of, sum_of_floors, sum_of_ceils, excess_floors, excess_ceils, cost_slack, mean_slack}
+use Rattle.instance_model.specs.Values.{sum_of_floors, sum_of_ceils, excess_floors, excess_ceils, cost_slack, mean_slack}
 use Rattle.instance_model.proofs.EntryLemmas.{count_sum-zero, count_sum_more, count_sum_same}
 use Rattle.plan_score.specs.declared.enclosure.Enclosure.{Enclosure}
 use Rattle.plan_score.specs.declared.values.Values.{Values}
-use Rattle.plan_score.specs.Periods.{AreSumsTo, IsSlack, AreTotals, floor_at, ceil_at, excess_floor_at, excess_ceil_at, half_at}
+use Rattle.plan_score.specs.Periods.{AreSumsTo, IsSlack, floor_at, ceil_at, excess_floor_at, excess_ceil_at, half_at}
 use Rattle.plan_score.proofs.Bits.{by_bits}
 
 pub AreSumsTo-none : (f g : ℕ → ℤ) → AreSumsTo f g 0 (record { low = pos 0; high = pos 0 })

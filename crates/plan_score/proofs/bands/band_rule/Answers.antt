@@ -1,4 +1,3 @@
-use Rattle.instance_model.specs.Tables.{Tables}
 use Rattle.plan_score.proofs.BandLemmas.{AreLoadAndLimits, band_over, band_under, band_kept}
 use Rattle.plan_score.proofs.bands.band_rule.Goals as goal
 

@@ -1,4 +1,4 @@
-use Rattle.std.proofs.Common.{◌∙◌, ◌≡◌, ◌≤◌, ◌^◌, ap, arith, pos, ℤ, ◌-ℤ◌, unsigned_abs}
+use Rattle.std.proofs.Common.{◌∙◌, ◌≤◌, ◌^◌, ap, arith, pos, ℤ, ◌-ℤ◌, unsigned_abs}
 use Rattle.std.specs.Int.{int_max}
 use Rattle.fixed_num.proofs.SignedLemmas.{back_from_abs}
 use Rattle.plan_score.proofs.EnclosureLemmas.{floor_is, difference_is, no_larger_is, above_zero_small}

@@ -1,5 +1,4 @@
-use Rattle.std.proofs.Common.{sym}
-use Rattle.plan_score.proofs.ClashLemmas.{IsWindowOf, clash_found, clash_missing, first_idle, second_idle}
+use Rattle.plan_score.proofs.ClashLemmas.{clash_found, clash_missing, first_idle, second_idle}
 use Rattle.plan_score.proofs.exclusions.clash_rule.Goals as goal
 
 pub returns-in_err-first : goal.returns-in_err-first

@@ -1,4 +1,4 @@
-use Rattle.std.proofs.Common.{◌≡◌, ◌≤◌, ◌<◌, ℕ, ◌+◌, arith, IsTrue, ◌&&◌, nat_le, nat_lt, Bool, true, subst, Option, IfSome}
+use Rattle.std.proofs.Common.{◌≡◌, ◌≤◌, ℕ, ◌+◌, arith, IsTrue, true, subst, Option, IfSome}
 use Rattle.std.proofs.lemmas.Bool.Decides.{nat_tests}
 use Rattle.instance_model.specs.Tables.{is_allowed}
 use Rattle.instance_model.specs.Plans.{RunsAreAllowed}

@@ -1,5 +1,4 @@
-use Rattle.std.proofs.Common.{◌≡◌, ◌+◌, ◌<◌, ◌+ℤ◌, arith, pos, ℕ, ℤ, get_or, length}
-use Rattle.fixed_num.specs.Sums.{list_of}
+use Rattle.std.proofs.Common.{◌≡◌, ◌+◌, ◌+ℤ◌, arith, pos, get_or}
 use Rattle.instance_model.specs.Tables.{scenarios_of, risk_of}
 use Rattle.plan_score.proofs.PeriodLemmas.{list_of-from}
 use Rattle.plan_score.proofs.period.add_risks.Goals as goal

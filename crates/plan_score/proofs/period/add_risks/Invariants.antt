@@ -1,4 +1,4 @@
-use Rattle.std.proofs.Common.{◌≡◌, ◌<◌, ◌≤◌, ◌+◌, ℕ, ◌+ℤ◌, pos, length, get_or}
+use Rattle.std.proofs.Common.{◌≡◌, ◌<◌, ◌≤◌, ◌+◌, ℕ, ◌+ℤ◌, pos, get_or}
 use Rattle.instance_model.specs.Tables.{risk_of}
 use Rattle.plan_score.proofs.period.add_risks.Given as goal
 

@@ -1,4 +1,4 @@
-use Rattle.std.proofs.Common.{◌≡◌, ◌∙◌, ◌+◌, ◌+ℤ◌, sym, ap, subst, arith, pos, ℕ, ℤ, List, Option, Some, None, IfSome, IsTrue, length, get_or, All, true, false, not}
+use Rattle.std.proofs.Common.{◌≡◌, ◌∙◌, ◌+◌, ◌+ℤ◌, sym, ap, subst, arith, pos, ℕ, ℤ, List, Option, IfSome, IsTrue, length, get_or, true, false}
 use Rattle.std.proofs.lemmas.List.Elements.{All-same}
 use Rattle.fixed_num.specs.Sums.{list_of}
 use Rattle.instance_model.specs.Tables.{is_allowed, scenarios_of, risk_of, in_run}

@@ -1,4 +1,4 @@
-use Rattle.std.proofs.Common.{◌≡◌, ◌∙◌, ◌≤◌, arith, ap, length, All}
+use Rattle.std.proofs.Common.{◌∙◌, arith, ap, length}
 use Rattle.std.proofs.lemmas.List.Elements.{All-same}
 use Rattle.instance_model.specs.Plans.{IsSmallSum, scenario_sums}
 use Rattle.instance_model.proofs.FitLemmas.{scenarios_of_small}

@@ -1,4 +1,4 @@
-use Rattle.std.proofs.Common.{◌≡◌, ◌∙◌, sym, ap, arith, pos, ◌+◌, ◌*◌, ◌+ℤ◌, ◌<◌, ℤ, get_or, to_z, ◌^◌}
+use Rattle.std.proofs.Common.{◌∙◌, sym, ap, arith, pos, ◌+◌, ◌*◌, ◌+ℤ◌, ◌<◌, ℤ, get_or, to_z, ◌^◌}
 use Rattle.std.specs.Int.{w128}
 use Rattle.std.proofs.lemmas.List.Elements.{All-get_or}
 use Rattle.fixed_num.proofs.SumLemmas.{total-none, total_more, added, sum_step_small}

@@ -1,4 +1,4 @@
-use Rattle.std.proofs.Common.{◌≡◌, ◌∙◌, sym, ap, arith, rules, refl, pos, ◌+◌, ◌-◌, ◌*◌, ◌+ℤ◌, ◌*ℤ◌, ◌<◌, ◌≤◌, ℤ, ℕ, to_z, of_z, unsigned_abs, ◌^◌}
+use Rattle.std.proofs.Common.{◌≡◌, arith, pos, ◌-◌, ◌+ℤ◌, ◌*ℤ◌, ◌≤◌, ℤ, ℕ, to_z, of_z, unsigned_abs}
 use Rattle.std.specs.Int.{w128}
 use Rattle.std.proofs.lemmas.Int.{to_z_pos}
 use Rattle.fixed_num.proofs.SignedLemmas.{back_from_abs, abs-product}

@@ -1,7 +1,6 @@
-use Rattle.std.proofs.Common.{◌≡◌, ◌∙◌, refl, ap, arith, ℕ, ℤ, ◌*◌, ◌≤◌, ◌^◌, unsigned_abs}
+use Rattle.std.proofs.Common.{◌∙◌, refl, arith}
 use Rattle.instance_model.specs.Values.{risk_total, numerator_of, score_of, roof_of, cost_low_of, cost_high_of, mean_low_of, mean_high_of, excess_low_of, excess_high_of}
 use Rattle.plan_score.specs.Values.{values_of}
-use Rattle.plan_score.proofs.Bits.{by_bits}
 use Rattle.plan_score.proofs.TotalLemmas.{kept, score_low_is, score_high_is, excess_low_is, excess_high_is, cost_slack_is, mean_slack_is, no_margin, no_margin_more, values_same}
 use Rattle.plan_score.proofs.values.values_on.Goals as goal
 

@@ -1,4 +1,4 @@
-use Rattle.std.proofs.Common.{◌≡◌, ◌∙◌, sym, None}
+use Rattle.std.proofs.Common.{◌∙◌, sym}
 use Rattle.instance_model.specs.Rules.{first_rule, first_start_rule}
 use Rattle.instance_model.proofs.FirstLemmas.{or_else-none}
 use Rattle.instance_model.proofs.PlanLemmas.{RunsAreAllowed-from_none}

@@ -1,4 +1,4 @@
-use Rattle.std.proofs.Common.{◌∙◌, ap, refl, arith, pos, ℤ, ◌+ℤ◌, ◌-ℤ◌}
+use Rattle.std.proofs.Common.{◌∙◌, ap, arith, pos, ℤ, ◌+ℤ◌, ◌-ℤ◌}
 use Rattle.std.specs.Int.{int_max}
 use Rattle.fixed_num.specs.Floors.{floor_of, ceil_of}
 use Rattle.fixed_num.proofs.SignedLemmas.{back_from_abs}
