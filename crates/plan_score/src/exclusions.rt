@@ -11,7 +11,8 @@ fn window_of(inst: &Instance, plan: &[Option<u32>], i: u32) -> Option<Window>
     requires each { length plan.now ≡ length inst.now.names }
     requires allowed { RunsAreAllowed inst.now plan.now }
     requires number { i < length inst.now.names }
-    ensures periods { IfSome result (λ w. (t : ℕ) → in_window w t ≡ runs_at inst.now i t (start_of plan.now i)) }
+    ensures periods { IfSome result (λ w.
+        (t : ℕ) → in_window w t ≡ runs_at inst.now i t (start_of plan.now i)) }
     ensures horizon { IfSome result (IsInHorizon inst.now) }
     ensures none { IfNone result (start_of plan.now i ≡ None) }
 {

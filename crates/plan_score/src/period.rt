@@ -41,7 +41,8 @@ fn add_risks<L: Ledger>(
     requires to { t ≤ inst.now.periods }
     requires each { length sums.old ≡ scenarios_of inst.now t }
     requires room { All IsSmallSum sums.old }
-    ensures { sums.new ≡ list_of (scenarios_of inst.now t) (λ k. slice_index_or sums.old k (pos 0) +ℤ risk_of inst.now i s t (k + 1)) }
+    ensures { sums.new ≡ list_of (scenarios_of inst.now t) (λ k.
+        slice_index_or sums.old k (pos 0) +ℤ risk_of inst.now i s t (k + 1)) }
 {
     for k in 0..inst.scenarios(t) {
         sums[k as usize] += inst.risk_cell(i, s, t, k + 1, steps).count();

@@ -40,13 +40,17 @@ fn broken_rule(inst: &Instance, plan: &[Option<u32>]) -> Option<Rule>
 /// of one period.
 pub fn judge(alloc: Global, inst: &Instance, plan: &[Option<u32>]) -> Result<Verdict, AllocError>
     requires { length plan.now ≡ length inst.now.names }
-    ensures broken { IfOk result (λ verdict. IfBroken verdict (λ rule. first_rule inst.now plan.now ≡ Some rule)) }
-    ensures feasible { IfOk result (λ verdict. IfFeasible verdict (λ values. first_rule inst.now plan.now ≡ None)) }
-    ensures values { IfOk result (λ verdict. IfFeasible verdict (λ values. values ≡ values_of inst.now plan.now)) }
+    ensures broken { IfOk result (λ verdict. IfBroken verdict (λ rule.
+        first_rule inst.now plan.now ≡ Some rule)) }
+    ensures feasible { IfOk result (λ verdict. IfFeasible verdict (λ values.
+        first_rule inst.now plan.now ≡ None)) }
+    ensures values { IfOk result (λ verdict. IfFeasible verdict (λ values.
+        values ≡ values_of inst.now plan.now)) }
 
-    // The numbers of the file, of which f make one count, are such a reading: the kept counts may be rounded from them.
-    ensures encloses { IfOk result (λ verdict. IfFeasible verdict (λ values. (f : ℕ) (numbers : List ℤ) →
-        IsReading inst.now f numbers → EnclosesReading inst.now plan.now f numbers)) }
+    // Whatever numbers, of which f make one count, the kept counts may have been rounded from.
+    ensures encloses { IfOk result (λ verdict. IfFeasible verdict (λ values.
+        (f : ℕ) (numbers : List ℤ) → IsReading inst.now f numbers →
+        EnclosesReading inst.now plan.now f numbers)) }
 {
     if let Some(rule) = broken_rule(inst, plan) {
         return Ok(Verdict::Broken(rule));
