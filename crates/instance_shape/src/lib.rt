@@ -1,0 +1,14 @@
+//! The instance that a JSON text stands for: what stands where in the text, the faults of its shape and across it, and its tables.
+#![tactic(auto)]
+
+mod fault;
+mod names;
+mod required;
+mod seen;
+mod spot;
+
+pub use fault::{Fault, Flaw, Known, Which};
+pub use names::{is_name, number_of};
+pub use required::{missing_key};
+pub use seen::{add_number, add_text};
+pub use spot::{Kind, Spot, element, kind_of, under};
