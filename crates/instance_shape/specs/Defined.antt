@@ -2,10 +2,10 @@
 -- A text is a JSON text nested at most 16 deep; the limits, the slack in 10^-12 and the bytes are given.
 use Rattle.std.specs.Prelude.{◌≡◌, ℕ, ℤ, List, [], Some, None}
 use Rattle.instance_model.specs.Tables.{Tables}
-use Rattle.instance_model.specs.declared.Limits.{Limits}
+use Rattle.instance_model.specs.declared.limits.Limits.{Limits}
 use Rattle.decimal_json.specs.Tree.{Tree}
 use Rattle.decimal_json.specs.Grammar.{IsText}
-use Rattle.decimal_json.specs.Prefix.{tree_deep}
+use Rattle.decimal_json.specs.Prefix.{first_past}
 use Rattle.instance_shape.specs.declared.fault.Fault.{Fault}
 use Rattle.instance_shape.specs.ShapeFaults.{shape_faults, IsLeast}
 use Rattle.instance_shape.specs.CrossFaults.{CrossFault, cross_fault}
@@ -14,7 +14,7 @@ use Rattle.instance_shape.specs.FileTables.{tables}
 -- the bytes are a JSON text nested at most 16 deep, and this is its tree
 pub record IsTreeOf (bytes : List ℕ) (root : Tree) : Type 0 where
   pub text : IsText bytes root
-  pub shallow : tree_deep root 16 ≡ None
+  pub shallow : first_past 16 root ≡ None
 
 -- the instance of a text without a fault
 pub record Defines (limits : Limits) (slack : ℤ) (bytes : List ℕ) (inst : Tables) : Type 0 where

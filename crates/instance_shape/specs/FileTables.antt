@@ -1,7 +1,7 @@
 -- Defines the tables of the instance of a file: each entry is looked up in the text by its keys.
 use Rattle.std.specs.Prelude.{◌≡◌, ℕ, zero, suc, ◌+◌, ◌-◌, ◌*◌, ℤ, pos, ◌+ℤ◌, ◌-ℤ◌, Bool, true, false, ◌&&◌, ◌||◌, ◌==◌, List, [], ◌∷◌, ◌++◌, Option, Some, None, cond, bytes_eq, map, unwrap_or, option_map, slice_index, slice_index_or, length, nat_le, nat_lt, not, take, is_some, position, sum}
-use Rattle.instance_model.specs.declared.LoadCell.{LoadCell}
-use Rattle.instance_model.specs.declared.Exclusion.{Exclusion}
+use Rattle.instance_model.specs.declared.parts.LoadCell.{LoadCell}
+use Rattle.instance_model.specs.declared.parts.Exclusion.{Exclusion}
 use Rattle.instance_model.specs.Tables.{Tables, allowed_of}
 use Rattle.decimal_json.specs.Tree.{Tree, tree, Node}
 use Rattle.instance_shape.specs.declared.fault.Known.TheVariants as is
