@@ -1,0 +1,6 @@
+mod Insides
+mod KeyLemmas
+mod Opened
+mod Sizes
+mod Splits
+mod SurveyLemmas

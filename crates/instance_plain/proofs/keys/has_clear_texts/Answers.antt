@@ -1,0 +1,25 @@
+use Rattle.std.proofs.Common.{sym, ◌∙◌, ap, true, List, ℕ, arith, refl, is_none}
+use Rattle.std.specs.Prelude.{string_bytes}
+use Rattle.instance_shape.specs.Seen.{texts_of}
+use Rattle.instance_plain.proofs.KeyLemmas.{bad_key, good_key, end_told, all_clear, none_of}
+use Rattle.instance_plain.proofs.SurveyLemmas.{told_true, told_false}
+use Rattle.instance_plain.proofs.keys.has_clear_texts.Goals as goal
+
+pub returns-then-not-branch : goal.returns-then-not-branch
+returns-then-not-branch c =
+    bad_key c.args.limits.now c.args.spot (texts_of c.loop-member.seen.keys) c.args.members.now c.loop-member.member-index c.member-item.result (string_bytes c.in_ok-key.key) (omega arith) c.member-item.is
+    (c.in_ok-key.ensures.ok ∙ c.as_str.ensures) c.loop-member.invariant.keys
+    (λ at. told_false _ _ c.if-not-branch.true (c.in_ok-take_text.ensures.clear at))
+
+pub loop-member-init : goal.loop-member-init
+loop-member-init c = record { keys = ap texts_of c.new-seen.ensures.empty; clear = refl }
+
+pub loop-member-preserved : goal.loop-member-preserved
+loop-member-preserved c =
+    good_key c.args.limits.now c.args.spot (texts_of c.loop-member.seen.keys) _ c.args.members.now c.loop-member.member-index c.member-item.result (string_bytes c.in_ok-key.key) (omega arith) c.member-item.is
+    (c.in_ok-key.ensures.ok ∙ c.as_str.ensures) c.loop-member.invariant
+    (λ at. told_true _ _ c.if-not-branch.false (c.in_ok-take_text.ensures.clear at)) (c.in_ok-take_text.ensures.added c.if-not-branch.false)
+
+pub returns : goal.returns
+returns c = end_told c.args.limits.now c.args.spot (texts_of c.loop-member.seen.keys) c.args.members.now c.missing_key.result c.is_none.result
+    (all_clear c.args.limits.now c.args.spot (texts_of c.loop-member.seen.keys) c.args.members.now c.loop-member.member-index (omega arith) c.loop-member.invariant) c.missing_key.ensures (none_of c.missing_key.result c.is_none.result c.is_none.ensures)
