@@ -1,5 +1,6 @@
 mod Insides
 mod KeyLemmas
+mod Lookings
 mod Opened
 mod Sizes
 mod Splits

@@ -2,5 +2,6 @@
 #![tactic(auto)]
 
 mod keys;
+mod look_up;
 mod own;
 mod survey;

@@ -9,6 +9,6 @@ mod spot;
 
 pub use fault::{Fault, Flaw, Known, Which};
 pub use names::{is_name, number_of};
-pub use required::{missing_key};
+pub use required::{missing_key, text_of};
 pub use seen::{add_number, add_text};
 pub use spot::{Kind, Spot, element, kind_of, under};

@@ -2,7 +2,7 @@
 
 ghost use Rattle.std.specs.Prelude.{◌≡◌, cond, Some};
 ghost use Rattle.instance_shape.specs.Shape.{required, late_keys};
-ghost use Rattle.instance_shape.specs.Keys.{has_key, by_text};
+ghost use Rattle.instance_shape.specs.Keys.{has_key, by_text, text_of as key_text};
 ghost use Rattle.instance_shape.specs.ShapeFaults.{first_missing};
 ghost use Rattle.instance_shape.specs.Seen.{texts_of};
 ghost use Rattle.instance_shape.specs.declared.spot.Spot.TheVariants as spots;
@@ -10,6 +10,28 @@ ghost use Rattle.instance_shape.specs.declared.spot.Spot.TheVariants as spots;
 use crate::fault::Known;
 use crate::spot::Spot;
 use indexmap::IndexSet;
+
+/// How a required key is written.
+pub fn text_of(known: Known) -> &'static str
+    ensures { result.now ≡ key_text known }
+{
+    match known {
+        Known::Resources => "Resources",
+        Known::Seasons => "Seasons",
+        Known::Interventions => "Interventions",
+        Known::Exclusions => "Exclusions",
+        Known::T => "T",
+        Known::ScenariosNumber => "Scenarios_number",
+        Known::Quantile => "Quantile",
+        Known::Alpha => "Alpha",
+        Known::Max => "max",
+        Known::Min => "min",
+        Known::Tmax => "tmax",
+        Known::Delta => "Delta",
+        Known::Workload => "workload",
+        Known::Risk => "risk",
+    }
+}
 
 /// Whether an object has had a key.
 fn has(seen: &IndexSet<String>, key: &str) -> bool
