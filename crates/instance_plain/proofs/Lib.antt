@@ -2,6 +2,8 @@ mod Insides
 mod KeyLemmas
 mod Lookings
 mod Opened
+mod RowLemmas
 mod Sizes
 mod Splits
 mod SurveyLemmas
+mod TableLemmas

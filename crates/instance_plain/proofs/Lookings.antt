@@ -1,5 +1,5 @@
 -- What is looked up in a value, as the code sees it.
-use Rattle.std.proofs.Common.{◌≡◌, ℕ, suc, ◌+◌, ◌<◌, Bool, true, false, cond, List, [], ◌∷◌, ◌++◌, map, length, drop, get_or, Option, Some, None, refl, sym, ◌∙◌, ap, subst, add-one}
+use Rattle.std.proofs.Common.{◌≡◌, ℕ, suc, ◌+◌, ◌<◌, Bool, true, false, cond, List, [], ◌∷◌, ◌++◌, map, length, take, drop, get_or, Option, Some, None, refl, sym, ◌∙◌, ap, subst, add-one}
 use Rattle.std.specs.Prelude.{Vec}
 use Rattle.std.specs.declared.alloc.Global.{Global}
 use Rattle.std.proofs.Math.Seq.{drop-cons}
@@ -12,6 +12,7 @@ use Rattle.decimal_json.specs.declared.tree.Member.{Member}
 use Rattle.decimal_json.specs.Trees.{tree_view, node_view, trees_of, members_of, trees_view, members_view, member_view, Member_view}
 use Rattle.instance_shape.specs.LookUp.{Entry, elements, entries, tree_list, entry_list, first_value}
 use Rattle.instance_plain.specs.Views.{entry_of, entries_view}
+use Rattle.instance_plain.proofs.Splits.{taken_more, parted}
 use Rattle.instance_plain.proofs.Opened.{tree_opened, list_opened, object_opened, key_opened, value_opened}
 
 tree_list-of : (ts : List json.Tree) → tree_list (trees_of ts) ≡ ts
@@ -44,3 +45,22 @@ first_here p ms i x h e k t = sym (sym k ∙ first_step p ms i x h e ∙ ap (λ 
 pub first_later : (p : List ℕ → Bool) (ms : List Member) (i : ℕ) (x : Member) → i < length ms → x ≡ get_or ms i x
     → first_value p (entries_view (drop i ms)) ≡ first_value p (entries_view ms) → p x.key ≡ false → first_value p (entries_view (drop (i + 1) ms)) ≡ first_value p (entries_view ms)
 first_later p ms i x h e k t = sym (sym k ∙ first_step p ms i x h e ∙ ap (λ b. cond b (Some (tree_view x.value)) (first_value p (entries_view (drop (i + 1) ms)))) t)
+
+pub entries-more : (ms : List Member) (i : ℕ) (x : Member) → i < length ms → x ≡ get_or ms i x → entries_view (take (i + 1) ms) ≡ entries_view (take i ms) ++ record { key = x.key; value = tree_view x.value } ∷ []
+entries-more ms i x h e = ap entries_view (taken_more ms i x h e) ∙ by (take i ms)
+  where
+    seen : entry_of (member_view x) ≡ record { key = x.key; value = tree_view x.value }
+    seen = ap (λ k. let r : Entry = record { key = k; value = (member_view x).value } in r) (key_opened x) ∙ ap (λ v. let r : Entry = record { key = x.key; value = v } in r) (value_opened x)
+    by : (xs : List Member) → entries_view (xs ++ x ∷ []) ≡ entries_view xs ++ record { key = x.key; value = tree_view x.value } ∷ []
+    by [] = ap (λ r. r ∷ []) seen
+    by (y ∷ xs) = ap (λ r. entry_of (member_view y) ∷ r) (by xs)
+
+pub entry_seen : (x : Member) → entry_of (member_view x) ≡ record { key = x.key; value = tree_view x.value }
+entry_seen x = ap (λ k. let r : Entry = record { key = k; value = (member_view x).value } in r) (key_opened x) ∙ ap (λ v. let r : Entry = record { key = x.key; value = v } in r) (value_opened x)
+
+pub entries-parted : (ms : List Member) (i : ℕ) (x : Member) → i < length ms → x ≡ get_or ms i x → entries_view ms ≡ entries_view (take i ms) ++ (record { key = x.key; value = tree_view x.value } ∷ entries_view (drop (i + 1) ms))
+entries-parted ms i x h e = ap entries_view (parted ms i x h e) ∙ by (take i ms)
+  where
+    by : (xs : List Member) → entries_view (xs ++ (x ∷ drop (i + 1) ms)) ≡ entries_view xs ++ (record { key = x.key; value = tree_view x.value } ∷ entries_view (drop (i + 1) ms))
+    by [] = ap (λ r. r ∷ entries_view (drop (i + 1) ms)) (entry_seen x)
+    by (y ∷ xs) = ap (λ r. entry_of (member_view y) ∷ r) (by xs)

@@ -1,3 +1,5 @@
+pub mod Interventions
 pub mod Own
+pub mod Rows
 pub mod Surveys
 pub mod Views

@@ -1,7 +1,9 @@
 //! A plain reader of instances over the tree of a text.
 #![tactic(auto)]
 
+mod interventions;
 mod keys;
 mod look_up;
 mod own;
+mod rows;
 mod survey;
