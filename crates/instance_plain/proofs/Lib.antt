@@ -1,3 +1,4 @@
+mod CrossLemmas
 mod Insides
 mod KeyLemmas
 mod Lookings

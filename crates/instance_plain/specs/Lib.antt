@@ -1,5 +1,6 @@
 pub mod Interventions
 pub mod Own
+pub mod Reduced
 pub mod Rows
 pub mod Surveys
 pub mod Views

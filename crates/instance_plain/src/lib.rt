@@ -1,9 +1,13 @@
 //! A plain reader of instances over the tree of a text.
 #![tactic(auto)]
 
+mod error;
 mod interventions;
 mod keys;
 mod look_up;
 mod own;
+mod read;
 mod rows;
 mod survey;
+
+pub use error::PlainFault;
