@@ -2,9 +2,12 @@ mod CrossLemmas
 mod Insides
 mod KeyLemmas
 mod Lookings
+mod Names
 mod Opened
 mod RowLemmas
+mod Shaped
 mod Sizes
 mod Splits
 mod SurveyLemmas
 mod TableLemmas
+mod Values

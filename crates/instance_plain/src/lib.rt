@@ -6,7 +6,6 @@ mod interventions;
 mod keys;
 mod look_up;
 mod own;
-mod read;
 mod rows;
 mod survey;
 
