@@ -9,12 +9,8 @@ use Rattle.instance_shape.specs.LookUp.{Entry, elements, entries, keys, known, w
 use Rattle.instance_shape.specs.CrossFaults.{CrossFault, unless, first_in, risk_fault, risk_faults, tmax_fault, delta_fault, workload_fault, intervention_fault, intervention_faults, list_fault, band_faults, exclusion_faults, cross_fault}
 use Rattle.instance_plain.specs.Rows.{all_hold, has_count, run_is_sound, runs_are_sound, is_sound_intervention}
 use Rattle.instance_plain.specs.Interventions.{are_sound}
+use Rattle.instance_plain.specs.Told.{TellsNone}
 use Rattle.instance_plain.specs.Reduced.{IsReduced, HaveNoWorkload}
-
--- the test says whether there is no fault
-abbrev pub TellsNone : Option CrossFault → Bool → Type 0
-TellsNone o true = o ≡ None
-TellsNone o false = o ≡ None → ⊥
 
 some_not : (f : CrossFault) → Some f ≡ None → ⊥
 some_not f h = cc

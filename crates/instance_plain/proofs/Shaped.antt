@@ -24,6 +24,7 @@ use Rattle.instance_shape.specs.Keys.{Key, by_text, key_of, has_key, same_key, t
 use Rattle.instance_shape.specs.Shape.{Placed, placed, placed_node, placed_elements, placed_members, under, element, required, late_keys, kind_of}
 use Rattle.instance_shape.specs.ShapeFaults.{where_so, values_faults, value_faults, own_faults, keys_faults, key_faults, keys_of, first_missing, missing_at, numbers_at, is_risk, is_workload, count_faults, shape_faults, outside}
 use Rattle.instance_shape.specs.LookUp.{Entry, entries, entry_list, elements, tree_list, keys, first_value, at_key, known, whole_at, part_at}
+use Rattle.instance_plain.specs.Told.{IsShaped}
 use Rattle.instance_plain.proofs.SurveyLemmas.{clear_left, clear_right, clear_both, values_faults-append}
 
 -- ---- the numbers under risk and under workload
@@ -49,11 +50,6 @@ pub shaped_so : (limits : Limits) (root : Tree) → values_faults limits (placed
 shaped_so limits root h r w = clear_both _ (count_faults (slice_get (numbers_at is_workload (placed spot.Root root)) limits.workload_entries) which.WorkloadEntries)
     (clear_both (values_faults limits (placed spot.Root root)) (count_faults (slice_get (numbers_at is_risk (placed spot.Root root)) limits.risk_cells) which.RiskCells) h (past_none (numbers_at is_risk (placed spot.Root root)) limits.risk_cells which.RiskCells r))
     (past_none (numbers_at is_workload (placed spot.Root root)) limits.workload_entries which.WorkloadEntries w)
-
-pub record IsShaped (limits : Limits) (root : Tree) : Type 0 where
-  pub values : values_faults limits (placed spot.Root root) ≡ []
-  pub risks : length (numbers_at is_risk (placed spot.Root root)) ≤ limits.risk_cells
-  pub workloads : length (numbers_at is_workload (placed spot.Root root)) ≤ limits.workload_entries
 
 pub shaped_is : (limits : Limits) (root : Tree) → shape_faults limits root ≡ [] → IsShaped limits root
 shaped_is limits root h =

@@ -3,4 +3,5 @@ pub mod Own
 pub mod Reduced
 pub mod Rows
 pub mod Surveys
+pub mod Told
 pub mod Views

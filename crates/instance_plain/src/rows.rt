@@ -20,7 +20,7 @@ pub struct Rows {
 }
 
 /// The count of a number, and whether reading has rounded it.
-#[tactic(auto, unfolding(decimal_json::specs::Exact::fixed))]
+#[tactic(auto, unfolding(decimal_json::specs::Exact::fixed, decimal_json::specs::Token::parts_of))]
 fn count_of(tree: &Tree) -> (Fixed, bool)
     ensures count { result.0 ≡ look.count_at (tree_view tree.now) }
     ensures differs { result.1 ≡ look.differs_at (tree_view tree.now) }

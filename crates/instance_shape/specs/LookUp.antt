@@ -94,21 +94,15 @@ interventions root = entries (known is.Interventions root)
 abbrev pub durations : Tree → List ℕ
 durations v = take (whole_at (known is.Tmax v)) (map whole_at (elements (known is.Delta v)))
 
+-- the value under a period or start of a value, if there is one
+abbrev pub number_in : ℕ → Option Tree → Option Tree
+number_in n None = None
+number_in n (Some t) = at_number n t
+
 -- the risks of an intervention in period t at start s, where the file has a list of them
 abbrev pub risk_list : Tree → ℕ → ℕ → Option (List Tree)
-risk_list v t s = option_map elements (in_period (at_number t (known is.Risk v)))
-  where
-    in_period : Option Tree → Option Tree
-    in_period None = None
-    in_period (Some p) = at_number s p
+risk_list v t s = option_map elements (number_in s (at_number t (known is.Risk v)))
 
 -- its workload of a resource in period t at start s, where the file has an entry
 abbrev pub workload : Tree → List ℕ → ℕ → ℕ → Option Tree
-workload v resource t s = in_resource (at_key resource (known is.Workload v))
-  where
-    in_period : Option Tree → Option Tree
-    in_period None = None
-    in_period (Some p) = at_number s p
-    in_resource : Option Tree → Option Tree
-    in_resource None = None
-    in_resource (Some r) = in_period (at_number t r)
+workload v resource t s = number_in s (number_in t (at_key resource (known is.Workload v)))

@@ -66,7 +66,7 @@ survey_elements-survey_value-requires t c =
 
 pub survey_members-survey_value-requires : goal.survey_members-survey_value-requires
 survey_members-survey_value-requires t c =
-    let turn : IsEntryTurn c.args.spot c.args.members.now c.loop-member.member-index c.member-item.result c.under.result = record { below = omega arith; item = c.member-item.is; spot = c.under.ensures ∙ ap (under c.args.spot) c.as_str.ensures } in
+    let turn : IsEntryTurn c.args.spot c.args.members.now c.loop-member.member-index c.member-item.result c.under.result = record { below = omega arith; item = c.member-item.is; spot = c.under.ensures ∙ ap (under c.args.spot) c.as_str.ensures.same } in
     let size = at_most member_size c.args.members.now c.loop-member.member-index c.member-item.result (omega arith) in
     let same = ap member_size c.member-item.is in
     (omega (arith, size, same, tree_size-member c.member-item.result), omega (arith, entry_room c.args.spot c.args.members.now c.loop-member.member-index c.member-item.result c.under.result turn, c.requires.room))
@@ -84,7 +84,7 @@ survey_elements-returns-in-None t c =
 
 pub survey_members-returns-in-None : goal.survey_members-returns-in-None
 survey_members-returns-in-None t c =
-    let turn : IsEntryTurn c.args.spot c.args.members.now c.loop-member.member-index c.member-item.result c.under.result = record { below = omega arith; item = c.member-item.is; spot = c.under.ensures ∙ ap (under c.args.spot) c.as_str.ensures } in
+    let turn : IsEntryTurn c.args.spot c.args.members.now c.loop-member.member-index c.member-item.result c.under.result = record { below = omega arith; item = c.member-item.is; spot = c.under.ensures ∙ ap (under c.args.spot) c.as_str.ensures.same } in
     entry_fault c.args.limits.now c.args.spot c.args.members.now c.loop-member.member-index c.member-item.result c.under.result turn (none_survey c.args.limits.now (placed c.under.result (tree_view c.member-item.result.value)) c.in_ok-survey_value.field-0 c.in-None.is c.in_ok-survey_value.ensures)
 
 pub survey_elements-plus-so_far-requires : goal.survey_elements-plus-so_far-requires
@@ -97,7 +97,7 @@ survey_elements-plus-so_far-requires t c =
 
 pub survey_members-plus-so_far-requires : goal.survey_members-plus-so_far-requires
 survey_members-plus-so_far-requires t c =
-    let turn : IsEntryTurn c.args.spot c.args.members.now c.loop-member.member-index c.member-item.result c.under.result = record { below = omega arith; item = c.member-item.is; spot = c.under.ensures ∙ ap (under c.args.spot) c.as_str.ensures } in
+    let turn : IsEntryTurn c.args.spot c.args.members.now c.loop-member.member-index c.member-item.result c.under.result = record { below = omega arith; item = c.member-item.is; spot = c.under.ensures ∙ ap (under c.args.spot) c.as_str.ensures.same } in
     let more = some_survey c.args.limits.now (placed c.under.result (tree_view c.member-item.result.value)) c.in_ok-survey_value.field-0 c.in-Some.more c.in-Some.is c.in_ok-survey_value.ensures in
     let fits : Fits c.loop-member.so_far c.in-Some.more = both_fit (placed_members c.args.spot (members_view (take c.loop-member.member-index c.args.members.now))) (placed c.under.result (tree_view c.member-item.result.value)) (placed_members c.args.spot (members_view c.args.members.now))
         c.loop-member.so_far c.in-Some.more c.loop-member.invariant.counts more.counts (entry_room c.args.spot c.args.members.now c.loop-member.member-index c.member-item.result c.under.result turn) c.requires.room in
@@ -111,6 +111,6 @@ survey_elements-loop-before-preserved t c =
 
 pub survey_members-loop-member-preserved : goal.survey_members-loop-member-preserved
 survey_members-loop-member-preserved t c =
-    let turn : IsEntryTurn c.args.spot c.args.members.now c.loop-member.member-index c.member-item.result c.under.result = record { below = omega arith; item = c.member-item.is; spot = c.under.ensures ∙ ap (under c.args.spot) c.as_str.ensures } in
+    let turn : IsEntryTurn c.args.spot c.args.members.now c.loop-member.member-index c.member-item.result c.under.result = record { below = omega arith; item = c.member-item.is; spot = c.under.ensures ∙ ap (under c.args.spot) c.as_str.ensures.same } in
     entry_survey c.args.limits.now c.args.spot c.args.members.now c.loop-member.member-index c.member-item.result c.under.result c.loop-member.so_far c.in-Some.more c.plus-so_far.result turn c.loop-member.invariant
     (some_survey c.args.limits.now (placed c.under.result (tree_view c.member-item.result.value)) c.in_ok-survey_value.field-0 c.in-Some.more c.in-Some.is c.in_ok-survey_value.ensures) c.plus-so_far.ensures
