@@ -1,4 +1,5 @@
 mod Bounds
+mod Building
 mod CrossLemmas
 mod Few
 mod Fitting

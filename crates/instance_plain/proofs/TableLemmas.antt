@@ -1,8 +1,10 @@
 -- The tables of the interventions, one by one.
-use Rattle.std.proofs.Common.{◌≡◌, ℕ, suc, ◌+◌, ◌<◌, ◌≤◌, ◌&&◌, Bool, true, false, cond, not, List, [], ◌∷◌, ◌++◌, map, length, take, drop, get_or, Option, Some, None, IsSome, refl, sym, ◌∙◌, ap, subst, arith, append_assoc, append-nil, zero, is_some}
+use Rattle.std.proofs.Common.{◌≡◌, ℕ, suc, ◌+◌, ◌<◌, ◌≤◌, ◌&&◌, Bool, true, false, cond, not, List, [], ◌∷◌, ◌++◌, map, length, take, drop, get_or, Option, Some, None, IsSome, refl, sym, ◌∙◌, ap, subst, arith, append_assoc, append-nil, length-append, zero, is_some}
 use Rattle.std.proofs.lemmas.List.{length-map}
 use Rattle.std.proofs.lemmas.Bool.Decides.{nat_tests}
-use Rattle.std.specs.Prelude.{string_bytes, nat_le, Vec}
+use Rattle.std.specs.Prelude.{string_bytes, nat_le, Vec, AllPairs, slice_index_or, bytes_eq, ◌||◌, ◌≢◌}
+use Rattle.std.proofs.lemmas.Slice.Eq.{bytes_eq-Decides}
+use Rattle.instance_plain.proofs.Lookings.{entries-parted}
 use Rattle.std.specs.declared.alloc.Global.{Global}
 use Rattle.std.specs.declared.string.String.{String}
 use Rattle.decimal_json.specs.declared.tree.Tree.{Tree}
@@ -110,28 +112,45 @@ names_of-more (by_number n ∷ ks) k = ap (λ r. [] ∷ r) (names_of-more ks k)
 pub names-more : {Y Z : Type 0} (ks : List (String Y)) (js : List (String Z)) (k : List ℕ) → texts_of js ≡ texts_of ks ++ by_text k ∷ [] → map string_bytes js ≡ map string_bytes ks ++ k ∷ []
 names-more ks js k h = sym (names_of-texts js) ∙ ap names_of h ∙ names_of-more (texts_of ks) k ∙ ap (λ r. r ++ k ∷ []) (names_of-texts ks)
 
-keys_of-names : {Y : Type 0} (ks : List (String Y)) (ms : List Member) → map string_bytes ks ≡ map (λ e. e.key) (entries_view ms) → texts_of ks ≡ keys_of kind.Names (members_view ms)
-keys_of-names ks ms h = texts ks ∙ ap (map by_text) h ∙ by ms
+-- no name before the last of some names that are apart equals it
+
+at_front : (A B : List (List ℕ)) (j : ℕ) (d : List ℕ) → j < length A → slice_index_or (A ++ B) j d ≡ slice_index_or A j d
+at_front [] B j d h = absurd (omega arith)
+at_front (a ∷ A) B zero d h = refl
+at_front (a ∷ A) B (suc j) d h = at_front A B j d (omega arith)
+
+at_end : (A B : List (List ℕ)) (k d : List ℕ) → slice_index_or (A ++ (k ∷ B)) (length A) d ≡ k
+at_end [] B k d = refl
+at_end (a ∷ A) B k d = at_end A B k d
+
+other_names : (A B : List (List ℕ)) (k : List ℕ) → AllPairs (λ a b. a ≢ b) (A ++ (k ∷ B)) → (j : ℕ) (d : List ℕ) → j < length A → slice_index_or A j d ≢ k
+other_names A B k a j d h = λ e. a j (length A) d h (omega (arith, length-append A (k ∷ B))) (at_front A (k ∷ B) j d h ∙ e ∙ sym (at_end A B k d))
+
+not_among : (A : List (List ℕ)) (k : List ℕ) → ((j : ℕ) (d : List ℕ) → j < length A → slice_index_or A j d ≢ k) → has_key (map by_text A) (by_text k) ≡ false
+not_among [] k h = refl
+not_among (a ∷ A) k h = by (bytes_eq k a) refl (not_among A k (λ j d l. h (suc j) d (omega arith)))
   where
-    texts : {Y : Type 0} (ks : List (String Y)) → texts_of ks ≡ map by_text (map string_bytes ks)
-    texts [] = refl
-    texts (k ∷ ks) = ap (λ r. by_text (string_bytes k) ∷ r) (texts ks)
-    by : (ms : List Member) → map by_text (map (λ e. e.key) (entries_view ms)) ≡ keys_of kind.Names (members_view ms)
-    by [] = refl
-    by (m ∷ ms) = ap (λ r. by_text (member_view m).key ∷ r) (by ms)
+    by : (b : Bool) → bytes_eq k a ≡ b → has_key (map by_text A) (by_text k) ≡ false → b || has_key (map by_text A) (by_text k) ≡ false
+    by true e r = absurd (h 0 [] (omega arith) (sym ((bytes_eq-Decides k a).0 e)))
+    by false e r = r
 
-not_so : (b : Bool) (at : ℕ) (f : Flaw) (rest : List Fault) → where_so b at f ++ rest ≡ [] → b ≡ false
-not_so false at f rest h = refl
-not_so true at f rest h = cc
+texts_of-names : {Y : Type 0} (ks : List (String Y)) → texts_of ks ≡ map by_text (map string_bytes ks)
+texts_of-names [] = refl
+texts_of-names (k ∷ ks) = ap (λ r. by_text (string_bytes k) ∷ r) (texts_of-names ks)
 
--- a name without a fault is new
-pub new_name : {Y : Type 0} (limits : Limits) (ks : List (String Y)) (ms : List Member) (i : ℕ) (x : Member) (new : Bool) (text : List ℕ) → i < length ms → x ≡ get_or ms i x → keys_faults limits spot.Interventions [] (members_view ms) ≡ []
+map-append : {A B : Type 0} (f : A → B) (xs ys : List A) → map f (xs ++ ys) ≡ map f xs ++ map f ys
+map-append f [] ys = refl
+map-append f (x ∷ xs) ys = ap (λ r. f x ∷ r) (map-append f xs ys)
+
+-- the name of this turn's intervention is new
+pub new_name : {Y : Type 0} (ks : List (String Y)) (ms : List Member) (i : ℕ) (x : Member) (new : Bool) (text : List ℕ) → i < length ms → x ≡ get_or ms i x → AllPairs (λ a b. a ≢ b) (map (λ e. e.key) (entries_view ms))
     → map string_bytes ks ≡ map (λ e. e.key) (entries_view (take i ms)) → text ≡ x.key → new ≡ not (has_key (texts_of ks) (by_text text)) → new ≡ true
-new_name limits ks ms i x new text h e k n t w =
-    let f = keys_of-names ks (take i ms) n in
-    let split = ap (λ q. keys_faults limits spot.Interventions [] (members_view q)) (parted ms i x h e) ∙ keys_split limits spot.Interventions [] (texts_of ks) (take i ms) (drop (i + 1) ms) x f in
-    let here = clear_left (key_faults limits spot.Interventions (texts_of ks) (member_view x).at x.key) _ (clear_right (keys_faults limits spot.Interventions [] (members_view (take i ms))) _ (sym split ∙ k)) in
-    w ∙ ap (λ q. not (has_key (texts_of ks) (by_text q))) t ∙ ap not (not_so (has_key (texts_of ks) (by_text x.key)) (member_view x).at flaw.Double _ (clear_left _ _ (clear_left _ _ here)))
+new_name ks ms i x new text h e a n t w =
+    let A = map (λ (e : Entry). e.key) (entries_view (take i ms)) in
+    let B = map (λ (e : Entry). e.key) (entries_view (drop (i + 1) ms)) in
+    let split : map (λ (e : Entry). e.key) (entries_view ms) ≡ A ++ (x.key ∷ B) = ap (map (λ (e : Entry). e.key)) (entries-parted ms i x h e) ∙ map-append (λ (e : Entry). e.key) (entries_view (take i ms)) (record { key = x.key; value = tree_view x.value } ∷ entries_view (drop (i + 1) ms)) in
+    w ∙ ap (λ q. not (has_key (texts_of ks) (by_text q))) t ∙ ap (λ q. not (has_key q (by_text x.key))) (texts_of-names ks ∙ ap (map by_text) n)
+    ∙ ap not (not_among A x.key (other_names A B x.key (subst (λ (q : List (List ℕ)). AllPairs (λ a b. a ≢ b) q) split a)))
 
 -- what one intervention more adds to each table
 pub record IsMore (periods : ℕ) (e : Entry) (old new : Interventions) (text : List ℕ) (row : Vec ℕ Global) : Type 0 where

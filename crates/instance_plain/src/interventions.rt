@@ -1,12 +1,9 @@
 // The tables of the interventions, one by one.
 
-ghost use Rattle.std.specs.Prelude.{◌≡◌, ◌≤◌, ◌++◌, ◌∷◌, [], length, IfOk, IfSome, true, map, is_some, string_bytes};
-ghost use Rattle.decimal_json.specs.Trees.{tree_view, members_view};
-ghost use Rattle.instance_model.specs.Limits.{standard_limits};
-ghost use Rattle.instance_shape.specs.declared.spot.Spot.TheVariants as spots;
+ghost use Rattle.std.specs.Prelude.{◌≡◌, ◌≢◌, ◌≤◌, ◌++◌, AllPairs, length, IfOk, IfSome, true, map, is_some, string_bytes};
+ghost use Rattle.decimal_json.specs.Trees.{tree_view};
 ghost use Rattle.instance_shape.specs.FileTables as tables;
 ghost use Rattle.instance_shape.specs.LookUp as look;
-ghost use Rattle.instance_shape.specs.ShapeFaults.{keys_faults};
 ghost use Rattle.instance_plain.specs.Rows.{is_sound_intervention, runs_rows};
 ghost use Rattle.instance_plain.specs.Interventions.{AreTablesOf, are_sound};
 ghost use Rattle.instance_plain.specs.Views.{entries_view};
@@ -77,7 +74,7 @@ pub fn read_interventions(
 ) -> Result<Option<Interventions>, AllocError>
     requires each { length counts.now ≡ periods }
     requires few { periods ≤ 512 }
-    requires keys { keys_faults standard_limits spots.Interventions [] (members_view members.now) ≡ [] }
+    requires apart { AllPairs (λ a b. a ≢ b) (map (λ e. e.key) (entries_view members.now)) }
     ensures sound { IfOk result (λ r. is_some r ≡ are_sound periods counts.now (entries_view members.now)) }
     ensures tables { IfOk result (λ r. IfSome r (AreTablesOf periods (entries_view members.now))) }
 {

@@ -1,4 +1,3 @@
-//! A plain reader of instances over the tree of a text.
 #![tactic(auto)]
 
 mod error;

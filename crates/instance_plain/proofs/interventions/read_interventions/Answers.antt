@@ -2,7 +2,6 @@ use Rattle.std.proofs.Common.{◌≡◌, [], ◌∷◌, ◌++◌, sym, ◌∙◌
 use Rattle.std.specs.Prelude.{string_bytes, Vec, None}
 use Rattle.std.specs.declared.alloc.Global.{Global}
 use Rattle.decimal_json.specs.Trees.{tree_view}
-use Rattle.instance_model.specs.Limits.{standard_limits}
 use Rattle.instance_shape.specs.FileTables.{all_below, risks_at, soft_at}
 use Rattle.instance_shape.specs.LookUp.{Entry, durations}
 use Rattle.instance_plain.specs.Rows.{is_sound_intervention, runs_rows}
@@ -23,7 +22,7 @@ loop-member-preserved c =
     let old = c.loop-member.invariant.tables in
     let more = entries-more ms i x (omega arith) c.member-item.is in
     let text = c.in_ok-to_string.ensures.ok ∙ c.as_str.ensures.same in
-    let new = new_name standard_limits c.loop-member.read.names.keys ms i x c.in_ok-add_text.field-0 (string_bytes c.in_ok-to_string.field-0) (omega arith) c.member-item.is c.requires.keys old.names text c.in_ok-add_text.ensures.new in
+    let new = new_name c.loop-member.read.names.keys ms i x c.in_ok-add_text.field-0 (string_bytes c.in_ok-to_string.field-0) (omega arith) c.member-item.is c.requires.apart old.names text c.in_ok-add_text.ensures.new in
     let some : true ≡ is_sound_intervention c.args.periods c.args.counts.now (tree_view x.value) = subst (λ (o : Option (Vec ℕ Global)). is_some o ≡ is_sound_intervention c.args.periods c.args.counts.now (tree_view x.value)) c.in-Some.is c.in_ok-add_intervention.ensures.sound in
     let v = tree_view x.value in
     record {
