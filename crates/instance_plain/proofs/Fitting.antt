@@ -33,7 +33,7 @@ use Rattle.instance_plain.proofs.Values.{periods_range, quantile_some, known_cle
 
 -- ---- nothing of something
 
-no_names : (limit : ℕ) → AreNames limit []
+pub no_names : (limit : ℕ) → AreNames limit []
 no_names limit = record { few = omega arith; shaped = λ i d k. absurd (omega arith); apart = λ i j d k m. absurd (omega arith) }
 
 none_of : {A : Type 0} (P : A → Type 0) → All P []

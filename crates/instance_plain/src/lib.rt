@@ -5,7 +5,9 @@ mod interventions;
 mod keys;
 mod look_up;
 mod own;
+mod read;
 mod rows;
 mod survey;
 
 pub use error::PlainFault;
+pub use read::read_plain;
