@@ -1,14 +1,14 @@
 -- How large the numbers are that are read of a text.
-use Rattle.std.proofs.Common.{◌≡◌, ℕ, zero, suc, ◌+◌, ◌*◌, ◌<◌, ◌≤◌, ◌^◌, ◌&&◌, Bool, true, false, cond, not, List, [], ◌∷◌, map, length, Option, Some, None, refl, sym, ◌∙◌, ap, subst, arith, unwrap_or, option_map, take, get_or}
-use Rattle.std.specs.Prelude.{◌||◌, ◌==◌, All, nat_le, nat_lt, ℤ, pos, neg_ℤ, unsigned_abs}
+use Rattle.std.proofs.Common.{◌≡◌, ℕ, zero, suc, ◌<◌, ◌≤◌, ◌^◌, ◌&&◌, Bool, true, false, cond, not, List, [], ◌∷◌, map, Option, Some, None, refl, arith, unwrap_or, option_map, take}
+use Rattle.std.specs.Prelude.{◌||◌, ◌==◌, All, nat_le, nat_lt, ℤ, pos, unsigned_abs}
 use Rattle.std.proofs.lemmas.Bool.Decides.{nat_tests}
-use Rattle.std.proofs.lemmas.List.Elements.{All-cons, All-append}
+use Rattle.std.proofs.lemmas.List.Elements.{All-cons}
 use Rattle.decimal_json.specs.Tree.{Tree, tree, Node}
 use Rattle.decimal_json.specs.Grammar.{Parts}
 use Rattle.decimal_json.specs.Decimal.{signed}
 use Rattle.decimal_json.specs.Token.{parts_of}
-use Rattle.decimal_json.specs.Exact.{nearest, is_exact, fixed_size, fixed_parts, fixed, exact_size, exact_parts, exactly, whole, millionths}
-use Rattle.instance_shape.specs.LookUp.{Entry, whole_at, part_at, count_at, token_at}
+use Rattle.decimal_json.specs.Exact.{is_exact, fixed_size, fixed_parts, fixed, exact_size, exact_parts, exactly, whole, millionths}
+use Rattle.instance_shape.specs.LookUp.{whole_at, part_at, count_at, token_at}
 
 exact_most : (p : Parts) (places most size : ℕ) → unwrap_or (exact_size p places most size) 0 ≤ most
 exact_most p places most size = by (is_exact p places size) (nat_le size most) (not p.negative || (size == 0)) refl
@@ -52,6 +52,7 @@ size_most p size = by (nat_lt size (10 ^ 20)) refl
   where
     lt : (n m : ℕ) → nat_lt n m ≡ true → n < m
     lt n m e = grind (arith, nat_tests)
+
     by : (b : Bool) → nat_lt size (10 ^ 20) ≡ b → unsigned_abs (unwrap_or (option_map (λ (f : ℤ × Bool). f.0) (cond b (Some (signed p.negative size, not (is_exact p 12 size))) None)) (pos 0)) < 10 ^ 20
     by true e = let q : size < 10 ^ 20 = lt size (10 ^ 20) e in omega (arith, signed_abs p.negative size)
     by false e = omega arith

@@ -1,6 +1,6 @@
 -- The tables that are built are those of the text.
-use Rattle.std.proofs.Common.{◌≡◌, ℕ, zero, suc, ◌+◌, ◌&&◌, Bool, true, false, cond, List, [], ◌∷◌, ◌++◌, map, length, Option, Some, None, refl, sym, ◌∙◌, ap, subst, arith}
-use Rattle.std.specs.Prelude.{ℤ, pos, ◌==◌, replicate}
+use Rattle.std.proofs.Common.{◌≡◌, ℕ, Bool, true, List, [], ◌∷◌, map, length, refl, sym, ◌∙◌, ap, arith}
+use Rattle.std.specs.Prelude.{ℤ, ◌==◌, replicate}
 use Rattle.std.proofs.lemmas.Bool.Decides.{nat_tests}
 use Rattle.decimal_json.specs.Tree.{Tree}
 use Rattle.instance_model.specs.declared.parts.LoadCell.{LoadCell}
@@ -45,7 +45,7 @@ pub read_told : (root : Tree) (n : ℕ) (counts : List ℕ) (es : List Entry) (s
     → TellsNone (cross_fault root) s
 read_told root n counts es s hn hc he l k r =
     cross_told root true s r (sym (eq_true (length (scenarios root)) (periods root) (ap length (sym hc) ∙ l ∙ hn)))
-        (k ∙ ap (λ q. are_sound q counts es) hn ∙ ap (λ q. are_sound (periods root) q es) hc ∙ ap (are_sound (periods root) (scenarios root)) he)
+    (k ∙ ap (λ q. are_sound q counts es) hn ∙ ap (λ q. are_sound (periods root) q es) hc ∙ ap (are_sound (periods root) (scenarios root)) he)
 
 pub none_below : {A : Type 0} (f : Tree → List A) (es : List Entry) → es ≡ [] → [] ≡ all_below es f
 none_below f es h = sym (ap (λ q. all_below q f) h)

@@ -1,5 +1,5 @@
 -- Faults across the file, in the reduced form.
-use Rattle.std.proofs.Common.{◌≡◌, ℕ, zero, suc, ◌+◌, ◌-◌, ◌<◌, ◌≤◌, ◌&&◌, Bool, true, false, cond, not, List, [], ◌∷◌, ◌++◌, map, length, Option, Some, None, refl, sym, ◌∙◌, ap, subst, arith, IsTrue, is_some, is_none}
+use Rattle.std.proofs.Common.{◌≡◌, ℕ, zero, suc, ◌+◌, ◌-◌, ◌&&◌, Bool, true, false, cond, List, [], ◌∷◌, ◌++◌, map, length, Option, Some, None, refl, sym, ◌∙◌, ap, subst}
 use Rattle.std.specs.Prelude.{slice_index, nat_le, ◌==◌}
 use Rattle.decimal_json.specs.Tree.{Tree}
 use Rattle.instance_model.specs.Rules.{first_of, or_else}
@@ -7,7 +7,7 @@ use Rattle.instance_model.specs.Tables.{allowed_of}
 use Rattle.instance_shape.specs.declared.fault.Known.TheVariants as is
 use Rattle.instance_shape.specs.LookUp.{Entry, elements, entries, keys, known, whole_at, durations, risk_list, periods, scenarios, interventions}
 use Rattle.instance_shape.specs.CrossFaults.{CrossFault, unless, first_in, risk_fault, risk_faults, tmax_fault, delta_fault, workload_fault, intervention_fault, intervention_faults, list_fault, band_faults, exclusion_faults, cross_fault}
-use Rattle.instance_plain.specs.Rows.{all_hold, has_count, run_is_sound, runs_are_sound, is_sound_intervention}
+use Rattle.instance_plain.specs.Rows.{all_hold, has_count, runs_are_sound, is_sound_intervention}
 use Rattle.instance_plain.specs.Interventions.{are_sound}
 use Rattle.instance_plain.specs.Told.{TellsNone}
 use Rattle.instance_plain.specs.Reduced.{IsReduced, HaveNoWorkload}
@@ -67,6 +67,7 @@ cross_told root b c r h k =
     and_true : (x : Bool) (o : Option CrossFault) → TellsNone o (x && true) → TellsNone o x
     and_true true o h = h
     and_true false o h = h
+
     after : TellsNone (or_else (band_faults root) (or_else (intervention_faults root) (exclusion_faults root))) (are_sound (periods root) (scenarios root) (interventions root))
     after = or_told (band_faults root) _ true (are_sound (periods root) (scenarios root) (interventions root)) (none_in _ (entries (known is.Resources root)) r.resources)
         (and_true (are_sound (periods root) (scenarios root) (interventions root)) _ (or_told (intervention_faults root) (exclusion_faults root) (are_sound (periods root) (scenarios root) (interventions root)) true (interventions_told root (interventions root) r.workloads) (none_in _ (entries (known is.Exclusions root)) r.exclusions)))

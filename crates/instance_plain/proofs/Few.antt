@@ -1,5 +1,5 @@
 -- The risks of the tables are no more than the numbers under risk in the file.
-use Rattle.std.proofs.Common.{◌≡◌, ℕ, zero, suc, ◌+◌, ◌-◌, ◌<◌, ◌≤◌, ◌&&◌, Bool, true, false, cond, not, List, [], ◌∷◌, ◌++◌, map, length, Option, Some, None, refl, sym, ◌∙◌, ap, subst, arith, length-append, unwrap_or, option_map, bytes_eq, ◌⊎◌, inl, inr}
+use Rattle.std.proofs.Common.{◌≡◌, ℕ, zero, suc, ◌+◌, ◌<◌, ◌≤◌, ◌&&◌, Bool, true, false, cond, List, [], ◌∷◌, ◌++◌, length, Option, Some, None, refl, sym, ◌∙◌, ap, subst, arith, length-append, unwrap_or, option_map, bytes_eq, ◌⊎◌, inl, inr}
 use Rattle.std.proofs.Math.Nat.{eq-or-lt_of_le}
 use Rattle.std.specs.Prelude.{slice_index, ◌==◌, nat_lt}
 use Rattle.std.proofs.lemmas.Bool.Decides.{nat_tests}
@@ -9,20 +9,19 @@ use Rattle.decimal_json.specs.Tree.{Tree, tree, Node, Trees, no_trees, and_tree,
 use Rattle.instance_model.specs.Naturals.{count_sum}
 use Rattle.instance_model.specs.Tables.{allowed_of}
 use Rattle.instance_model.specs.declared.limits.Limits.{Limits}
-use Rattle.instance_shape.specs.declared.fault.Flaw.TheVariants as flaw
 use Rattle.instance_shape.specs.declared.fault.Known.{Known}
 use Rattle.instance_shape.specs.declared.fault.Known.TheVariants as is
 use Rattle.instance_shape.specs.declared.spot.Spot.{Spot}
 use Rattle.instance_shape.specs.declared.spot.Spot.TheVariants as spot
 use Rattle.instance_shape.specs.Keys.{is_digits, number_of, text_of}
-use Rattle.instance_shape.specs.Shape.{Placed, placed, placed_elements, placed_members, under, is_number}
-use Rattle.instance_shape.specs.ShapeFaults.{values_faults, value_faults, own_faults, where_so, numbers_at, is_risk, place_of_number}
+use Rattle.instance_shape.specs.Shape.{Placed, placed, placed_elements, placed_members, under}
+use Rattle.instance_shape.specs.ShapeFaults.{values_faults, value_faults, numbers_at, is_risk}
 use Rattle.instance_shape.specs.LookUp.{Entry, entries, entry_list, elements, tree_list, first_value, at_key, at_number, number_in, count_at, known, risk_list, durations, interventions}
-use Rattle.instance_shape.specs.FileTables.{lists_below, risks_at, all_below}
+use Rattle.instance_shape.specs.FileTables.{risks_at, all_below}
 use Rattle.instance_plain.specs.Rows.{run_rows, runs_rows}
 use Rattle.instance_plain.proofs.SurveyLemmas.{clear_left, clear_right, values_faults-append, numbers_at-append}
-use Rattle.instance_plain.proofs.Shaped.{not_so, not_not, at_key_clear}
-use Rattle.instance_plain.proofs.Sums.{length-lists_below, length-all_below, sum_over, allowed_ends, count_same, count_shift}
+use Rattle.instance_plain.proofs.Shaped.{at_key_clear}
+use Rattle.instance_plain.proofs.Sums.{length-lists_below, length-all_below, sum_over, allowed_ends, count_same}
 
 -- ---- sums of numbers
 
@@ -93,16 +92,18 @@ few_under w (e ∷ es) n =
     let rest = few_under w es n in
     let one : count_sum n (λ k. cond (is_digits e.key && (number_of e.key == k)) (w e.value) 0) ≤ w e.value = at_one (is_digits e.key) in
     let each = count_le n (λ k. weight_of w (cond (is_digits e.key && (number_of e.key == k)) (Some e.value) (first_value (λ key. is_digits key && (number_of key == k)) es)))
-        (λ k. cond (is_digits e.key && (number_of e.key == k)) (w e.value) 0 + weight_of w (first_value (λ key. is_digits key && (number_of key == k)) es))
-        (λ k l. split (is_digits e.key && (number_of e.key == k)) (first_value (λ key. is_digits key && (number_of key == k)) es)) in
+    (λ k. cond (is_digits e.key && (number_of e.key == k)) (w e.value) 0 + weight_of w (first_value (λ key. is_digits key && (number_of key == k)) es))
+    (λ k l. split (is_digits e.key && (number_of e.key == k)) (first_value (λ key. is_digits key && (number_of key == k)) es)) in
     omega (arith, each, one, rest, count_plus n (λ k. cond (is_digits e.key && (number_of e.key == k)) (w e.value) 0) (λ k. weight_of w (first_value (λ key. is_digits key && (number_of key == k)) es)))
   where
     split : (b : Bool) (o : Option Tree) → weight_of w (cond b (Some e.value) o) ≤ cond b (w e.value) 0 + weight_of w o
     split true o = omega arith
     split false o = omega arith
+
     most : (b : Bool) (x : ℕ) → cond b x 0 ≤ x
     most true x = omega arith
     most false x = omega arith
+
     at_one : (b : Bool) → count_sum n (λ k. cond (b && (number_of e.key == k)) (w e.value) 0) ≤ w e.value
     at_one true = omega (arith, count_one n (number_of e.key) (w e.value), most (nat_lt (number_of e.key) n) (w e.value))
     at_one false = omega (arith, count_zero n)
@@ -122,6 +123,7 @@ risk_count v t s = length-map (unwrap_or (risk_list v t s) []) count_at ∙ by (
     inner : (o : Option Tree) → length (unwrap_or (option_map elements o) []) ≡ weight_of (λ q. length (elements q)) o
     inner None = refl
     inner (Some q) = refl
+
     by : (o : Option Tree) → length (unwrap_or (option_map elements (number_in s o)) []) ≡ weight_of (λ p. weight_of (λ q. length (elements q)) (at_number s p)) o
     by None = refl
     by (Some p) = inner (at_number s p)
@@ -133,32 +135,36 @@ few_risks periods ds v =
     let n = length ds in
     let all : length (runs_rows risks_at periods ds v) ≡ count_sum n (λ k. length (cond (allowed_of periods ds (k + 1)) (run_rows risks_at v (k + 1) (slice_index ds k)) [])) = length-lists_below n _ in
     let wide : count_sum n (λ k. length (cond (allowed_of periods ds (k + 1)) (run_rows risks_at v (k + 1) (slice_index ds k)) [])) ≤ count_sum n (λ k. count_sum (periods + 1) (λ t. L t (k + 1))) =
-        count_le n _ _ (λ k l. one_run k (allowed_of periods ds (k + 1)) refl) in
+    count_le n _ _ (λ k l. one_run k (allowed_of periods ds (k + 1)) refl) in
     let swapped : count_sum n (λ k. count_sum (periods + 1) (λ t. L t (k + 1))) ≡ count_sum (periods + 1) (λ t. count_sum n (λ k. L t (k + 1))) = count_swap n (periods + 1) (λ k t. L t (k + 1)) in
     let starts : count_sum (periods + 1) (λ t. count_sum n (λ k. L t (k + 1))) ≤ count_sum (periods + 1) (λ t. count_sum (1 + n) (λ s. L t s)) =
-        count_le (periods + 1) _ _ (λ t l. from_one n (λ s. L t s)) in
+    count_le (periods + 1) _ _ (λ t l. from_one n (λ s. L t s)) in
     let periods_of : count_sum (periods + 1) (λ t. count_sum (1 + n) (λ s. L t s)) ≤ count_sum (periods + 1) (λ t. weight_of lists_weight (at_number t (known is.Risk v))) =
-        count_le (periods + 1) _ _ (λ t l. one_period t) in
+    count_le (periods + 1) _ _ (λ t l. one_period t) in
     let entries_of : count_sum (periods + 1) (λ t. weight_of lists_weight (at_number t (known is.Risk v))) ≤ risk_weight v = few_under lists_weight (entries (known is.Risk v)) (periods + 1) in
     omega (arith, all, wide, swapped, starts, periods_of, entries_of)
   where
     from_one : (n : ℕ) (f : ℕ → ℕ) → count_sum n (λ k. f (k + 1)) ≤ count_sum (1 + n) f
     from_one n f = omega (arith, count_part (1 + n) 1 n f (omega arith), count_same n (λ k. f (k + 1)) (λ k. f (1 + k)) (λ k l. ap f (omega arith)))
+
     one_run : (k : ℕ) (a : Bool) → allowed_of periods ds (k + 1) ≡ a → length (cond a (run_rows risks_at v (k + 1) (slice_index ds k)) []) ≤ count_sum (periods + 1) (λ t. length (risks_at v (k + 1) t))
     one_run k false e = omega arith
     one_run k true e =
         let ends : k + 1 + slice_index ds k ≤ periods + 1 = allowed_ends periods ds k e in
         let part : count_sum (slice_index ds k) (λ j. length (risks_at v (k + 1) (k + 1 + j))) ≤ count_sum (periods + 1) (λ t. length (risks_at v (k + 1) t)) = count_part (periods + 1) (k + 1) (slice_index ds k) (λ t. length (risks_at v (k + 1) t)) ends in
         omega (arith, length-lists_below (slice_index ds k) (λ j. risks_at v (k + 1) (k + 1 + j)), part)
+
     nothing : (n : ℕ) → count_sum n (λ s. 0) ≤ 0
     nothing n = omega (arith, count_zero n)
+
     by_period : (m : ℕ) (o : Option Tree) → count_sum m (λ s. weight_of (λ p. weight_of (λ q. length (elements q)) (at_number s p)) o) ≤ weight_of lists_weight o
     by_period m None = nothing m
     by_period m (Some p) = few_under (λ q. length (elements q)) (entries p) m
+
     one_period : (t : ℕ) → count_sum (1 + length ds) (λ s. length (risks_at v s t)) ≤ weight_of lists_weight (at_number t (known is.Risk v))
     one_period t =
         let same : count_sum (1 + length ds) (λ s. length (risks_at v s t)) ≡ count_sum (1 + length ds) (λ s. weight_of (λ p. weight_of (λ q. length (elements q)) (at_number s p)) (at_number t (known is.Risk v))) =
-            count_same (1 + length ds) _ _ (λ s l. risk_count v t s) in
+        count_same (1 + length ds) _ _ (λ s l. risk_count v t s) in
         omega (arith, same, by_period (1 + length ds) (at_number t (known is.Risk v)))
 
 -- ---- the numbers of the file
@@ -177,8 +183,12 @@ list_elements : (limits : Limits) (n : ℕ) (ts : Trees) → values_faults limit
 list_elements limits n no_trees h = omega arith
 list_elements limits n (and_tree t ts) h =
     let all = sym (values_faults-append limits (placed spot.RiskNumber t) (placed_elements spot.RiskStart (n + 1) ts)) ∙ h in
-    omega (arith, number_one limits t (clear_left (values_faults limits (placed spot.RiskNumber t)) _ all), list_elements limits (n + 1) ts (clear_right (values_faults limits (placed spot.RiskNumber t)) _ all),
-        numbers_sum is_risk (placed spot.RiskNumber t) (placed_elements spot.RiskStart (n + 1) ts))
+    omega (
+      arith,
+      number_one limits t (clear_left (values_faults limits (placed spot.RiskNumber t)) _ all),
+      list_elements limits (n + 1) ts (clear_right (values_faults limits (placed spot.RiskNumber t)) _ all),
+      numbers_sum is_risk (placed spot.RiskNumber t) (placed_elements spot.RiskStart (n + 1) ts),
+    )
 
 list_numbers : (limits : Limits) (t : Tree) → values_faults limits (placed spot.RiskStart t) ≡ [] → length (elements t) ≤ risk_numbers spot.RiskStart t
 list_numbers limits (tree at end (Node.list ts)) h = list_elements limits 0 ts (clear_right (value_faults limits (record { spot = spot.RiskStart; tree = tree at end (Node.list ts) })) _ h)
@@ -190,14 +200,21 @@ entry_weights : (limits : Limits) (s : Spot) (w : Tree → ℕ) (ms : Members) �
 entry_weights limits s w no_members f h = omega arith
 entry_weights limits s w (and_member at k t ms) f h =
     let all = sym (values_faults-append limits (placed (under s k) t) (placed_members s ms)) ∙ h in
-    omega (arith, f k t (clear_left (values_faults limits (placed (under s k) t)) _ all), entry_weights limits s w ms f (clear_right (values_faults limits (placed (under s k) t)) _ all),
-        numbers_sum is_risk (placed (under s k) t) (placed_members s ms))
+    omega (
+      arith,
+      f k t (clear_left (values_faults limits (placed (under s k) t)) _ all),
+      entry_weights limits s w ms f (clear_right (values_faults limits (placed (under s k) t)) _ all),
+      numbers_sum is_risk (placed (under s k) t) (placed_members s ms),
+    )
 
 object_weights : (limits : Limits) (s : Spot) (w : Tree → ℕ) (t : Tree) → ((key : List ℕ) (t : Tree) → values_faults limits (placed (under s key) t) ≡ [] → w t ≤ risk_numbers (under s key) t)
     → values_faults limits (placed s t) ≡ [] → weights w (entries t) ≤ risk_numbers s t
 object_weights limits s w (tree at end (Node.object ms)) f h =
-    omega (arith, entry_weights limits s w ms f (clear_right (value_faults limits (record { spot = s; tree = tree at end (Node.object ms) })) _ h),
-        numbers_sum is_risk (record { spot = s; tree = tree at end (Node.object ms) } ∷ []) (placed_members s ms))
+    omega (
+      arith,
+      entry_weights limits s w ms f (clear_right (value_faults limits (record { spot = s; tree = tree at end (Node.object ms) })) _ h),
+      numbers_sum is_risk (record { spot = s; tree = tree at end (Node.object ms) } ∷ []) (placed_members s ms),
+    )
 object_weights limits s w (tree at end _) f h = omega arith
 
 -- a value under a key has no more numbers than the object
@@ -238,8 +255,12 @@ intervention_numbers limits v h = under_known limits spot.Intervention spot.Risk
 pub all_few : (limits : Limits) (root : Tree) (periods : ℕ) → values_faults limits (placed spot.Root root) ≡ []
     → length (all_below (interventions root) (λ v. runs_rows risks_at periods (durations v) v)) ≤ length (numbers_at is_risk (placed spot.Root root))
 all_few limits root periods h =
-    omega (arith, length-all_below (interventions root) (λ v. runs_rows risks_at periods (durations v) v), each (interventions root),
-        under_known limits spot.Root spot.Interventions is.Interventions root (λ t. weights risk_weight (entries t)) refl refl (λ t c. object_weights limits spot.Interventions risk_weight t (λ key v d. intervention_numbers limits v d) c) h)
+    omega (
+      arith,
+      length-all_below (interventions root) (λ v. runs_rows risks_at periods (durations v) v),
+      each (interventions root),
+      under_known limits spot.Root spot.Interventions is.Interventions root (λ t. weights risk_weight (entries t)) refl refl (λ t c. object_weights limits spot.Interventions risk_weight t (λ key v d. intervention_numbers limits v d) c) h,
+    )
   where
     each : (es : List Entry) → sum_over es (λ e. length (runs_rows risks_at periods (durations e.value) e.value)) ≤ weights risk_weight es
     each [] = omega arith

@@ -1,11 +1,10 @@
 -- The tables of a text in the reduced form fit.
-use Rattle.std.proofs.Common.{◌≡◌, ◌≢◌, ℕ, zero, suc, ◌+◌, ◌-◌, ◌*◌, ◌<◌, ◌≤◌, ◌^◌, ◌&&◌, Bool, true, false, cond, List, [], ◌∷◌, ◌++◌, map, length, take, Option, Some, None, refl, sym, ◌∙◌, ap, subst, arith, unwrap_or}
-use Rattle.std.specs.Prelude.{slice_index, slice_index_or, sum, nat_le, ◌==◌, All, AllPairs, ℤ, pos, unsigned_abs}
+use Rattle.std.proofs.Common.{◌≡◌, ℕ, zero, suc, ◌+◌, ◌-◌, ◌*◌, ◌<◌, ◌≤◌, ◌^◌, ◌&&◌, Bool, true, false, cond, List, [], ◌∷◌, ◌++◌, map, length, take, None, refl, sym, ◌∙◌, ap, subst, arith, unwrap_or}
+use Rattle.std.specs.Prelude.{slice_index, slice_index_or, sum, nat_le, ◌==◌, All, pos, unsigned_abs}
 use Rattle.std.proofs.lemmas.Bool.Decides.{nat_tests}
 use Rattle.std.proofs.lemmas.List.{length-map, length-take-le}
 use Rattle.std.proofs.lemmas.List.Elements.{All-cons, All-append}
-use Rattle.decimal_json.specs.Tree.{Tree, tree, Node}
-use Rattle.instance_model.specs.declared.limits.Limits.{Limits}
+use Rattle.decimal_json.specs.Tree.{Tree}
 use Rattle.instance_model.specs.declared.parts.LoadCell.{LoadCell}
 use Rattle.instance_model.specs.declared.parts.Exclusion.{Exclusion}
 use Rattle.instance_model.specs.Naturals.{count_sum}
@@ -20,7 +19,7 @@ use Rattle.instance_shape.specs.CrossFaults.{cross_fault}
 use Rattle.instance_shape.specs.FileTables.{tables, all_below, lists_below, each_run, risks_at, soft_at, cells_at, cell_of}
 use Rattle.instance_shape.specs.Shape.{placed}
 use Rattle.instance_shape.specs.ShapeFaults.{numbers_at, is_risk}
-use Rattle.instance_plain.specs.Rows.{is_sound_intervention, runs_are_sound, runs_rows, run_rows}
+use Rattle.instance_plain.specs.Rows.{is_sound_intervention, runs_are_sound, runs_rows}
 use Rattle.instance_plain.specs.Interventions.{are_sound}
 use Rattle.instance_plain.specs.Reduced.{IsReduced}
 use Rattle.instance_plain.proofs.Bounds.{whole_at_most, part_at_most, count_at_most, all_map, all_take}
@@ -146,7 +145,7 @@ all_over P (e ∷ es) f h = All-append P (f e.value) (all_below es f) (h e.value
 risks_small : (root : Tree) → All (λ z. unsigned_abs z < 10 ^ 20) (all_below (interventions root) (each_run root risks_at))
 risks_small root = all_over (λ z. unsigned_abs z < 10 ^ 20) (interventions root) (each_run root risks_at) (λ v.
     all_lists (λ z. unsigned_abs z < 10 ^ 20) (length (durations v)) _ (λ k. all_cond (λ z. unsigned_abs z < 10 ^ 20) (allowed_of (periods root) (durations v) (k + 1)) _
-        (all_lists (λ z. unsigned_abs z < 10 ^ 20) (slice_index (durations v) k) _ (λ j. all_map (λ z. unsigned_abs z < 10 ^ 20) count_at (unwrap_or (risk_list v (k + 1 + j) (k + 1)) []) count_at_most))))
+    (all_lists (λ z. unsigned_abs z < 10 ^ 20) (slice_index (durations v) k) _ (λ j. all_map (λ z. unsigned_abs z < 10 ^ 20) count_at (unwrap_or (risk_list v (k + 1 + j) (k + 1)) []) count_at_most))))
 
 -- ---- no loads
 
@@ -190,35 +189,36 @@ few_in root s =
 pub fits : (root : Tree) → IsShaped standard_limits root → cross_fault root ≡ None → IsReduced root → IsFitting (tables (pos 0) root)
 fits root s c r =
     let told = both_true (length (scenarios root) == periods root) (are_sound (periods root) (scenarios root) (interventions root))
-        (told_so root _ (cross_told root (length (scenarios root) == periods root) (are_sound (periods root) (scenarios root) (interventions root)) r refl refl) c) in
+    (told_so root _ (cross_told root (length (scenarios root) == periods root) (are_sound (periods root) (scenarios root) (interventions root)) r refl refl) c) in
     let each : length (scenarios root) ≡ periods root = equal_so (length (scenarios root)) (periods root) told.0 in
     let range = periods_range standard_limits root s.values in
     record {
-        some_periods = range.low;
-        few_periods = range.high;
-        alpha = part_at_most (known is.Alpha root);
-        some_quantile = quantile_some standard_limits root s.values;
-        quantile = part_at_most (known is.Quantile root);
-        scenarios_each = each;
-        scenarios_few = known_clear standard_limits spot.Root is.ScenariosNumber root (λ v. All (λ n. (1 ≤ n) × (n ≤ standard_limits.scenarios)) (map whole_at (elements v))) s.values (none_of _) (λ v h. scenarios_range standard_limits v h);
-        resources = names_none standard_limits.resources (entries (known is.Resources root)) r.resources;
-        upper_each = length_none (entries (known is.Resources root)) _ (periods root) r.resources;
-        lower_each = length_none (entries (known is.Resources root)) _ (periods root) r.resources;
-        upper_small = all_none (λ z. unsigned_abs z < 2 * 10 ^ 20) (entries (known is.Resources root)) _ r.resources;
-        lower_small = all_none (λ z. unsigned_abs z < 2 * 10 ^ 20) (entries (known is.Resources root)) _ r.resources;
-        seasons = names_none standard_limits.seasons (entries (known is.Seasons root)) r.seasons;
-        season_each = length_none (entries (known is.Seasons root)) _ (periods root) r.seasons;
-        names = known_clear standard_limits spot.Root is.Interventions root (λ v. AreNames standard_limits.interventions (keys v)) s.values (no_names standard_limits.interventions) (λ v h. names_fit standard_limits v h);
-        delta_each = same_length (λ e. durations e.value) (interventions root);
-        delta_some = starts_all (periods root) (scenarios root) (interventions root) told.1;
-        delta_small = all_map (λ ds. All (λ d. d < 1_000_000_000) ds) (λ (e : Entry). durations e.value) (interventions root) (λ e. durations_small e.value);
-        exclusions = names_none standard_limits.exclusions (entries (known is.Exclusions root)) r.exclusions;
-        excluded_each = same_length _ (entries (known is.Exclusions root));
-        excluded = map_none (λ (x : Exclusion). (x.first < length (keys (known is.Interventions root))) × (x.second < length (keys (known is.Interventions root))) × (x.season < length (keys (known is.Seasons root)))) _ (entries (known is.Exclusions root)) r.exclusions;
-        loads_each = same_length (λ e. each_run root (cells_at root) e.value) (interventions root);
-        cells = λ i k. cells_none (tables (pos 0) root) i _ (loads_none root (interventions root) i r.resources);
-        loads_few = loads_few root _ r.resources;
-        risks_each = risks_each root each told.1;
-        risks_few = few_in root s;
-        risks_small = risks_small root;
-        soft_each = soft_each root }
+      some_periods = range.low;
+      few_periods = range.high;
+      alpha = part_at_most (known is.Alpha root);
+      some_quantile = quantile_some standard_limits root s.values;
+      quantile = part_at_most (known is.Quantile root);
+      scenarios_each = each;
+      scenarios_few = known_clear standard_limits spot.Root is.ScenariosNumber root (λ v. All (λ n. (1 ≤ n) × (n ≤ standard_limits.scenarios)) (map whole_at (elements v))) s.values (none_of _) (λ v h. scenarios_range standard_limits v h);
+      resources = names_none standard_limits.resources (entries (known is.Resources root)) r.resources;
+      upper_each = length_none (entries (known is.Resources root)) _ (periods root) r.resources;
+      lower_each = length_none (entries (known is.Resources root)) _ (periods root) r.resources;
+      upper_small = all_none (λ z. unsigned_abs z < 2 * 10 ^ 20) (entries (known is.Resources root)) _ r.resources;
+      lower_small = all_none (λ z. unsigned_abs z < 2 * 10 ^ 20) (entries (known is.Resources root)) _ r.resources;
+      seasons = names_none standard_limits.seasons (entries (known is.Seasons root)) r.seasons;
+      season_each = length_none (entries (known is.Seasons root)) _ (periods root) r.seasons;
+      names = known_clear standard_limits spot.Root is.Interventions root (λ v. AreNames standard_limits.interventions (keys v)) s.values (no_names standard_limits.interventions) (λ v h. names_fit standard_limits v h);
+      delta_each = same_length (λ e. durations e.value) (interventions root);
+      delta_some = starts_all (periods root) (scenarios root) (interventions root) told.1;
+      delta_small = all_map (λ ds. All (λ d. d < 1_000_000_000) ds) (λ (e : Entry). durations e.value) (interventions root) (λ e. durations_small e.value);
+      exclusions = names_none standard_limits.exclusions (entries (known is.Exclusions root)) r.exclusions;
+      excluded_each = same_length _ (entries (known is.Exclusions root));
+      excluded = map_none (λ (x : Exclusion). (x.first < length (keys (known is.Interventions root))) × (x.second < length (keys (known is.Interventions root))) × (x.season < length (keys (known is.Seasons root)))) _ (entries (known is.Exclusions root)) r.exclusions;
+      loads_each = same_length (λ e. each_run root (cells_at root) e.value) (interventions root);
+      cells = λ i k. cells_none (tables (pos 0) root) i _ (loads_none root (interventions root) i r.resources);
+      loads_few = loads_few root _ r.resources;
+      risks_each = risks_each root each told.1;
+      risks_few = few_in root s;
+      risks_small = risks_small root;
+      soft_each = soft_each root;
+    }

@@ -1,5 +1,5 @@
 -- What is in a list or an object, as the code sees it.
-use Rattle.std.proofs.Common.{◌≡◌, ℕ, suc, ◌+◌, ◌<◌, ◌≤◌, ◌^◌, Bool, true, false, not, List, [], ◌∷◌, ◌++◌, length, Option, Some, None, refl, sym, ◌∙◌, ap, subst, arith}
+use Rattle.std.proofs.Common.{◌≡◌, ℕ, ◌+◌, ◌<◌, ◌≤◌, ◌^◌, Bool, true, false, not, List, [], ◌∷◌, ◌++◌, length, Option, Some, None, refl, sym, ◌∙◌, ap, subst, arith}
 use Rattle.std.specs.Prelude.{Vec}
 use Rattle.std.specs.declared.alloc.Global.{Global}
 use Rattle.decimal_json.specs.Tree as json
@@ -86,9 +86,10 @@ pub record Fits (a b : Survey) : Type 0 where
 
 pub both_fit : (front part all : List Placed) (a b : Survey) → Counts front a → Counts part b → length front + length part ≤ length all → length all < 2 ^ 63 → Fits a b
 both_fit front part all a b h k l m = let p : HasRoom a (length front) = counts_room front a h in let q : HasRoom b (length part) = counts_room part b k in record {
-    risks = omega (arith, p.risks, q.risks);
-    workloads = omega (arith, p.workloads, q.workloads);
-    rounded = omega (arith, p.rounded, q.rounded) }
+  risks = omega (arith, p.risks, q.risks);
+  workloads = omega (arith, p.workloads, q.workloads);
+  rounded = omega (arith, p.rounded, q.rounded);
+}
 
 pub value_room : (s : Spot) (t : Tree) → length (placed_node s (node_view t.node)) + 1 ≤ length (placed s (tree_view t))
 value_room s t = subst (λ (v : json.Tree). length (placed_node s (node_view t.node)) + 1 ≤ length (placed s v)) (sym (tree_opened t)) (omega arith)

@@ -1,13 +1,12 @@
 -- The faults of keys, one after another.
-use Rattle.std.proofs.Common.{◌≡◌, ℕ, suc, ◌+◌, ◌<◌, ◌≤◌, ◌&&◌, Bool, true, false, cond, not, List, [], ◌∷◌, ◌++◌, length, take, drop, get_or, Option, Some, None, refl, sym, ◌∙◌, ap, subst, arith, rules, append_assoc, append-nil, is_none, is_some}
+use Rattle.std.proofs.Common.{◌≡◌, ℕ, ◌+◌, ◌<◌, ◌&&◌, Bool, true, false, not, List, [], ◌∷◌, ◌++◌, length, take, drop, get_or, Option, Some, None, refl, sym, ◌∙◌, ap, subst, arith, append_assoc, append-nil, is_none, is_some}
 use Rattle.std.proofs.Math.Seq.{take-length}
 use Rattle.std.specs.declared.string.String.{String}
-use Rattle.decimal_json.specs.Tree.{Tree, tree, Node, Trees, Members, no_members, and_member}
+use Rattle.decimal_json.specs.Tree.{Node, Members, no_members, and_member}
 use Rattle.decimal_json.specs.declared.tree.Member.{Member}
 use Rattle.decimal_json.specs.Trees.{members_view, member_view}
 use Rattle.decimal_json.specs.Exact.{whole}
 use Rattle.instance_model.specs.declared.limits.Limits.{Limits}
-use Rattle.instance_shape.specs.declared.fault.Fault.{Fault}
 use Rattle.instance_shape.specs.declared.fault.Known.{Known}
 use Rattle.instance_shape.specs.declared.fault.Which.{Which}
 use Rattle.instance_shape.specs.declared.fault.Flaw.TheVariants as flaw
@@ -15,8 +14,8 @@ use Rattle.instance_shape.specs.declared.spot.Spot.{Spot}
 use Rattle.instance_shape.specs.declared.spot.Spot.TheVariants as spot
 use Rattle.instance_shape.specs.declared.spot.Kind.{Kind}
 use Rattle.instance_shape.specs.declared.spot.Kind.TheVariants as kind
-use Rattle.instance_shape.specs.Keys.{Key, by_text, by_number, key_of, has_key, is_name, is_digits, is_double}
-use Rattle.instance_shape.specs.Seen.{texts_of, numbers_of}
+use Rattle.instance_shape.specs.Keys.{Key, by_text, key_of, has_key, is_name, is_digits, is_double}
+use Rattle.instance_shape.specs.Seen.{texts_of}
 use Rattle.instance_shape.specs.Shape.{kind_of, has_shape, required}
 use Rattle.instance_shape.specs.ShapeFaults.{where_so, key_faults, keys_faults, keys_of, takes_names, takes_numbers, first_past, key_limit, first_missing, missing_at}
 use Rattle.instance_plain.specs.Surveys.{TellsClear, object_faults}
@@ -46,7 +45,7 @@ regroup_names F false c b h = h
 
 by_kind : (kd : Kind) (ks : List Key) (k : List ℕ) (at n : ℕ) (l : Option (ℕ × Which)) → counts_by_text kd ≡ true
     → TellsClear (where_so (is_double ks (key_of kd k)) at flaw.Double ++ where_so (takes_names kd && not (is_name k)) at flaw.BadName ++ where_so (takes_numbers kd && not (is_digits k)) at flaw.Shape ++ first_past l n at)
-      (not (has_key ks (by_text k)) && (not (takes_names kd && not (is_name k)) && not (is_full l n)))
+    (not (has_key ks (by_text k)) && (not (takes_names kd && not (is_name k)) && not (is_full l n)))
 by_kind kind.Record ks k at n l h =
     let all = where_so (has_key ks (by_text k)) at flaw.Double ++ [] ++ [] ++ first_past l n at in
     regroup_record (TellsClear all) (not (has_key ks (by_text k))) (not (is_full l n))
@@ -76,7 +75,7 @@ keys_split limits s e f [] ys x h =
     ∙ ap (λ q. key_faults limits s q (member_view x).at x.key ++ keys_faults limits s (q ++ key_of (kind_of s) x.key) (members_view ys)) (sym g)
 keys_split limits s e f (y ∷ xs) ys x h =
     ap (λ r. key_faults limits s e (member_view y).at (member_view y).key ++ r)
-        (keys_split limits s (e ++ key_of (kind_of s) (member_view y).key) f xs ys x (h ∙ sym (append_assoc e (key_of (kind_of s) (member_view y).key) (keys_of (kind_of s) (members_view xs)))))
+    (keys_split limits s (e ++ key_of (kind_of s) (member_view y).key) f xs ys x (h ∙ sym (append_assoc e (key_of (kind_of s) (member_view y).key) (keys_of (kind_of s) (members_view xs)))))
     ∙ sym (append_assoc (key_faults limits s e (member_view y).at (member_view y).key) (keys_faults limits s (e ++ key_of (kind_of s) (member_view y).key) (members_view xs)) _)
 
 pub keys_of_split : (kd : Kind) (xs : List Member) (x : Member) → keys_of kd (members_view (xs ++ x ∷ [])) ≡ keys_of kd (members_view xs) ++ key_of kd x.key
@@ -106,9 +105,10 @@ pub good_key : (limits : Limits) (s : Spot) (ks js : List Key) (ms : List Member
 good_key limits s ks js ms i x text h e te a g j =
     subst (λ (q : List Member). AreClear limits s js q) (sym (taken_more ms i x h e))
     (record {
-        keys = j ∙ ap (λ t. ks ++ key_of (kind_of s) t) te ∙ ap (λ q. q ++ key_of (kind_of s) x.key) a.keys ∙ sym (keys_of_split (kind_of s) (take i ms) x);
-        clear = keys_split limits s [] ks (take i ms) [] x a.keys
-            ∙ clear_both (keys_faults limits s [] (members_view (take i ms))) _ a.clear (clear_both (key_faults limits s ks (member_view x).at x.key) [] (ap (key_faults limits s ks (member_view x).at) (sym te) ∙ g (member_view x).at) refl) })
+      keys = j ∙ ap (λ t. ks ++ key_of (kind_of s) t) te ∙ ap (λ q. q ++ key_of (kind_of s) x.key) a.keys ∙ sym (keys_of_split (kind_of s) (take i ms) x);
+      clear = keys_split limits s [] ks (take i ms) [] x a.keys
+          ∙ clear_both (keys_faults limits s [] (members_view (take i ms))) _ a.clear (clear_both (key_faults limits s ks (member_view x).at x.key) [] (ap (key_faults limits s ks (member_view x).at) (sym te) ∙ g (member_view x).at) refl);
+    })
 
 pub all_clear : (limits : Limits) (s : Spot) (ks : List Key) (ms : List Member) (i : ℕ) → i ≡ length ms → AreClear limits s ks (take i ms) → AreClear limits s ks ms
 all_clear limits s ks ms i e a = subst (λ (q : List Member). AreClear limits s ks q) (ap (λ n. take n ms) e ∙ take-length ms) a

@@ -1,15 +1,14 @@
 -- What is looked up in a value, as the code sees it.
-use Rattle.std.proofs.Common.{◌≡◌, ℕ, suc, ◌+◌, ◌<◌, Bool, true, false, cond, List, [], ◌∷◌, ◌++◌, map, length, take, drop, get_or, Option, Some, None, refl, sym, ◌∙◌, ap, subst, add-one}
+use Rattle.std.proofs.Common.{◌≡◌, ℕ, suc, ◌+◌, ◌<◌, Bool, true, false, cond, List, [], ◌∷◌, ◌++◌, map, length, take, drop, get_or, Some, refl, sym, ◌∙◌, ap, add-one}
 use Rattle.std.specs.Prelude.{Vec}
 use Rattle.std.specs.declared.alloc.Global.{Global}
 use Rattle.std.proofs.Math.Seq.{drop-cons}
 use Rattle.decimal_json.specs.Tree as json
 use Rattle.decimal_json.specs.Tree.{Trees, no_trees, and_tree, Members}
 use Rattle.decimal_json.specs.declared.tree.Tree.{Tree}
-use Rattle.decimal_json.specs.declared.tree.Node.{Node}
 use Rattle.decimal_json.specs.declared.tree.Node.TheVariants.{List as Listed, Object}
 use Rattle.decimal_json.specs.declared.tree.Member.{Member}
-use Rattle.decimal_json.specs.Trees.{tree_view, node_view, trees_of, members_of, trees_view, members_view, member_view, Member_view}
+use Rattle.decimal_json.specs.Trees.{tree_view, node_view, trees_of, members_of, member_view, Member_view}
 use Rattle.instance_shape.specs.LookUp.{Entry, elements, entries, tree_list, entry_list, first_value}
 use Rattle.instance_plain.specs.Views.{entry_of, entries_view}
 use Rattle.instance_plain.proofs.Splits.{taken_more, parted}
@@ -51,6 +50,7 @@ entries-more ms i x h e = ap entries_view (taken_more ms i x h e) ∙ by (take i
   where
     seen : entry_of (member_view x) ≡ record { key = x.key; value = tree_view x.value }
     seen = ap (λ k. let r : Entry = record { key = k; value = (member_view x).value } in r) (key_opened x) ∙ ap (λ v. let r : Entry = record { key = x.key; value = v } in r) (value_opened x)
+
     by : (xs : List Member) → entries_view (xs ++ x ∷ []) ≡ entries_view xs ++ record { key = x.key; value = tree_view x.value } ∷ []
     by [] = ap (λ r. r ∷ []) seen
     by (y ∷ xs) = ap (λ r. entry_of (member_view y) ∷ r) (by xs)

@@ -1,6 +1,6 @@
 -- The names of the interventions of a text without a fault of shape.
-use Rattle.std.proofs.Common.{◌≡◌, ◌≢◌, ℕ, zero, suc, ◌+◌, ◌<◌, ◌≤◌, ◌&&◌, Bool, true, false, cond, not, List, [], ◌∷◌, ◌++◌, map, length, Option, Some, None, refl, sym, ◌∙◌, ap, subst, arith, bytes_eq, length-append}
-use Rattle.std.specs.Prelude.{◌||◌, All, AllPairs, nat_le, ◌==◌, slice_index_or}
+use Rattle.std.proofs.Common.{◌≡◌, ◌≢◌, ℕ, ◌+◌, ◌<◌, ◌≤◌, ◌&&◌, Bool, true, false, not, List, [], ◌∷◌, ◌++◌, map, length, refl, sym, ◌∙◌, arith, bytes_eq, length-append}
+use Rattle.std.specs.Prelude.{All, nat_le, ◌==◌, slice_index_or}
 use Rattle.std.proofs.lemmas.List.Elements.{All-cons}
 use Rattle.std.proofs.lemmas.List.Kept.{AllPairs-cons}
 use Rattle.std.proofs.lemmas.Bool.Decides.{nat_tests}
@@ -10,12 +10,11 @@ use Rattle.instance_model.specs.declared.limits.Limits.{Limits}
 use Rattle.instance_model.specs.Fitting.{IsName, AreNames}
 use Rattle.instance_shape.specs.declared.fault.Flaw.TheVariants as flaw
 use Rattle.instance_shape.specs.declared.fault.Which.TheVariants as which
-use Rattle.instance_shape.specs.declared.fault.Known.TheVariants as is
 use Rattle.instance_shape.specs.declared.spot.Spot.TheVariants as spot
-use Rattle.instance_shape.specs.Keys.{Key, by_text, has_key, same_key, is_name, is_printed, all_bytes}
+use Rattle.instance_shape.specs.Keys.{Key, by_text, has_key, is_name, is_printed, all_bytes}
 use Rattle.instance_shape.specs.Shape.{placed}
 use Rattle.instance_shape.specs.ShapeFaults.{where_so, values_faults, value_faults, own_faults, keys_faults, key_faults}
-use Rattle.instance_shape.specs.LookUp.{Entry, entries, entry_list, keys}
+use Rattle.instance_shape.specs.LookUp.{entry_list, keys}
 use Rattle.instance_plain.proofs.SurveyLemmas.{clear_left, clear_right}
 use Rattle.instance_plain.proofs.Shaped.{not_so, not_not, neither, has_key-more, AreGood}
 
@@ -30,9 +29,10 @@ good_key limits e k at h =
     let front = clear_left _ (where_so (length e == limits.interventions) at (flaw.Limit which.Interventions)) h in
     let two = clear_left (where_so (has_key e (by_text k)) at flaw.Double ++ where_so (not (is_name k)) at flaw.BadName) _ front in
     record {
-        new = not_so (has_key e (by_text k)) at flaw.Double (clear_left (where_so (has_key e (by_text k)) at flaw.Double) _ two);
-        shaped = not_not (is_name k) (not_so (not (is_name k)) at flaw.BadName (clear_right (where_so (has_key e (by_text k)) at flaw.Double) _ two));
-        room = not_so (length e == limits.interventions) at (flaw.Limit which.Interventions) (clear_right _ (where_so (length e == limits.interventions) at (flaw.Limit which.Interventions)) h) }
+      new = not_so (has_key e (by_text k)) at flaw.Double (clear_left (where_so (has_key e (by_text k)) at flaw.Double) _ two);
+      shaped = not_not (is_name k) (not_so (not (is_name k)) at flaw.BadName (clear_right (where_so (has_key e (by_text k)) at flaw.Double) _ two));
+      room = not_so (length e == limits.interventions) at (flaw.Limit which.Interventions) (clear_right _ (where_so (length e == limits.interventions) at (flaw.Limit which.Interventions)) h);
+    }
 
 one_more : (n m : ℕ) → n ≤ m → (n == m) ≡ false → n + 1 ≤ m
 one_more n m h k = grind (arith, nat_tests)
@@ -56,12 +56,13 @@ good_names limits e (and_member at k t ms) l h =
     let g : IsGoodKey limits.interventions e k = good_key limits e k at (clear_left (key_faults limits spot.Interventions e at k) _ h) in
     let size : length (e ++ by_text k ∷ []) ≡ length e + 1 = length-append e (by_text k ∷ []) in
     let r : AreGood limits.interventions (e ++ by_text k ∷ []) (map (λ n. n.key) (entry_list ms)) =
-        good_names limits (e ++ by_text k ∷ []) ms (omega (arith, size, one_more (length e) limits.interventions l g.room)) (clear_right (key_faults limits spot.Interventions e at k) _ h) in
+    good_names limits (e ++ by_text k ∷ []) ms (omega (arith, size, one_more (length e) limits.interventions l g.room)) (clear_right (key_faults limits spot.Interventions e at k) _ h) in
     record {
-        few = omega (arith, size, r.few);
-        new = All-cons (λ q. has_key e (by_text q) ≡ false) k (map (λ n. n.key) (entry_list ms)) g.new (all_new e k (map (λ n. n.key) (entry_list ms)) r.new);
-        shaped = All-cons (λ q. is_name q ≡ true) k (map (λ n. n.key) (entry_list ms)) g.shaped r.shaped;
-        apart = AllPairs-cons (λ a b. a ≢ b) k (map (λ n. n.key) (entry_list ms)) (all_other e k (map (λ n. n.key) (entry_list ms)) r.new) r.apart }
+      few = omega (arith, size, r.few);
+      new = All-cons (λ q. has_key e (by_text q) ≡ false) k (map (λ n. n.key) (entry_list ms)) g.new (all_new e k (map (λ n. n.key) (entry_list ms)) r.new);
+      shaped = All-cons (λ q. is_name q ≡ true) k (map (λ n. n.key) (entry_list ms)) g.shaped r.shaped;
+      apart = AllPairs-cons (λ a b. a ≢ b) k (map (λ n. n.key) (entry_list ms)) (all_other e k (map (λ n. n.key) (entry_list ms)) r.new) r.apart;
+    }
 
 -- ---- a name
 
@@ -72,8 +73,10 @@ printed_all (b ∷ bs) h = All-cons (λ b. (32 < b) × (b ≢ 127)) b bs (one (i
     rest : (p : Bool) → p && all_bytes is_printed bs ≡ true → all_bytes is_printed bs ≡ true
     rest true h = h
     rest false h = cc
+
     test : (b : ℕ) → is_printed b ≡ true → (32 < b) × (b ≢ 127)
     test b h = grind (arith, nat_tests)
+
     one : (p : Bool) → is_printed b ≡ p → p && all_bytes is_printed bs ≡ true → (32 < b) × (b ≢ 127)
     one true e h = test b e
     one false e h = cc
@@ -83,8 +86,10 @@ name_is k h = by (nat_le 1 (length k)) (nat_le (length k) 128) (all_bytes is_pri
   where
     some : (n : ℕ) → nat_le 1 n ≡ true → 0 < n
     some n h = grind (arith, nat_tests)
+
     short : (n : ℕ) → nat_le n 128 ≡ true → n ≤ 128
     short n h = grind (arith, nat_tests)
+
     by : (a b c : Bool) → nat_le 1 (length k) ≡ a → nat_le (length k) 128 ≡ b → all_bytes is_printed k ≡ c → (a && b) && c ≡ true → IsName k
     by true true true x y z h = record { some = some (length k) x; short = short (length k) y; printed = printed_all k z }
     by true true false x y z h = cc

@@ -1,11 +1,10 @@
 -- The view of a value, by its variants.
-use Rattle.std.proofs.Common.{◌≡◌, ℕ, List, [], ◌∷◌, map, refl, sym, ap, rules, Bool}
+use Rattle.std.proofs.Common.{◌≡◌, rules}
 use Rattle.std.specs.Prelude.{Vec}
 use Rattle.std.specs.declared.alloc.Global.{Global}
 use Rattle.decimal_json.specs.Tree as spec
 use Rattle.decimal_json.specs.declared.tree.Tree.{Tree, the_lemmas as tree_lemmas}
-use Rattle.decimal_json.specs.declared.tree.Node.{Node}
-use Rattle.decimal_json.specs.declared.tree.Node.TheVariants.{List as Listed, Object, Num, Text, Null, Bool as Boolean}
+use Rattle.decimal_json.specs.declared.tree.Node.TheVariants.{List as Listed, Object}
 use Rattle.decimal_json.specs.declared.tree.Member.{Member, the_lemmas}
 use Rattle.decimal_json.specs.Trees.{tree_view, node_view, member_view, trees_view, members_view}
 

@@ -1,11 +1,11 @@
 -- A text has no more values than bytes.
-use Rattle.std.proofs.Common.{◌≡◌, ℕ, suc, ◌+◌, ◌<◌, ◌≤◌, List, [], ◌∷◌, ◌++◌, length, arith, length-append}
-use Rattle.decimal_json.specs.Tree.{Tree, tree, Node, Trees, no_trees, and_tree, Members, no_members, and_member}
+use Rattle.std.proofs.Common.{ℕ, ◌+◌, ◌≤◌, List, [], ◌∷◌, ◌++◌, length, arith, length-append}
+use Rattle.decimal_json.specs.Tree.{Tree, Node, Trees, Members}
 use Rattle.decimal_json.specs.Grammar.{IsInt, HasParts, Parts, IsNumber, IsString, IsValue, IsNode, IsElement, IsMoreTrees, IsMember, IsMoreMembers, IsText}
 use Rattle.decimal_json.specs.Grammar as grammar
 use Rattle.instance_shape.specs.declared.spot.Spot.{Spot}
 use Rattle.instance_shape.specs.declared.spot.Spot.TheVariants as spot
-use Rattle.instance_shape.specs.Shape.{Placed, placed, placed_node, placed_elements, placed_members, element, under}
+use Rattle.instance_shape.specs.Shape.{placed, placed_node, placed_elements, placed_members, element, under}
 
 int_some : {w : List ℕ} → IsInt w → 1 ≤ length w
 int_some grammar.IsInt.zero = omega arith

@@ -1,29 +1,19 @@
 -- What is known of a text without a fault of shape.
-use Rattle.std.proofs.Common.{◌≡◌, ◌≢◌, ℕ, zero, suc, ◌+◌, ◌<◌, ◌≤◌, ◌&&◌, Bool, true, false, cond, not, List, [], ◌∷◌, ◌++◌, map, length, Option, Some, None, refl, sym, ◌∙◌, ap, subst, arith, bytes_eq, is_some, is_none, unwrap_or, option_map}
-use Rattle.std.specs.Prelude.{◌||◌, All, AllPairs, nat_le, slice_get, ◌==◌}
-use Rattle.std.proofs.lemmas.List.Elements.{All-cons}
-use Rattle.std.proofs.lemmas.List.Kept.{AllPairs-cons}
-use Rattle.std.proofs.lemmas.Bool.Decides.{nat_tests}
+use Rattle.std.proofs.Common.{◌≡◌, ◌≢◌, ℕ, zero, suc, ◌+◌, ◌≤◌, Bool, true, false, cond, not, List, [], ◌∷◌, ◌++◌, map, length, Option, Some, None, refl, sym, ◌∙◌, ap, subst, arith, bytes_eq}
+use Rattle.std.specs.Prelude.{◌||◌, All, AllPairs, slice_get}
 use Rattle.std.proofs.lemmas.Slice.Eq.{bytes_eq-Decides}
 use Rattle.std.proofs.lemmas.Option.{slice_get_past}
-use Rattle.decimal_json.specs.Tree.{Tree, tree, Node, Trees, no_trees, and_tree, Members, no_members, and_member}
-use Rattle.decimal_json.specs.Exact.{whole, millionths}
+use Rattle.decimal_json.specs.Tree.{Tree, tree, Node, Members, no_members, and_member}
 use Rattle.instance_model.specs.declared.limits.Limits.{Limits}
-use Rattle.instance_model.specs.Fitting.{IsName, AreNames}
-use Rattle.instance_shape.specs.declared.fault.Fault.{Fault}
 use Rattle.instance_shape.specs.declared.fault.Flaw.{Flaw}
-use Rattle.instance_shape.specs.declared.fault.Flaw.TheVariants as flaw
-use Rattle.instance_shape.specs.declared.fault.Known.{Known}
-use Rattle.instance_shape.specs.declared.fault.Known.TheVariants as is
 use Rattle.instance_shape.specs.declared.fault.Which.{Which}
 use Rattle.instance_shape.specs.declared.fault.Which.TheVariants as which
 use Rattle.instance_shape.specs.declared.spot.Spot.{Spot}
 use Rattle.instance_shape.specs.declared.spot.Spot.TheVariants as spot
-use Rattle.instance_shape.specs.declared.spot.Kind.TheVariants as kind
-use Rattle.instance_shape.specs.Keys.{Key, by_text, key_of, has_key, same_key, text_of, is_name, is_printed, all_bytes}
-use Rattle.instance_shape.specs.Shape.{Placed, placed, placed_node, placed_elements, placed_members, under, element, required, late_keys, kind_of}
-use Rattle.instance_shape.specs.ShapeFaults.{where_so, values_faults, value_faults, own_faults, keys_faults, key_faults, keys_of, first_missing, missing_at, numbers_at, is_risk, is_workload, count_faults, shape_faults, outside}
-use Rattle.instance_shape.specs.LookUp.{Entry, entries, entry_list, elements, tree_list, keys, first_value, at_key, known, whole_at, part_at}
+use Rattle.instance_shape.specs.Keys.{Key, by_text, has_key, same_key, is_name}
+use Rattle.instance_shape.specs.Shape.{placed, placed_members, under}
+use Rattle.instance_shape.specs.ShapeFaults.{where_so, values_faults, value_faults, numbers_at, is_risk, is_workload, count_faults, shape_faults}
+use Rattle.instance_shape.specs.LookUp.{entry_list, first_value, at_key}
 use Rattle.instance_plain.specs.Told.{IsShaped}
 use Rattle.instance_plain.proofs.SurveyLemmas.{clear_left, clear_right, clear_both, values_faults-append}
 
@@ -55,10 +45,11 @@ pub shaped_is : (limits : Limits) (root : Tree) → shape_faults limits root ≡
 shaped_is limits root h =
     let front = clear_left (values_faults limits (placed spot.Root root) ++ count_faults (slice_get (numbers_at is_risk (placed spot.Root root)) limits.risk_cells) which.RiskCells) _ h in
     record {
-        values = clear_left (values_faults limits (placed spot.Root root)) _ front;
-        risks = within_limit (numbers_at is_risk (placed spot.Root root)) limits.risk_cells which.RiskCells (clear_right (values_faults limits (placed spot.Root root)) _ front);
-        workloads = within_limit (numbers_at is_workload (placed spot.Root root)) limits.workload_entries which.WorkloadEntries
-            (clear_right (values_faults limits (placed spot.Root root) ++ count_faults (slice_get (numbers_at is_risk (placed spot.Root root)) limits.risk_cells) which.RiskCells) _ h) }
+      values = clear_left (values_faults limits (placed spot.Root root)) _ front;
+      risks = within_limit (numbers_at is_risk (placed spot.Root root)) limits.risk_cells which.RiskCells (clear_right (values_faults limits (placed spot.Root root)) _ front);
+      workloads = within_limit (numbers_at is_workload (placed spot.Root root)) limits.workload_entries which.WorkloadEntries
+          (clear_right (values_faults limits (placed spot.Root root) ++ count_faults (slice_get (numbers_at is_risk (placed spot.Root root)) limits.risk_cells) which.RiskCells) _ h);
+    }
 
 -- ---- the value under a key
 

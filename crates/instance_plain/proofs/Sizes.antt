@@ -1,7 +1,7 @@
 -- How deep the parts of a tree are.
-use Rattle.std.proofs.Common.{◌≡◌, ℕ, ◌+◌, ◌<◌, ◌≤◌, arith, rules}
+use Rattle.std.proofs.Common.{◌<◌, ◌≤◌, rules}
 use Rattle.decimal_json.specs.declared.tree.Tree.{Tree, the_lemmas as tree_lemmas}
-use Rattle.decimal_json.specs.declared.tree.Node.{Node, the_lemmas as node_lemmas}
+use Rattle.decimal_json.specs.declared.tree.Node.{the_lemmas as node_lemmas}
 use Rattle.decimal_json.specs.declared.tree.Member.{Member, the_lemmas as member_lemmas}
 use Rattle.decimal_json.proofs.tree.Tree.TheLaws.{the_size as tree_size}
 use Rattle.decimal_json.proofs.tree.Node.TheLaws.{the_size as node_size}

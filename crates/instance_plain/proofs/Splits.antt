@@ -2,7 +2,6 @@
 use Rattle.std.proofs.Common.{◌≡◌, ℕ, suc, ◌+◌, ◌<◌, ◌≤◌, List, [], ◌∷◌, ◌++◌, length, take, drop, get_or, refl, sym, ◌∙◌, ap, subst, arith, append_assoc, length-append, append-nil, add-one}
 use Rattle.std.proofs.lemmas.List.{take-append-drop, length-take-le}
 use Rattle.std.proofs.Math.Seq.{drop-cons, take-suc}
-use Rattle.decimal_json.specs.Tree.{Tree, tree, Node, Trees, Members}
 use Rattle.decimal_json.specs.declared.tree.Tree as rust_tree
 use Rattle.decimal_json.specs.declared.tree.Member.{Member}
 use Rattle.decimal_json.specs.Trees.{tree_view, trees_view, members_view, member_view}

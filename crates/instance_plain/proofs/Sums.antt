@@ -1,5 +1,5 @@
 -- How many risks and soft flags the tables have.
-use Rattle.std.proofs.Common.{◌≡◌, ℕ, zero, suc, ◌+◌, ◌-◌, ◌<◌, ◌≤◌, ◌&&◌, Bool, true, false, cond, List, [], ◌∷◌, ◌++◌, map, length, take, Option, Some, None, refl, sym, ◌∙◌, ap, subst, arith, length-append, unwrap_or, add-one, get_or, ◌⊎◌, inl, inr}
+use Rattle.std.proofs.Common.{◌≡◌, ℕ, zero, suc, ◌+◌, ◌-◌, ◌<◌, ◌≤◌, ◌&&◌, Bool, true, false, cond, List, [], ◌∷◌, ◌++◌, map, length, take, Option, Some, None, refl, ◌∙◌, ap, arith, length-append, unwrap_or, get_or, ◌⊎◌, inl, inr}
 use Rattle.std.proofs.Math.Nat.{eq-or-lt_of_le}
 use Rattle.std.specs.Prelude.{slice_index, slice_index_or, sum, nat_le, if◌then◌else◌, ◌==◌}
 use Rattle.std.proofs.lemmas.Bool.Decides.{nat_tests}
@@ -8,7 +8,7 @@ use Rattle.std.proofs.lemmas.List.Sums.{sum_by-append, sum_by-cons}
 use Rattle.std.proofs.Math.Seq.{take-suc}
 use Rattle.decimal_json.specs.Tree.{Tree}
 use Rattle.instance_model.specs.Naturals.{count_sum}
-use Rattle.instance_model.specs.Tables.{allowed_of, periods_before}
+use Rattle.instance_model.specs.Tables.{allowed_of}
 use Rattle.instance_shape.specs.LookUp.{Entry, durations, risk_list, count_at}
 use Rattle.instance_shape.specs.FileTables.{lists_below, all_below, risks_at, soft_at}
 use Rattle.instance_plain.specs.Rows.{all_hold, has_count, run_is_sound, runs_are_sound, run_rows, runs_rows}
@@ -77,6 +77,7 @@ allowed_ends periods ds k h = by (nat_le 1 (k + 1)) (nat_le (k + 1) (length ds))
   where
     le : (n m : ℕ) → nat_le n m ≡ true → n ≤ m
     le n m e = grind (arith, nat_tests)
+
     by : (a b c : Bool) → nat_le (k + 1 + slice_index ds (k + 1 - 1)) (periods + 1) ≡ c → (a && b) && c ≡ true → k + 1 + slice_index ds k ≤ periods + 1
     by true true true e h = let same : k + 1 - 1 ≡ k = omega arith in omega (arith, le (k + 1 + slice_index ds (k + 1 - 1)) (periods + 1) e, ap (slice_index ds) same)
     by true true false e h = cc

@@ -1,6 +1,6 @@
 -- Surveys of values one after another, and of a value with what is in it.
-use Rattle.std.proofs.Common.{◌≡◌, ℕ, suc, ◌+◌, ◌<◌, ◌^◌, ◌≤◌, ◌&&◌, Bool, true, false, cond, not, List, [], ◌∷◌, ◌++◌, length, Option, Some, None, refl, sym, ◌∙◌, ap, subst, arith, rules, append_assoc, length-append, append-nil, is_none}
-use Rattle.decimal_json.specs.Tree.{Tree, tree, Node, Trees, Members}
+use Rattle.std.proofs.Common.{◌≡◌, ℕ, ◌+◌, ◌<◌, ◌^◌, ◌≤◌, ◌&&◌, Bool, true, false, cond, not, List, [], ◌∷◌, ◌++◌, length, refl, sym, ◌∙◌, ap, subst, arith, append_assoc, length-append}
+use Rattle.decimal_json.specs.Tree.{Tree, tree, Node}
 use Rattle.decimal_json.specs.declared.tree.Tree as rust_tree
 use Rattle.decimal_json.specs.Trees.{tree_view, node_view}
 use Rattle.instance_model.specs.declared.limits.Limits.{Limits}
@@ -59,14 +59,16 @@ numbers_sum p xs ys = ap length (numbers_at-append p xs ys) ∙ length-append (n
 
 pub counts_append : (xs ys : List Placed) (a b : Survey) → Counts xs a → Counts ys b → Counts (xs ++ ys) (both a b)
 counts_append xs ys a b h k = record {
-    risks = omega (arith, numbers_sum is_risk xs ys, h.risks, k.risks);
-    workloads = omega (arith, numbers_sum is_workload xs ys, h.workloads, k.workloads);
-    rounded = omega (arith, rounded-append xs ys, h.rounded, k.rounded) }
+  risks = omega (arith, numbers_sum is_risk xs ys, h.risks, k.risks);
+  workloads = omega (arith, numbers_sum is_workload xs ys, h.workloads, k.workloads);
+  rounded = omega (arith, rounded-append xs ys, h.rounded, k.rounded);
+}
 
 pub survey_append : (limits : Limits) (xs ys : List Placed) (a b : Survey) → IsSurvey limits xs a → IsSurvey limits ys b → IsSurvey limits (xs ++ ys) (both a b)
 survey_append limits xs ys a b h k = record {
-    clear = values_faults-append limits xs ys ∙ clear_both (values_faults limits xs) (values_faults limits ys) h.clear k.clear;
-    counts = counts_append xs ys a b h.counts k.counts }
+  clear = values_faults-append limits xs ys ∙ clear_both (values_faults limits xs) (values_faults limits ys) h.clear k.clear;
+  counts = counts_append xs ys a b h.counts k.counts;
+}
 
 -- a list with a fault in its front or in its rest has one
 pub fault_left : (limits : Limits) (xs ys : List Placed) → (values_faults limits xs ≡ [] → ⊥) → values_faults limits (xs ++ ys) ≡ [] → ⊥
@@ -102,9 +104,10 @@ pub record HasRoom (s : Survey) (most : ℕ) : Type 0 where
 
 pub counts_room : (vs : List Placed) (s : Survey) → Counts vs s → HasRoom s (length vs)
 counts_room vs s h = record {
-    risks = omega (arith, h.risks, few_numbers is_risk vs);
-    workloads = omega (arith, h.workloads, few_numbers is_workload vs);
-    rounded = omega (arith, h.rounded, few_rounded vs) }
+  risks = omega (arith, h.risks, few_numbers is_risk vs);
+  workloads = omega (arith, h.workloads, few_numbers is_workload vs);
+  rounded = omega (arith, h.rounded, few_rounded vs);
+}
 
 -- a value with what is in it
 

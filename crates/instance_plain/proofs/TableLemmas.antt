@@ -1,5 +1,5 @@
 -- The tables of the interventions, one by one.
-use Rattle.std.proofs.Common.{◌≡◌, ℕ, suc, ◌+◌, ◌<◌, ◌≤◌, ◌&&◌, Bool, true, false, cond, not, List, [], ◌∷◌, ◌++◌, map, length, take, drop, get_or, Option, Some, None, IsSome, refl, sym, ◌∙◌, ap, subst, arith, append_assoc, append-nil, length-append, zero, is_some}
+use Rattle.std.proofs.Common.{◌≡◌, ℕ, suc, ◌+◌, ◌<◌, ◌≤◌, ◌&&◌, Bool, true, false, not, List, [], ◌∷◌, ◌++◌, map, length, take, drop, get_or, refl, sym, ◌∙◌, ap, subst, arith, append_assoc, append-nil, length-append, zero}
 use Rattle.std.proofs.lemmas.List.{length-map}
 use Rattle.std.proofs.lemmas.Bool.Decides.{nat_tests}
 use Rattle.std.specs.Prelude.{string_bytes, nat_le, Vec, AllPairs, slice_index_or, bytes_eq, ◌||◌, ◌≢◌}
@@ -10,27 +10,16 @@ use Rattle.std.specs.declared.string.String.{String}
 use Rattle.decimal_json.specs.declared.tree.Tree.{Tree}
 use Rattle.decimal_json.specs.declared.tree.Member.{Member}
 use Rattle.decimal_json.specs.Tree as json
-use Rattle.decimal_json.specs.Trees.{tree_view, members_view, member_view}
-use Rattle.instance_model.specs.declared.limits.Limits.{Limits}
+use Rattle.decimal_json.specs.Trees.{tree_view, member_view}
 use Rattle.instance_shape.specs.declared.fault.Known.TheVariants as is
-use Rattle.instance_shape.specs.declared.fault.Fault.{Fault}
-use Rattle.instance_shape.specs.declared.fault.Flaw.{Flaw}
-use Rattle.instance_shape.specs.declared.fault.Flaw.TheVariants as flaw
-use Rattle.instance_shape.specs.declared.spot.Spot.TheVariants as spot
-use Rattle.instance_shape.specs.declared.spot.Kind.TheVariants as kind
 use Rattle.instance_shape.specs.Keys.{Key, by_text, by_number, has_key}
 use Rattle.instance_shape.specs.Seen.{texts_of}
 use Rattle.instance_shape.specs.LookUp.{Entry, elements, known, whole_at, durations}
 use Rattle.instance_shape.specs.FileTables.{all_below, risks_at, soft_at}
-use Rattle.instance_shape.specs.ShapeFaults.{where_so, keys_faults, key_faults, keys_of}
 use Rattle.instance_plain.specs.Rows.{is_sound_intervention, runs_are_sound, runs_rows}
 use Rattle.instance_plain.specs.Interventions.{are_sound, AreTablesOf}
 use Rattle.instance_plain.specs.declared.interventions.Interventions.{Interventions}
 use Rattle.instance_plain.specs.Views.{entry_of, entries_view}
-use Rattle.instance_plain.proofs.SurveyLemmas.{clear_left, clear_right}
-use Rattle.instance_plain.proofs.Splits.{parted}
-use Rattle.instance_plain.proofs.KeyLemmas.{keys_split}
-use Rattle.instance_plain.proofs.Opened.{key_opened, value_opened}
 
 map-take : {A B : Type 0} (f : A → B) (n : ℕ) (xs : List A) → map f (take n xs) ≡ take n (map f xs)
 map-take f zero xs = refl
@@ -57,7 +46,7 @@ pub sound_is : (v : json.Tree) (periods : ℕ) (counts : List ℕ) (tmax : ℕ) 
 sound_is v periods counts tmax listed ds h e d a b c =
     let n : length (elements (known is.Delta v)) ≡ length listed = ap length (sym e) ∙ length-map listed tree_view in
     all_three (nat_le 1 (whole_at (known is.Tmax v))) (nat_le (whole_at (known is.Tmax v)) periods) (nat_le (whole_at (known is.Tmax v)) (length (elements (known is.Delta v)))) (runs_are_sound periods counts (durations v) v)
-        (le_true 1 (whole_at (known is.Tmax v)) (omega (arith, h))) (le_true (whole_at (known is.Tmax v)) periods (omega (arith, h))) (le_true (whole_at (known is.Tmax v)) (length (elements (known is.Delta v))) (omega (arith, h, n)))
+    (le_true 1 (whole_at (known is.Tmax v)) (omega (arith, h))) (le_true (whole_at (known is.Tmax v)) periods (omega (arith, h))) (le_true (whole_at (known is.Tmax v)) (length (elements (known is.Delta v))) (omega (arith, h, n)))
     ∙ ap (λ q. runs_are_sound periods counts q v) (sym d)
 
 -- ---- one intervention more
@@ -163,8 +152,9 @@ pub record IsMore (periods : ℕ) (e : Entry) (old new : Interventions) (text : 
 
 pub tables_more : (periods : ℕ) (es fs : List Entry) (e : Entry) (old new : Interventions) (text : List ℕ) (row : Vec ℕ Global) → fs ≡ es ++ e ∷ [] → AreTablesOf periods es old → IsMore periods e old new text row → AreTablesOf periods fs new
 tables_more periods es fs e old new text row h a m = subst (λ (q : List Entry). AreTablesOf periods q new) (sym h) (record {
-    names = m.names ∙ ap (λ r. r ++ text ∷ []) a.names ∙ ap (λ k. map (λ e. e.key) es ++ k ∷ []) m.key ∙ sym (map_more (λ (e : Entry). e.key) es e);
-    delta = ap (map (λ (v : Vec ℕ Global). v.items)) m.delta ∙ map_more (λ (v : Vec ℕ Global). v.items) old.delta.items row ∙ ap (λ r. r ++ row.items ∷ []) a.delta
-        ∙ ap (λ d. map (λ (e : Entry). durations e.value) es ++ d ∷ []) m.row_is ∙ sym (map_more (λ (e : Entry). durations e.value) es e);
-    risks = m.risks ∙ ap (λ r. r ++ runs_rows risks_at periods (durations e.value) e.value) a.risks ∙ sym (all_below-more es e (λ v. runs_rows risks_at periods (durations v) v));
-    soft = m.soft ∙ ap (λ r. r ++ runs_rows soft_at periods (durations e.value) e.value) a.soft ∙ sym (all_below-more es e (λ v. runs_rows soft_at periods (durations v) v)) })
+  names = m.names ∙ ap (λ r. r ++ text ∷ []) a.names ∙ ap (λ k. map (λ e. e.key) es ++ k ∷ []) m.key ∙ sym (map_more (λ (e : Entry). e.key) es e);
+  delta = ap (map (λ (v : Vec ℕ Global). v.items)) m.delta ∙ map_more (λ (v : Vec ℕ Global). v.items) old.delta.items row ∙ ap (λ r. r ++ row.items ∷ []) a.delta
+      ∙ ap (λ d. map (λ (e : Entry). durations e.value) es ++ d ∷ []) m.row_is ∙ sym (map_more (λ (e : Entry). durations e.value) es e);
+  risks = m.risks ∙ ap (λ r. r ++ runs_rows risks_at periods (durations e.value) e.value) a.risks ∙ sym (all_below-more es e (λ v. runs_rows risks_at periods (durations v) v));
+  soft = m.soft ∙ ap (λ r. r ++ runs_rows soft_at periods (durations e.value) e.value) a.soft ∙ sym (all_below-more es e (λ v. runs_rows soft_at periods (durations v) v));
+})

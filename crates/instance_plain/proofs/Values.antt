@@ -1,9 +1,8 @@
 -- The numbers at the root of a text without a fault of shape.
-use Rattle.std.proofs.Common.{◌≡◌, ◌≢◌, ℕ, zero, suc, ◌+◌, ◌<◌, ◌≤◌, ◌&&◌, Bool, true, false, cond, not, List, [], ◌∷◌, ◌++◌, map, length, Option, Some, None, refl, sym, ◌∙◌, ap, subst, arith, bytes_eq, is_some, is_none, unwrap_or, option_map}
+use Rattle.std.proofs.Common.{◌≡◌, ℕ, ◌+◌, ◌≤◌, ◌&&◌, Bool, true, false, cond, not, List, [], ◌∷◌, ◌++◌, map, Option, Some, None, refl, sym, ◌∙◌, ap, subst, arith, bytes_eq, is_some, unwrap_or, option_map}
 use Rattle.std.specs.Prelude.{All, nat_le, ◌||◌}
 use Rattle.std.proofs.lemmas.List.Elements.{All-cons}
 use Rattle.std.proofs.lemmas.Bool.Decides.{nat_tests}
-use Rattle.std.proofs.lemmas.Slice.Eq.{bytes_eq-Decides}
 use Rattle.decimal_json.specs.Tree.{Tree, tree, Node, Trees, no_trees, and_tree, Members, no_members, and_member}
 use Rattle.decimal_json.specs.Exact.{whole, millionths}
 use Rattle.instance_model.specs.declared.limits.Limits.{Limits}
@@ -17,9 +16,9 @@ use Rattle.instance_shape.specs.declared.spot.Spot.{Spot}
 use Rattle.instance_shape.specs.declared.spot.Spot.TheVariants as spot
 use Rattle.instance_shape.specs.declared.spot.Kind.TheVariants as kind
 use Rattle.instance_shape.specs.Keys.{Key, by_text, has_key, text_of}
-use Rattle.instance_shape.specs.Shape.{Placed, placed, placed_elements, under, required, late_keys, is_part, is_object}
-use Rattle.instance_shape.specs.ShapeFaults.{where_so, values_faults, value_faults, own_faults, inside_faults, keys_faults, keys_of, first_missing, missing_at, outside}
-use Rattle.instance_shape.specs.LookUp.{Entry, entries, entry_list, elements, tree_list, first_value, at_key, known, whole_at, part_at}
+use Rattle.instance_shape.specs.Shape.{placed, placed_elements, under, required, late_keys, is_part}
+use Rattle.instance_shape.specs.ShapeFaults.{where_so, values_faults, value_faults, own_faults, keys_faults, keys_of, first_missing, missing_at, outside}
+use Rattle.instance_shape.specs.LookUp.{entry_list, elements, tree_list, first_value, at_key, known, whole_at, part_at}
 use Rattle.instance_plain.proofs.SurveyLemmas.{clear_left, clear_right, values_faults-append}
 use Rattle.instance_plain.proofs.Shaped.{at_key_clear, not_so, not_not}
 

@@ -1,11 +1,10 @@
 -- Defines what a survey of values tells: whether there is a fault of shape among them, and how many numbers of each sort they hold.
-use Rattle.std.specs.Prelude.{◌≡◌, ℕ, ◌+◌, ◌++◌, Bool, true, false, List, [], ◌∷◌, Option, Some, None, length, map}
-use Rattle.decimal_json.specs.Tree.{Tree, tree, Node, Trees, Members}
+use Rattle.std.specs.Prelude.{◌≡◌, ℕ, ◌++◌, Bool, true, false, List, [], ◌∷◌, Option, Some, None, length}
+use Rattle.decimal_json.specs.Tree.{tree, Node, Members}
 use Rattle.instance_model.specs.declared.limits.Limits.{Limits}
 use Rattle.instance_shape.specs.declared.fault.Fault.{Fault}
 use Rattle.instance_shape.specs.declared.spot.Spot.{Spot}
 use Rattle.instance_shape.specs.Shape.{Placed, placed_node, kind_of, required}
-use Rattle.instance_shape.specs.Keys.{Key}
 use Rattle.instance_shape.specs.ShapeFaults.{own_faults, inside_faults, values_faults, numbers_at, is_risk, is_workload, keys_faults, keys_of, missing}
 use Rattle.instance_shape.specs.FileTables.{rounded}
 use Rattle.instance_plain.specs.declared.survey.Survey.{Survey}

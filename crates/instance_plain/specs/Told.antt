@@ -1,5 +1,5 @@
 -- Defines what the code knows of a text: that its values have the right shape, and whether there is a fault across the file.
-use Rattle.std.specs.Prelude.{◌≡◌, ℕ, ◌≤◌, Bool, true, false, List, [], Option, None, length}
+use Rattle.std.specs.Prelude.{◌≡◌, ◌≤◌, Bool, true, false, [], Option, None, length}
 use Rattle.decimal_json.specs.Tree.{Tree}
 use Rattle.instance_model.specs.declared.limits.Limits.{Limits}
 use Rattle.instance_shape.specs.declared.spot.Spot.TheVariants as spot
@@ -17,4 +17,3 @@ pub record IsShaped (limits : Limits) (root : Tree) : Type 0 where
   pub values : values_faults limits (placed spot.Root root) ≡ []
   pub risks : length (numbers_at is_risk (placed spot.Root root)) ≤ limits.risk_cells
   pub workloads : length (numbers_at is_workload (placed spot.Root root)) ≤ limits.workload_entries
-

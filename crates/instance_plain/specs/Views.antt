@@ -1,5 +1,5 @@
 -- Rust's entries as those of the definition.
-use Rattle.std.specs.Prelude.{ℕ, List, map}
+use Rattle.std.specs.Prelude.{List, map}
 use Rattle.decimal_json.specs.declared.tree.Member.{Member}
 use Rattle.decimal_json.specs.Trees.{Member_view, member_view}
 use Rattle.instance_shape.specs.LookUp.{Entry}

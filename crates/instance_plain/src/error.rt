@@ -1,3 +1,5 @@
+//! Why a text isn't read.
+
 use std::alloc::AllocError;
 use thiserror::Error;
 

@@ -1,4 +1,4 @@
-// The tables of the interventions, one by one.
+//! The tables of the interventions, one by one.
 
 ghost use Rattle.std.specs.Prelude.{◌≡◌, ◌≢◌, ◌≤◌, ◌++◌, AllPairs, length, IfOk, IfSome, true, map, is_some, string_bytes};
 ghost use Rattle.decimal_json.specs.Trees.{tree_view};

@@ -1,4 +1,4 @@
-// What is judged of the keys of an object.
+//! What is judged of the keys of an object.
 
 ghost use Rattle.std.specs.Prelude.{◌≡◌, ◌++◌, ℕ, IfOk, true, string_bytes};
 ghost use Rattle.decimal_json.specs.Tree as json;
@@ -41,7 +41,12 @@ fn may_be_text(limits: &Limits, spot: Spot, before: usize, key: &str) -> bool
 }
 
 /// Adds a key that counts by its text, and says whether it has no fault.
-fn take_text(limits: &Limits, spot: Spot, seen: &mut IndexSet<String>, key: String) -> Result<bool, AllocError>
+fn take_text(
+    limits: &Limits,
+    spot: Spot,
+    seen: &mut IndexSet<String>,
+    key: String,
+) -> Result<bool, AllocError>
     requires { counts_by_text (shape.kind_of spot) ≡ true }
     ensures clear { IfOk result (λ b. (at : ℕ) → TellsClear (key_faults limits.now spot (texts_of seen.old.keys) at (string_bytes key)) b) }
     ensures added { IfOk result (λ b. b ≡ true → texts_of seen.new.keys ≡ texts_of seen.old.keys ++ key_of (shape.kind_of spot) (string_bytes key)) }
@@ -52,7 +57,12 @@ fn take_text(limits: &Limits, spot: Spot, seen: &mut IndexSet<String>, key: Stri
 }
 
 /// Adds a period or start, and says whether the key has no fault.
-fn take_number(limits: &Limits, spot: Spot, seen: &mut IndexSet<u32>, key: &str) -> Result<bool, AllocError>
+fn take_number(
+    limits: &Limits,
+    spot: Spot,
+    seen: &mut IndexSet<u32>,
+    key: &str,
+) -> Result<bool, AllocError>
     requires { shape.kind_of spot ≡ kinds.Numbers }
     ensures clear { IfOk result (λ b. (at : ℕ) → TellsClear (key_faults limits.now spot (numbers_of seen.old.keys) at key.now) b) }
     ensures added { IfOk result (λ b. b ≡ true → numbers_of seen.new.keys ≡ numbers_of seen.old.keys ++ key_of (shape.kind_of spot) key.now) }
@@ -65,7 +75,12 @@ fn take_number(limits: &Limits, spot: Spot, seen: &mut IndexSet<u32>, key: &str)
 }
 
 /// Whether the keys of an object whose keys count by their texts have no fault.
-fn has_clear_texts(alloc: Global, limits: &Limits, spot: Spot, members: &[Member]) -> Result<bool, AllocError>
+fn has_clear_texts(
+    alloc: Global,
+    limits: &Limits,
+    spot: Spot,
+    members: &[Member],
+) -> Result<bool, AllocError>
     requires { counts_by_text (shape.kind_of spot) ≡ true }
     ensures { IfOk result (λ b. (last : ℕ) → TellsClear (object_faults limits.now spot (members_view members.now) last) b) }
 {
@@ -80,7 +95,12 @@ fn has_clear_texts(alloc: Global, limits: &Limits, spot: Spot, members: &[Member
 }
 
 /// Whether the keys of an object of periods or starts have no fault.
-fn has_clear_numbers(alloc: Global, limits: &Limits, spot: Spot, members: &[Member]) -> Result<bool, AllocError>
+fn has_clear_numbers(
+    alloc: Global,
+    limits: &Limits,
+    spot: Spot,
+    members: &[Member],
+) -> Result<bool, AllocError>
     requires { shape.kind_of spot ≡ kinds.Numbers }
     ensures { IfOk result (λ b. (last : ℕ) → TellsClear (object_faults limits.now spot (members_view members.now) last) b) }
 {
@@ -94,7 +114,12 @@ fn has_clear_numbers(alloc: Global, limits: &Limits, spot: Spot, members: &[Memb
 }
 
 /// Whether the keys of an object at a spot have no fault, and no required key is missing.
-pub fn has_clear_keys(alloc: Global, limits: &Limits, spot: Spot, members: &[Member]) -> Result<bool, AllocError>
+pub fn has_clear_keys(
+    alloc: Global,
+    limits: &Limits,
+    spot: Spot,
+    members: &[Member],
+) -> Result<bool, AllocError>
     requires { shape.has_shape (shape.kind_of spot) (json.Node.object (members_view members.now)) ≡ true }
     ensures { IfOk result (λ b. (last : ℕ) → TellsClear (object_faults limits.now spot (members_view members.now) last) b) }
 {

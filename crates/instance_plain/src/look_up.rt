@@ -1,4 +1,4 @@
-// What stands under the keys of a value.
+//! What stands under the keys of a value.
 
 ghost use Rattle.std.specs.Prelude.{◌≡◌, ◌&&◌, ◌==◌, map, option_map, bytes_eq};
 ghost use Rattle.std.specs.Option.{option_copied};

@@ -1,4 +1,4 @@
-// What is judged of a value by itself.
+//! What is judged of a value by itself.
 
 ghost use Rattle.std.specs.Prelude.{◌≡◌, Some};
 ghost use Rattle.decimal_json.specs.Trees.{node_view};

@@ -1,4 +1,4 @@
-// The rows of risks, in the order of the tables.
+//! The rows of risks, in the order of the tables.
 
 ghost use Rattle.std.specs.Prelude.{◌≡◌, ◌+◌, ◌≤◌, ◌<◌, ◌++◌, ◌∷◌, [], length, IfOk, OnOk, true, map, slice_index};
 ghost use Rattle.decimal_json.specs.Trees.{tree_view};
@@ -88,7 +88,13 @@ fn add_run(
 {
     for j in 0..duration {
         let period = start + j;
-        if !add_list(intervention, period, start, counts[period as usize - 1], rows)? {
+        if !add_list(
+            intervention,
+            period,
+            start,
+            counts[period as usize - 1],
+            rows,
+        )? {
             return Ok(false);
         }
     }

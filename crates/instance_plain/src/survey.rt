@@ -1,4 +1,4 @@
-// What stands in the values of a tree: whether a fault of shape is among them, and how many numbers of each sort.
+//! What stands in the values of a tree: whether a fault of shape is among them, and how many numbers of each sort.
 
 ghost use Rattle.std.specs.Prelude.{◌≡◌, ◌+◌, ◌<◌, ◌^◌, IfOk, length, true};
 ghost use Rattle.decimal_json.specs.Trees.{tree_view, node_view, trees_view, members_view};
@@ -127,7 +127,12 @@ fn survey_members(
 {
     let mut so_far = Survey::NONE;
     for member in members {
-        match survey_value(alloc, limits, under(spot, member.key.as_str()), &member.value)? {
+        match survey_value(
+            alloc,
+            limits,
+            under(spot, member.key.as_str()),
+            &member.value,
+        )? {
             None => return Ok(None),
             Some(more) => so_far = so_far.plus(more),
         }

@@ -45,10 +45,10 @@ risk_fault counts name t s (Some xs) = unless (length xs == slice_index counts (
 abbrev pub risk_faults : Tree → Entry → Option CrossFault
 risk_faults root i =
     first_of (length (durations i.value)) (λ k.
-        cond (allowed_of (periods root) (durations i.value) (k + 1))
-            (first_of (slice_index (durations i.value) k) (λ j.
-                risk_fault (scenarios root) i.key (k + 1 + j) (k + 1) (risk_list i.value (k + 1 + j) (k + 1))))
-            None)
+    cond (allowed_of (periods root) (durations i.value) (k + 1))
+    (first_of (slice_index (durations i.value) k) (λ j.
+    risk_fault (scenarios root) i.key (k + 1 + j) (k + 1) (risk_list i.value (k + 1 + j) (k + 1))))
+    None)
 
 -- tmax is outside 1 to T
 abbrev pub tmax_fault : Tree → Entry → Option CrossFault

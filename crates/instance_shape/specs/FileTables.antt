@@ -20,9 +20,9 @@ lists_below (suc n) f = lists_below n f ++ f n
 abbrev pub each_run : {A : Type 0} → Tree → (Tree → ℕ → ℕ → List A) → Tree → List A
 each_run root f v =
     lists_below (length (durations v)) (λ k.
-        cond (allowed_of (periods root) (durations v) (k + 1))
-            (lists_below (slice_index (durations v) k) (λ j. f v (k + 1) (k + 1 + j)))
-            [])
+    cond (allowed_of (periods root) (durations v) (k + 1))
+    (lists_below (slice_index (durations v) k) (λ j. f v (k + 1) (k + 1 + j)))
+    [])
 
 -- the lists that the values under some keys give, one after another
 abbrev pub all_below : {A : Type 0} → List Entry → (Tree → List A) → List A
@@ -64,9 +64,10 @@ word e k = text_at (slice_index_or (elements e) k (tree 0 0 Node.null))
 -- the exclusion of a file's entry
 abbrev pub exclusion : Tree → Tree → Exclusion
 exclusion root e = record {
-    first = number_among (keys (known is.Interventions root)) (word e 0);
-    second = number_among (keys (known is.Interventions root)) (word e 1);
-    season = number_among (keys (known is.Seasons root)) (word e 2) }
+  first = number_among (keys (known is.Interventions root)) (word e 0);
+  second = number_among (keys (known is.Interventions root)) (word e 1);
+  season = number_among (keys (known is.Seasons root)) (word e 2);
+}
 
 -- whether period u + 1 is one of a season's
 abbrev pub in_season : Tree → ℕ → List Bool
@@ -86,20 +87,21 @@ rounded (p ∷ ps) = cond (is_count (kind_of p.spot) && differs_at p.tree) 1 0 +
 -- there is a load cell for each workload entry that isn't ignored, and no other
 abbrev pub tables : ℤ → Tree → Tables
 tables slack root = record {
-    periods = periods root;
-    alpha = part_at (known is.Alpha root);
-    quantile = part_at (known is.Quantile root);
-    scenarios = scenarios root;
-    resource_names = keys (known is.Resources root);
-    upper = all_below (entries (known is.Resources root)) (λ r. map (λ t. count_at t +ℤ slack) (elements (known is.Max r)));
-    lower = all_below (entries (known is.Resources root)) (λ r. map (λ t. count_at t -ℤ slack) (elements (known is.Min r)));
-    season_names = keys (known is.Seasons root);
-    in_season = all_below (entries (known is.Seasons root)) (λ q. lists_below (periods root) (in_season q));
-    names = keys (known is.Interventions root);
-    delta = map (λ i. durations i.value) (interventions root);
-    exclusion_names = keys (known is.Exclusions root);
-    excluded = map (λ e. exclusion root e.value) (entries (known is.Exclusions root));
-    loads = map (λ i. each_run root (cells_at root) i.value) (interventions root);
-    risks = all_below (interventions root) (each_run root risks_at);
-    soft = all_below (interventions root) (each_run root soft_at);
-    rounded = rounded (placed spot.Root root) }
+  periods = periods root;
+  alpha = part_at (known is.Alpha root);
+  quantile = part_at (known is.Quantile root);
+  scenarios = scenarios root;
+  resource_names = keys (known is.Resources root);
+  upper = all_below (entries (known is.Resources root)) (λ r. map (λ t. count_at t +ℤ slack) (elements (known is.Max r)));
+  lower = all_below (entries (known is.Resources root)) (λ r. map (λ t. count_at t -ℤ slack) (elements (known is.Min r)));
+  season_names = keys (known is.Seasons root);
+  in_season = all_below (entries (known is.Seasons root)) (λ q. lists_below (periods root) (in_season q));
+  names = keys (known is.Interventions root);
+  delta = map (λ i. durations i.value) (interventions root);
+  exclusion_names = keys (known is.Exclusions root);
+  excluded = map (λ e. exclusion root e.value) (entries (known is.Exclusions root));
+  loads = map (λ i. each_run root (cells_at root) i.value) (interventions root);
+  risks = all_below (interventions root) (each_run root risks_at);
+  soft = all_below (interventions root) (each_run root soft_at);
+  rounded = rounded (placed spot.Root root);
+}

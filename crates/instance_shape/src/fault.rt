@@ -1,4 +1,4 @@
-// Faults of the shape, and limits.
+//! Faults of the shape, and limits.
 
 /// The fourteen required keys.
 #[derive(Clone, Copy, Debug, PartialEq, Eq)]

@@ -1,4 +1,4 @@
-// Names, and the numbers of period and start keys.
+//! Names, and the numbers of period and start keys.
 
 ghost use Rattle.std.specs.Prelude.{◌≡◌, cond, Some, None};
 ghost use Rattle.instance_shape.specs.Keys as spec;
@@ -35,4 +35,23 @@ pub fn number_of(text: &str) -> Option<u32>
         number = number * 10 + (*byte as u32 - 48);
     }
     Some(number)
+}
+
+#[cfg(test)]
+mod tests {
+    use super::*;
+
+    #[test]
+    fn names_and_numbers(rt: HostRuntime) {
+        assert!(rt; is_name("I1"));
+        assert!(rt; !is_name(""));
+        assert!(rt; !is_name("I 1"));
+        assert!(rt; !is_name("I\x7f"));
+        assert_eq!(rt; number_of("1"), Some(1));
+        assert_eq!(rt; number_of("007"), Some(7));
+        assert_eq!(rt; number_of("999999999"), Some(999_999_999));
+        assert_eq!(rt; number_of("1000000000"), None);
+        assert_eq!(rt; number_of("-1"), None);
+        assert_eq!(rt; number_of(""), None);
+    }
 }

@@ -1,4 +1,4 @@
-// The required keys of an object.
+//! The required keys of an object.
 
 ghost use Rattle.std.specs.Prelude.{◌≡◌, cond, Some};
 ghost use Rattle.instance_shape.specs.Shape.{required, late_keys};
@@ -41,7 +41,12 @@ fn has(seen: &IndexSet<String>, key: &str) -> bool
 }
 
 /// The key, if an object hasn't had it, and else what is missing after it.
-fn missing_or(seen: &IndexSet<String>, key: &str, known: Known, after: Option<Known>) -> Option<Known>
+fn missing_or(
+    seen: &IndexSet<String>,
+    key: &str,
+    known: Known,
+    after: Option<Known>,
+) -> Option<Known>
     ensures { result ≡ cond (has_key (texts_of seen.now.keys) (by_text key.now)) after (Some known) }
 {
     if has(seen, key) { after } else { Some(known) }

@@ -1,4 +1,4 @@
-// The keys that an open object has had.
+//! The keys that an open object has had.
 
 ghost use Rattle.std.specs.Prelude.{◌≡◌, ◌∷◌, [], ◌++◌, cond, Some, None, Bool, true, false, not, IfOk, OnOk, IsTrue, ◌↔◌, string_bytes, map, length};
 ghost use Rattle.instance_shape.specs.Keys.{has_key, by_text, by_number};

@@ -1,4 +1,4 @@
-// Where a value stands in the shape of an instance.
+//! Where a value stands in the shape of an instance.
 
 ghost use Rattle.std.specs.Prelude.{◌≡◌};
 ghost use Rattle.instance_shape.specs.Shape as shape;
@@ -70,11 +70,18 @@ pub fn kind_of(spot: Spot) -> Kind
 {
     match spot {
         Spot::Root | Spot::Resource | Spot::Intervention => Kind::Record,
-        Spot::Resources | Spot::Seasons | Spot::Interventions | Spot::Workload | Spot::Exclusions => Kind::Names,
-        Spot::Max | Spot::Min | Spot::Season | Spot::Delta | Spot::RiskStart | Spot::ScenariosNumber => Kind::List,
+        Spot::Resources | Spot::Seasons | Spot::Interventions | Spot::Workload | Spot::Exclusions =>
+            Kind::Names,
+        Spot::Max
+        | Spot::Min
+        | Spot::Season
+        | Spot::Delta
+        | Spot::RiskStart
+        | Spot::ScenariosNumber => Kind::List,
         Spot::BandLimit | Spot::WorkloadNumber | Spot::RiskNumber => Kind::Count,
         Spot::SeasonPeriod | Spot::Tmax | Spot::Duration | Spot::T | Spot::Scenario => Kind::Whole,
-        Spot::WorkloadResource | Spot::WorkloadPeriod | Spot::Risk | Spot::RiskPeriod => Kind::Numbers,
+        Spot::WorkloadResource | Spot::WorkloadPeriod | Spot::Risk | Spot::RiskPeriod =>
+            Kind::Numbers,
         Spot::Exclusion => Kind::Triple,
         Spot::Word => Kind::Name,
         Spot::Beyond => Kind::Nothing,
@@ -94,13 +101,7 @@ pub fn element(spot: Spot, before: u64) -> Spot
         Spot::Delta => Spot::Duration,
         Spot::RiskStart => Spot::RiskNumber,
         Spot::ScenariosNumber => Spot::Scenario,
-        Spot::Exclusion => {
-            if before < 3 {
-                Spot::Word
-            } else {
-                Spot::Beyond
-            }
-        }
+        Spot::Exclusion => { if before < 3 { Spot::Word } else { Spot::Beyond } }
         _ => Spot::Skipped,
     }
 }

@@ -1,7 +1,7 @@
-use Rattle.std.proofs.Common.{◌≡◌, [], ◌∷◌, ◌++◌, sym, ◌∙◌, ap, arith, List, ℕ, map, take}
+use Rattle.std.proofs.Common.{◌≡◌, ◌++◌, sym, ◌∙◌, ap, arith}
 use Rattle.decimal_json.specs.Trees.{tree_view}
 use Rattle.instance_shape.specs.FileTables.{risks_at, soft_at}
-use Rattle.instance_shape.specs.LookUp.{whole_at, durations}
+use Rattle.instance_shape.specs.LookUp.{durations}
 use Rattle.instance_plain.specs.Rows.{runs_rows}
 use Rattle.instance_plain.proofs.TableLemmas.{durations_are, sound_is}
 use Rattle.instance_plain.proofs.interventions.add_intervention.Goals as goal
@@ -11,14 +11,14 @@ returns-then-not-branch-clause-sound c =
     let v = tree_view c.args.intervention.now in
     let ds : c.as_slice.result.now ≡ durations v = c.as_slice.ensures.value ∙ durations_are v c.whole_at-tmax.result c.elements_at-listed.result.now c.in_ok-durations.durations.items c.whole_at-tmax.ensures c.elements_at-listed.ensures c.in_ok-durations.ensures in
     sym (sound_is v c.args.periods c.args.counts.now c.whole_at-tmax.result c.elements_at-listed.result.now c.as_slice.result.now c.whole_at-tmax.ensures c.elements_at-listed.ensures ds (omega arith) (omega arith) (omega arith)
-        ∙ sym c.in_ok-add_runs.ensures.sound ∙ c.if-not-branch.true)
+    ∙ sym c.in_ok-add_runs.ensures.sound ∙ c.if-not-branch.true)
 
 pub returns-clause-sound : goal.returns-clause-sound
 returns-clause-sound c =
     let v = tree_view c.args.intervention.now in
     let ds : c.as_slice.result.now ≡ durations v = c.as_slice.ensures.value ∙ durations_are v c.whole_at-tmax.result c.elements_at-listed.result.now c.in_ok-durations.durations.items c.whole_at-tmax.ensures c.elements_at-listed.ensures c.in_ok-durations.ensures in
     sym (sound_is v c.args.periods c.args.counts.now c.whole_at-tmax.result c.elements_at-listed.result.now c.as_slice.result.now c.whole_at-tmax.ensures c.elements_at-listed.ensures ds (omega arith) (omega arith) (omega arith)
-        ∙ sym c.in_ok-add_runs.ensures.sound ∙ c.if-not-branch.false)
+    ∙ sym c.in_ok-add_runs.ensures.sound ∙ c.if-not-branch.false)
 
 pub returns-clause-durations : goal.returns-clause-durations
 returns-clause-durations c = durations_are (tree_view c.args.intervention.now) c.whole_at-tmax.result c.elements_at-listed.result.now c.in_ok-durations.durations.items c.whole_at-tmax.ensures c.elements_at-listed.ensures c.in_ok-durations.ensures

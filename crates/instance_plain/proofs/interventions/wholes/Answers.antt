@@ -1,4 +1,4 @@
-use Rattle.std.proofs.Common.{◌≡◌, [], ◌∷◌, ◌++◌, sym, ◌∙◌, ap, arith, List, ℕ, map, take}
+use Rattle.std.proofs.Common.{[], ◌∷◌, ◌++◌, sym, ◌∙◌, ap, arith, map, take}
 use Rattle.decimal_json.specs.Trees.{tree_view}
 use Rattle.instance_shape.specs.LookUp.{whole_at}
 use Rattle.instance_plain.proofs.RowLemmas.{viewed_more}

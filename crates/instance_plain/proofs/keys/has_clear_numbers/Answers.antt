@@ -1,4 +1,4 @@
-use Rattle.std.proofs.Common.{sym, ◌∙◌, ap, true, List, ℕ, arith, refl}
+use Rattle.std.proofs.Common.{ap, arith, refl}
 use Rattle.instance_shape.specs.Seen.{numbers_of}
 use Rattle.instance_plain.proofs.KeyLemmas.{bad_key, good_key, numbers_end, all_clear}
 use Rattle.instance_plain.proofs.SurveyLemmas.{told_true, told_false}

@@ -1,4 +1,4 @@
-use Rattle.std.proofs.Common.{sym, ◌∙◌, ap, true, List, ℕ, arith, refl, is_none}
+use Rattle.std.proofs.Common.{◌∙◌, ap, arith, refl}
 use Rattle.std.specs.Prelude.{string_bytes}
 use Rattle.instance_shape.specs.Seen.{texts_of}
 use Rattle.instance_plain.proofs.KeyLemmas.{bad_key, good_key, end_told, all_clear, none_of}

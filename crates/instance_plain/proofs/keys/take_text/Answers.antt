@@ -1,4 +1,4 @@
-use Rattle.std.proofs.Common.{sym, ◌∙◌, ap, true, List, ℕ}
+use Rattle.std.proofs.Common.{sym, ◌∙◌, ap, true}
 use Rattle.std.specs.Prelude.{string_bytes}
 use Rattle.instance_plain.specs.Own.{may_be_text}
 use Rattle.instance_plain.proofs.KeyLemmas.{text_told}

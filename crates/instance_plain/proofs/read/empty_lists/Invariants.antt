@@ -1,4 +1,4 @@
-use Rattle.std.proofs.Common.{◌≡◌, [], map, ℕ}
+use Rattle.std.proofs.Common.{◌≡◌, [], map}
 use Rattle.std.specs.Prelude.{replicate, Vec}
 use Rattle.std.specs.declared.alloc.Global.{Global}
 use Rattle.instance_model.specs.declared.parts.LoadCell.{LoadCell}

@@ -1,6 +1,5 @@
-use Rattle.std.proofs.Common.{◌≡◌, List, ℕ, sym, ◌∙◌, ap, subst, arith, take, drop, ◌+◌, true, false}
+use Rattle.std.proofs.Common.{sym, subst, arith, take, drop, ◌+◌}
 use Rattle.decimal_json.specs.Trees.{tree_view}
-use Rattle.instance_shape.specs.LookUp.{Entry}
 use Rattle.instance_plain.specs.Reduced.{HaveNoWorkload}
 use Rattle.instance_plain.specs.Views.{entries_view}
 use Rattle.instance_plain.proofs.Lookings.{entries-more, entries-parted}
@@ -11,7 +10,7 @@ pub loop-intervention-preserved : goal.loop-intervention-preserved
 loop-intervention-preserved c =
     let x = c.intervention-item.result in let i = c.loop-intervention.intervention-index in let ms = c.args.interventions.now in
     subst HaveNoWorkload (sym (entries-more ms i x (omega arith) c.intervention-item.is))
-        (workload_more (entries_view (take i ms)) (record { key = x.key; value = tree_view x.value }) c.loop-intervention.invariant (c.has_entries.ensures.none c.if-has_entries.false))
+    (workload_more (entries_view (take i ms)) (record { key = x.key; value = tree_view x.value }) c.loop-intervention.invariant (c.has_entries.ensures.none c.if-has_entries.false))
 
 pub returns-then-has_entries-clause-not_all : goal.returns-then-has_entries-clause-not_all
 returns-then-has_entries-clause-not_all c = λ _ h.

@@ -1,4 +1,4 @@
-use Rattle.std.proofs.Common.{◌≡◌, ℕ, ◌<◌, ◌^◌, length, Option, Some, None, refl, sym, ◌∙◌, ap, subst, arith, rules, [], is_some, IfSome}
+use Rattle.std.proofs.Common.{◌≡◌, ◌<◌, ◌^◌, length, Option, None, sym, ◌∙◌, subst, arith, rules, is_some, IfSome}
 use Rattle.std.specs.Prelude.{pos}
 use Rattle.decimal_json.specs.Trees.{tree_view}
 use Rattle.instance_model.specs.declared.parts.Parts.{Parts}
@@ -11,7 +11,7 @@ use Rattle.instance_shape.specs.CrossFaults.{cross_fault}
 use Rattle.instance_shape.specs.FileTables.{tables, rounded}
 use Rattle.instance_shape.specs.Shape.{placed}
 use Rattle.instance_plain.specs.declared.survey.Survey.{Survey}
-use Rattle.instance_plain.specs.Reduced.{IsReduced, IsReducedText}
+use Rattle.instance_plain.specs.Reduced.{IsReduced}
 use Rattle.instance_plain.specs.Told.{IsShaped, TellsNone}
 use Rattle.instance_plain.proofs.Fitting.{fits}
 use Rattle.instance_plain.proofs.Room.{text_room}
@@ -27,7 +27,7 @@ pub from_parts-requires : goal.from_parts-requires
 from_parts-requires c =
     let root = tree_view c.in-Ok.tree in
     let known : (IsShaped standard_limits root) × (IsReduced root) × (c.in-Some.survey.rounded ≡ rounded (placed spot.Root root)) =
-        subst (λ (o : Option Survey). IfSome o (λ s. (IsShaped standard_limits root) × (IsReduced root) × (s.rounded ≡ rounded (placed spot.Root root)))) c.in-Some.is c.in_ok-survey.ensures.some in
+    subst (λ (o : Option Survey). IfSome o (λ s. (IsShaped standard_limits root) × (IsReduced root) × (s.rounded ≡ rounded (placed spot.Root root)))) c.in-Some.is c.in_ok-survey.ensures.some in
     let none : cross_fault root ≡ None = subst (λ (o : Option Parts). TellsNone (cross_fault root) (is_some o)) c.in-Some-2.is c.in_ok-parts.ensures.sound in
     let same : tables_of c.in-Some-2.parts ≡ tables (pos 0) root = subst (λ (o : Option Parts). IfSome o (λ p. tables_of p ≡ tables (pos 0) root)) c.in-Some-2.is c.in_ok-parts.ensures.tables in
     subst (λ (t : Tables). IsFitting t) (sym same) (fits root known.0 none known.1)
@@ -36,24 +36,28 @@ pub returns-clause-built : goal.returns-clause-built
 returns-clause-built c =
     let root = tree_view c.in-Ok.tree in
     let known : (IsShaped standard_limits root) × (IsReduced root) × (c.in-Some.survey.rounded ≡ rounded (placed spot.Root root)) =
-        subst (λ (o : Option Survey). IfSome o (λ s. (IsShaped standard_limits root) × (IsReduced root) × (s.rounded ≡ rounded (placed spot.Root root)))) c.in-Some.is c.in_ok-survey.ensures.some in
+    subst (λ (o : Option Survey). IfSome o (λ s. (IsShaped standard_limits root) × (IsReduced root) × (s.rounded ≡ rounded (placed spot.Root root)))) c.in-Some.is c.in_ok-survey.ensures.some in
     let none : cross_fault root ≡ None = subst (λ (o : Option Parts). TellsNone (cross_fault root) (is_some o)) c.in-Some-2.is c.in_ok-parts.ensures.sound in
     let same : tables_of c.in-Some-2.parts ≡ tables (pos 0) root = subst (λ (o : Option Parts). IfSome o (λ p. tables_of p ≡ tables (pos 0) root)) c.in-Some-2.is c.in_ok-parts.ensures.tables in
     record {
-        root = root;
-        text = record { text = c.in-Ok.ensures.tree; shallow = c.in-Ok.ensures.shallow };
-        shaped = shaped_so standard_limits root known.0.values known.0.risks known.0.workloads;
-        fitting = none;
-        tables = c.in_ok-from_parts.ensures ∙ same }
+      root = root;
+      text = record { text = c.in-Ok.ensures.tree; shallow = c.in-Ok.ensures.shallow };
+      shaped = shaped_so standard_limits root known.0.values known.0.risks known.0.workloads;
+      fitting = none;
+      tables = c.in_ok-from_parts.ensures ∙ same;
+    }
 
 pub returns-clause-reduced : goal.returns-clause-reduced
 returns-clause-reduced c =
     let root = tree_view c.in-Ok.tree in
     let known : (IsShaped standard_limits root) × (IsReduced root) × (c.in-Some.survey.rounded ≡ rounded (placed spot.Root root)) =
-        subst (λ (o : Option Survey). IfSome o (λ s. (IsShaped standard_limits root) × (IsReduced root) × (s.rounded ≡ rounded (placed spot.Root root)))) c.in-Some.is c.in_ok-survey.ensures.some in
-    let none : cross_fault root ≡ None = subst (λ (o : Option Parts). TellsNone (cross_fault root) (is_some o)) c.in-Some-2.is c.in_ok-parts.ensures.sound in
-    (root, record {
+    subst (λ (o : Option Survey). IfSome o (λ s. (IsShaped standard_limits root) × (IsReduced root) × (s.rounded ≡ rounded (placed spot.Root root)))) c.in-Some.is c.in_ok-survey.ensures.some in
+    let none : cross_fault root ≡ None = subst (λ (o : Option Parts). TellsNone (cross_fault root) (is_some o)) c.in-Some-2.is c.in_ok-parts.ensures.sound in (
+      root,
+      record {
         text = record { text = c.in-Ok.ensures.tree; shallow = c.in-Ok.ensures.shallow };
         shaped = shaped_so standard_limits root known.0.values known.0.risks known.0.workloads;
         fitting = none;
-        reduced = known.1 })
+        reduced = known.1;
+      },
+    )

@@ -1,10 +1,9 @@
-use Rattle.std.proofs.Common.{◌≡◌, ℕ, ◌≤◌, Option, Some, None, refl, sym, ◌∙◌, ap, subst, arith, []}
+use Rattle.std.proofs.Common.{ap, subst, arith}
 use Rattle.decimal_json.specs.Trees.{tree_view}
 use Rattle.instance_model.specs.declared.limits.Limits.{Limits}
 use Rattle.instance_model.specs.Limits.{standard_limits}
 use Rattle.instance_shape.specs.declared.spot.Spot.TheVariants as spot
 use Rattle.instance_shape.specs.Shape.{placed}
-use Rattle.instance_plain.specs.declared.survey.Survey.{Survey}
 use Rattle.instance_plain.specs.Surveys.{Surveys, IsSurvey}
 use Rattle.instance_plain.specs.Told.{IsShaped}
 use Rattle.instance_plain.proofs.Insides.{none_survey, some_survey}

@@ -6,6 +6,7 @@ use Rattle.instance_plain.proofs.rows.add_numbers.Given as goal
 
 abbrev pub invariant-loop-item : goal.invariant-loop-item
 invariant-loop-item l = record {
-    risks : l.rows.risks.items ≡ l.fn.rows.risks.items ++ map count_at (map tree_view (take l.item-index l.list));
-    soft : l.rows.soft.items ≡ l.fn.rows.soft.items;
-    rounded : l.rounded ≡ some_differs (map tree_view (take l.item-index l.list)) }
+  risks : l.rows.risks.items ≡ l.fn.rows.risks.items ++ map count_at (map tree_view (take l.item-index l.list));
+  soft : l.rows.soft.items ≡ l.fn.rows.soft.items;
+  rounded : l.rounded ≡ some_differs (map tree_view (take l.item-index l.list));
+}

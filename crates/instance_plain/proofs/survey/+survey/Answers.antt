@@ -1,7 +1,6 @@
-use Rattle.std.proofs.Common.{sym, ◌∙◌, ap, List, ℕ, ◌+◌, arith, rules, refl, [], ◌∷◌, length, subst, ◌<◌, ◌^◌, ◌≤◌, take, drop}
+use Rattle.std.proofs.Common.{sym, ◌∙◌, ap, List, arith, refl, [], ◌∷◌, subst, take}
 use Rattle.decimal_json.specs.Trees.{tree_view, node_view, trees_view, members_view}
-use Rattle.instance_shape.specs.declared.spot.Spot.{Spot}
-use Rattle.instance_shape.specs.Shape.{placed, placed_node, placed_elements, placed_members, element, under, kind_of}
+use Rattle.instance_shape.specs.Shape.{placed, placed_node, placed_elements, placed_members, under, kind_of}
 use Rattle.decimal_json.specs.declared.tree.Tree.{Tree}
 use Rattle.decimal_json.specs.declared.tree.Member.{Member}
 use Rattle.instance_plain.specs.Surveys.{value_at, Surveys, TellsClear, object_faults}
@@ -28,7 +27,7 @@ survey_value-plus-requires t c =
     let inside = some_inside c.args.limits.now c.args.spot node c.in_ok-survey_inside.field-0 c.in-Some-2.inside c.in-Some-2.is c.in_ok-survey_inside.ensures in
     let room = value_room c.args.spot c.args.tree.now in
     let fits : Fits c.in-Some.own c.in-Some-2.inside = both_fit (value_at c.args.spot 0 0 node ∷ []) (placed_node c.args.spot node) (placed c.args.spot (tree_view c.args.tree.now)) c.in-Some.own c.in-Some-2.inside
-        (c.in-Some.ensures.counts 0 0) inside.values.counts (omega (arith, room)) c.requires.room in
+    (c.in-Some.ensures.counts 0 0) inside.values.counts (omega (arith, room)) c.requires.room in
     record { risks = fits.risks; workloads = fits.workloads; rounded = fits.rounded }
 
 pub survey_value-returns-in-None : goal.survey_value-returns-in-None
@@ -92,7 +91,7 @@ survey_elements-plus-so_far-requires t c =
     let turn : IsTurn c.args.spot c.args.items.now c.loop-before.before c.index-items-before.result c.element.result = record { below = omega arith; item = c.index-items-before.is; spot = c.element.ensures } in
     let more = some_survey c.args.limits.now (placed c.element.result (tree_view c.index-items-before.result)) c.in_ok-survey_value.field-0 c.in-Some.more c.in-Some.is c.in_ok-survey_value.ensures in
     let fits : Fits c.loop-before.so_far c.in-Some.more = both_fit (placed_elements c.args.spot 0 (trees_view (take c.loop-before.before c.args.items.now))) (placed c.element.result (tree_view c.index-items-before.result)) (placed_elements c.args.spot 0 (trees_view c.args.items.now))
-        c.loop-before.so_far c.in-Some.more c.loop-before.invariant.counts more.counts (turn_room c.args.spot c.args.items.now c.loop-before.before c.index-items-before.result c.element.result turn) c.requires.room in
+    c.loop-before.so_far c.in-Some.more c.loop-before.invariant.counts more.counts (turn_room c.args.spot c.args.items.now c.loop-before.before c.index-items-before.result c.element.result turn) c.requires.room in
     record { risks = fits.risks; workloads = fits.workloads; rounded = fits.rounded }
 
 pub survey_members-plus-so_far-requires : goal.survey_members-plus-so_far-requires
@@ -100,7 +99,7 @@ survey_members-plus-so_far-requires t c =
     let turn : IsEntryTurn c.args.spot c.args.members.now c.loop-member.member-index c.member-item.result c.under.result = record { below = omega arith; item = c.member-item.is; spot = c.under.ensures ∙ ap (under c.args.spot) c.as_str.ensures.same } in
     let more = some_survey c.args.limits.now (placed c.under.result (tree_view c.member-item.result.value)) c.in_ok-survey_value.field-0 c.in-Some.more c.in-Some.is c.in_ok-survey_value.ensures in
     let fits : Fits c.loop-member.so_far c.in-Some.more = both_fit (placed_members c.args.spot (members_view (take c.loop-member.member-index c.args.members.now))) (placed c.under.result (tree_view c.member-item.result.value)) (placed_members c.args.spot (members_view c.args.members.now))
-        c.loop-member.so_far c.in-Some.more c.loop-member.invariant.counts more.counts (entry_room c.args.spot c.args.members.now c.loop-member.member-index c.member-item.result c.under.result turn) c.requires.room in
+    c.loop-member.so_far c.in-Some.more c.loop-member.invariant.counts more.counts (entry_room c.args.spot c.args.members.now c.loop-member.member-index c.member-item.result c.under.result turn) c.requires.room in
     record { risks = fits.risks; workloads = fits.workloads; rounded = fits.rounded }
 
 pub survey_elements-loop-before-preserved : goal.survey_elements-loop-before-preserved
