@@ -1,0 +1,86 @@
+// Why a run refuses, and what it then says.
+ghost use Rattle.std.specs.Prelude.{◌≡◌, ◌++◌, IfOk, OnOk};
+ghost use Rattle.planner_cli.specs.Lines.{numbered_line, plan_fault_line};
+ghost use Rattle.planner_cli.specs.Refusals.{status_of, line_of};
+
+use crate::text::Text;
+use plan_text::PlanFault;
+use std::alloc::{AllocError, Global};
+
+/// The line where the words are not in the grammar.
+pub const WORDS_LINE: &str = "refused words\n";
+
+/// The line where memory ran out.
+pub const MEMORY_LINE: &str = "refused memory\n";
+
+/// Why the files that the words name are not evaluated.
+#[derive(Clone, Copy, Debug, PartialEq, Eq)]
+pub enum Refusal {
+    /// The file of this word could not be read. Words count from 1, and the command is word 1.
+    Unread { word: u64 },
+    /// The instance is too long, or not of the form that is built so far.
+    NotBuilt,
+    LongPlan,
+    /// The first fault of the plan's text.
+    Plan(PlanFault),
+    Memory,
+}
+
+impl From<AllocError> for Refusal {
+    ghost use Rattle.planner_cli.specs.declared.refusal.Refusal.TheVariants.{Memory};
+
+    ghost from_gives = { λ _ refusal. refusal ≡ Memory };
+
+    fn from(_: AllocError) -> Self {
+        Refusal::Memory
+    }
+}
+
+impl Refusal {
+    pub fn status(self) -> u8
+        ensures { result ≡ status_of self }
+    {
+        match self {
+            Refusal::NotBuilt => 3,
+            Refusal::LongPlan | Refusal::Plan(_) => 4,
+            Refusal::Unread { .. } => 7,
+            Refusal::Memory => 11,
+        }
+    }
+
+    /// The line that is said, with its line feed.
+    pub fn line(self, alloc: Global) -> Result<Text, AllocError>
+        ensures { IfOk result (λ line. line ≡ line_of self) }
+    {
+        let mut line = Text::new(alloc);
+        match self {
+            Refusal::NotBuilt => line.push("refused instance not built\n")?,
+            Refusal::LongPlan => line.push("refused plan too long\n")?,
+            Refusal::Plan(fault) => push_plan_fault(&mut line, fault)?,
+            Refusal::Unread { word } => push_numbered(&mut line, "refused read ", word)?,
+            Refusal::Memory => line.push(MEMORY_LINE)?,
+        }
+        Ok(line)
+    }
+}
+
+// Adds the line of a plan's fault.
+fn push_plan_fault(line: &mut Text, fault: PlanFault) -> Result<(), AllocError>
+    ensures { OnOk result (line.new ≡ line.old ++ plan_fault_line fault) }
+{
+    match fault {
+        PlanFault::BadLine { n } => push_numbered(line, "refused plan bad line ", n),
+        PlanFault::UnknownName { n } => push_numbered(line, "refused plan unknown name ", n),
+        PlanFault::Twice { n } => push_numbered(line, "refused plan twice ", n),
+        PlanFault::Memory => line.push(MEMORY_LINE),
+    }
+}
+
+// Adds a line that ends with a number.
+fn push_numbered(line: &mut Text, words: &str, n: u64) -> Result<(), AllocError>
+    ensures { OnOk result (line.new ≡ line.old ++ numbered_line words.now n) }
+{
+    line.push(words)?;
+    line.push_number(n)?;
+    line.push("\n")
+}

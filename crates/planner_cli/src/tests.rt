@@ -1,0 +1,267 @@
+// Runs over files in memory.
+use crate::run;
+use plan_desk::{DeskCall, MemDesk};
+use std::alloc::{AllocError, Global};
+use std::test::Fail;
+
+/// Two interventions, and no resources, seasons and exclusions.
+const PLAIN: &str = r#"{"Resources":{},"Seasons":{},
+"Interventions":{
+"I1":{"tmax":2,"Delta":[1,1],
+"workload":{},
+"risk":{"1":{"1":[1,3]},"2":{"2":[5,5]}}},
+"I2":{"tmax":2,"Delta":[1,1],
+"workload":{},
+"risk":{"1":{"1":[2,2]},"2":{"2":[4,0]}}}},
+"Exclusions":{},"T":2,"Scenarios_number":[2,2],
+"Quantile":0.5,"Alpha":0.5}"#;
+
+/// The same at a high quantile.
+const STEEP: &str = r#"{"Resources":{},"Seasons":{},
+"Interventions":{
+"I1":{"tmax":2,"Delta":[1,1],
+"workload":{},
+"risk":{"1":{"1":[1,3]},"2":{"2":[5,5]}}},
+"I2":{"tmax":2,"Delta":[1,1],
+"workload":{},
+"risk":{"1":{"1":[2,2]},"2":{"2":[4,0]}}}},
+"Exclusions":{},"T":2,"Scenarios_number":[2,2],
+"Quantile":0.95,"Alpha":0.5}"#;
+
+/// The same where the second start of I1 runs past the horizon.
+const LATE: &str = r#"{"Resources":{},"Seasons":{},
+"Interventions":{
+"I1":{"tmax":2,"Delta":[1,2],
+"workload":{},
+"risk":{"1":{"1":[1,3]},"2":{"2":[5,5]}}},
+"I2":{"tmax":2,"Delta":[1,1],
+"workload":{},
+"risk":{"1":{"1":[2,2]},"2":{"2":[4,0]}}}},
+"Exclusions":{},"T":2,"Scenarios_number":[2,2],
+"Quantile":0.5,"Alpha":0.5}"#;
+
+/// The same with a resource.
+const BANDED: &str = r#"{"Resources":{"c":{"max":[10,10],"min":[0,0]}},"Seasons":{},
+"Interventions":{
+"I1":{"tmax":2,"Delta":[1,1],
+"workload":{"c":{"1":{"1":6},"2":{"2":6}}},
+"risk":{"1":{"1":[1,3]},"2":{"2":[5,5]}}},
+"I2":{"tmax":2,"Delta":[1,1],
+"workload":{"c":{"1":{"1":6},"2":{"2":6}}},
+"risk":{"1":{"1":[2,2]},"2":{"2":[4,0]}}}},
+"Exclusions":{},"T":2,"Scenarios_number":[2,2],
+"Quantile":0.5,"Alpha":0.5}"#;
+
+/// One scenario a period.
+const SURE: &str = r#"{"Resources":{},"Seasons":{},
+"Interventions":{
+"I1":{"tmax":2,"Delta":[1,1],
+"workload":{},
+"risk":{"1":{"1":[0]},"2":{"2":[4]}}},
+"I2":{"tmax":2,"Delta":[1,1],
+"workload":{},
+"risk":{"1":{"1":[0]},"2":{"2":[2]}}}},
+"Exclusions":{},"T":2,"Scenarios_number":[1,1],
+"Quantile":1,"Alpha":1}"#;
+
+/// Risks below 0.
+const NEGATIVE: &str = r#"{"Resources":{},"Seasons":{},
+"Interventions":{"I1":{"tmax":1,"Delta":[1],"workload":{},
+"risk":{"1":{"1":[-1,-2,-2]}}}},
+"Exclusions":{},"T":1,"Scenarios_number":[3],
+"Quantile":1,"Alpha":1}"#;
+
+/// No interventions.
+const EMPTY: &str = r#"{"Resources":{},"Seasons":{},"Interventions":{},"Exclusions":{},
+"T":1,"Scenarios_number":[1],"Quantile":1,"Alpha":1}"#;
+
+const BOTH: &str = "I1 1\nI2 2\n";
+
+const PLAIN_REPORT: &str =
+    "feasible\nscore 2000000000000000000\ncost 1.000000000000 1.000000000000\nmean 2.000000000000 2.000000000000\nexcess 0.000000000000 0.000000000000\nrounded 0\n";
+
+const STEEP_REPORT: &str =
+    "feasible\nscore 3500000000000000000\ncost 1.750000000000 1.750000000000\nmean 2.000000000000 2.000000000000\nexcess 1.500000000000 1.500000000000\nrounded 0\n";
+
+const SURE_REPORT: &str =
+    "feasible\nscore 2000000000000000000\ncost 1.000000000000 1.000000000000\nmean 1.000000000000 1.000000000000\nexcess 0.000000000000 0.000000000000\nrounded 0\n";
+
+const NEGATIVE_REPORT: &str =
+    "feasible\nscore -1666666666666666667\ncost -1.666666666667 -1.666666666666\nmean -1.666666666667 -1.666666666666\nexcess 0.666666666666 0.666666666667\nrounded 0\n";
+
+const EMPTY_REPORT: &str =
+    "feasible\nscore 0\ncost 0.000000000000 0.000000000000\nmean 0.000000000000 0.000000000000\nexcess 0.000000000000 0.000000000000\nrounded 0\n";
+
+fn owned(alloc: Global, list: &[&str]) -> Result<Vec<String>, AllocError> {
+    let mut words = Vec::new(alloc);
+    for word in list {
+        words.push(String::from_str(alloc, word)?)?;
+    }
+    Ok(words)
+}
+
+// A desk with the files I and P.
+fn desk(alloc: Global, instance: &str, plan: &[u8]) -> Result<MemDesk, AllocError> {
+    let mut desk = MemDesk::make(alloc);
+    desk.put_file("I", instance.as_bytes())?;
+    desk.put_file("P", plan)?;
+    Ok(desk)
+}
+
+// The status of these words, and what was said.
+fn ran(alloc: Global, words: &[&str], desk: &mut MemDesk) -> Result<(u8, Vec<u8>), AllocError> {
+    let words = owned(alloc, words)?;
+    let status = run(alloc, &words, desk);
+    let said = desk.spoken().to_vec(alloc)?;
+    Ok((status, said))
+}
+
+#[test]
+fn plans_are_judged(rt: HostRuntime) -> Result<(), Fail> {
+    let alloc = rt.alloc();
+    for (instance, plan, status, report) in [
+        (PLAIN, BOTH, 0, PLAIN_REPORT),
+        (PLAIN, "I1   1  \n\nI2 2", 0, PLAIN_REPORT),
+        (STEEP, BOTH, 0, STEEP_REPORT),
+        (SURE, BOTH, 0, SURE_REPORT),
+        (NEGATIVE, "I1 1\n", 0, NEGATIVE_REPORT),
+        (EMPTY, "", 0, EMPTY_REPORT),
+        (SURE, "I1 1\n", 1, "infeasible\nS1 I2\nrounded 0\n"),
+        (PLAIN, "I2 3\nI1 1\n", 1, "infeasible\nS2 I2 3\nrounded 0\n"),
+        (LATE, "I1 2\nI2 1\n", 1, "infeasible\nS3 I1 2\nrounded 0\n"),
+        (LATE, "I1 1\n", 1, "infeasible\nS1 I2\nrounded 0\n"),
+    ] {
+        for most in [1usize, 7, 4096] {
+            let mut desk = desk(alloc, instance, plan.as_bytes())?;
+            desk.read_by(most);
+            let (answer, said) = ran(alloc, &["evaluate", "I", "P"], &mut desk)?;
+            assert_eq!(rt; answer, status, "{plan} by {most}");
+            assert_eq!(rt; said.as_slice(), report.as_bytes(), "{plan} by {most}");
+        }
+    }
+    Ok(())
+}
+
+#[test]
+fn words_are_refused(rt: HostRuntime) -> Result<(), Fail> {
+    let alloc = rt.alloc();
+    let lists: [&[&str]; 7] = [
+        &[],
+        &["--help"],
+        &["evaluate", "I"],
+        &["evaluate", "", "P"],
+        &["evaluate", "I", ""],
+        &["evaluate", "I", "P", "slack=0.001"],
+        &["judge", "I", "P"],
+    ];
+    for words in lists {
+        let mut desk = desk(alloc, PLAIN, BOTH.as_bytes())?;
+        let (status, said) = ran(alloc, words, &mut desk)?;
+        assert_eq!(rt; status, 2);
+        assert_eq!(rt; said.as_slice(), b"refused words\n".as_slice());
+    }
+    Ok(())
+}
+
+#[test]
+fn files_are_refused(rt: HostRuntime) -> Result<(), Fail> {
+    let alloc = rt.alloc();
+    for (instance, plan, words, status, line) in [
+        (PLAIN, BOTH, ["I0", "P"], 7, "refused read 2\n"),
+        (PLAIN, BOTH, ["I", "P0"], 7, "refused read 3\n"),
+        (BANDED, BOTH, ["I", "P"], 3, "refused instance not built\n"),
+        (BANDED, BOTH, ["I", "P0"], 3, "refused instance not built\n"),
+        ("", BOTH, ["I", "P"], 3, "refused instance not built\n"),
+        (
+            PLAIN,
+            "I1 1\nI1 2\n",
+            ["I", "P"],
+            4,
+            "refused plan twice 2\n",
+        ),
+        (
+            PLAIN,
+            "I3 1\n",
+            ["I", "P"],
+            4,
+            "refused plan unknown name 1\n",
+        ),
+        (
+            PLAIN,
+            "\nI1 one\n",
+            ["I", "P"],
+            4,
+            "refused plan bad line 2\n",
+        ),
+    ] {
+        let mut desk = desk(alloc, instance, plan.as_bytes())?;
+        let (answer, said) = ran(alloc, &["evaluate", words[0], words[1]], &mut desk)?;
+        assert_eq!(rt; answer, status, "{line}");
+        assert_eq!(rt; said.as_slice(), line.as_bytes());
+    }
+    Ok(())
+}
+
+#[test]
+fn long_plans_are_refused(rt: HostRuntime) -> Result<(), Fail> {
+    let alloc = rt.alloc();
+    let long = vec![in alloc; b' '; (1 << 24) + 1]?;
+    let mut desk = desk(alloc, EMPTY, &long)?;
+    let (status, said) = ran(alloc, &["evaluate", "I", "P"], &mut desk)?;
+    assert_eq!(rt; status, 4);
+    assert_eq!(rt; said.as_slice(), b"refused plan too long\n".as_slice());
+    Ok(())
+}
+
+#[test]
+fn failed_calls_are_told(rt: HostRuntime) -> Result<(), Fail> {
+    let alloc = rt.alloc();
+    for (call, nth, status, line) in [
+        (DeskCall::TakeIn, 1, 7, "refused read 2\n"),
+        (DeskCall::Read, 1, 7, "refused read 2\n"),
+        (DeskCall::Read, 2, 7, "refused read 2\n"),
+        (DeskCall::TakeIn, 2, 7, "refused read 3\n"),
+        (DeskCall::Read, 3, 7, "refused read 3\n"),
+        (DeskCall::Read, 4, 7, "refused read 3\n"),
+        (DeskCall::Say, 1, 8, ""),
+        (DeskCall::Read, 5, 0, PLAIN_REPORT),
+    ] {
+        let mut desk = desk(alloc, PLAIN, BOTH.as_bytes())?;
+        desk.fail_at(call, nth)?;
+        let (answer, said) = ran(alloc, &["evaluate", "I", "P"], &mut desk)?;
+        assert_eq!(rt; answer, status, "{call:?} {nth}");
+        assert_eq!(rt; said.as_slice(), line.as_bytes(), "{call:?} {nth}");
+    }
+    Ok(())
+}
+
+#[test]
+fn a_refusal_that_is_not_said_is_told(rt: HostRuntime) -> Result<(), Fail> {
+    let alloc = rt.alloc();
+    let lists: [&[&str]; 2] = [&["x"], &["evaluate", "none", "P"]];
+    for words in lists {
+        let mut desk = desk(alloc, PLAIN, BOTH.as_bytes())?;
+        desk.fail_at(DeskCall::Say, 1)?;
+        let (status, said) = ran(alloc, words, &mut desk)?;
+        assert_eq!(rt; status, 8);
+        assert_eq!(rt; said.as_slice(), b"".as_slice());
+    }
+    Ok(())
+}
+
+// Where an allocation fails, the run says that memory ran out, or the desk fails to take what is said.
+#[test]
+fn memory_may_run_out(rt: HostRuntime) -> Result<(), Fail> {
+    let alloc = rt.alloc();
+    let words = owned(alloc, &["evaluate", "I", "P"])?;
+    let mut desk = desk(alloc, PLAIN, BOTH.as_bytes())?;
+    let status = run(alloc, &words, &mut desk);
+    let told = match status {
+        0 => PLAIN_REPORT,
+        8 => "",
+        11 => "refused memory\n",
+        _ => "another answer",
+    };
+    assert_eq!(rt; desk.spoken(), told.as_bytes(), "{status}");
+    Ok(())
+}

@@ -1,0 +1,72 @@
+// A text that is made piece by piece.
+ghost use Rattle.std.specs.Prelude.{◌≡◌, [], ◌++◌, OnOk, decimal};
+ghost use Rattle.std.specs.Fmt.{signed_decimal};
+ghost use Rattle.fixed_num.specs.Texts.{fixed_text};
+
+use fixed_num::Line;
+use std::alloc::{AllocError, Global};
+use std::marker::Model;
+
+/// The bytes of a text, which grows at its end.
+#[derive(Drop)]
+pub struct Text {
+    bytes: Vec<u8>,
+}
+
+impl Model for Text {
+    ghost use Rattle.std.specs.Prelude.{List, ℕ};
+
+    ghost Value = { List ℕ };
+
+    ghost view = { λ t. t.bytes.items };
+}
+
+impl Text {
+    pub fn new(alloc: Global) -> Text
+        ensures { result ≡ [] }
+    {
+        Text {
+            bytes: Vec::new(alloc),
+        }
+    }
+
+    pub fn as_slice(&self) -> &[u8]
+        ensures { result.now ≡ self.now }
+    {
+        self.bytes.as_slice()
+    }
+
+    pub fn push(&mut self, piece: &str) -> Result<(), AllocError>
+        ensures { OnOk result (self.new ≡ self.old ++ piece.now) }
+    {
+        self.push_bytes(piece.as_bytes())
+    }
+
+    /// Adds a whole number in decimal digits.
+    pub fn push_number(&mut self, n: u64) -> Result<(), AllocError>
+        ensures { OnOk result (self.new ≡ self.old ++ decimal n) }
+    {
+        self.push_bytes(Line::of_int(n.into()).bytes())
+    }
+
+    /// Adds a whole number in decimal digits, with a minus before one below 0.
+    pub fn push_signed(&mut self, n: i128) -> Result<(), AllocError>
+        ensures { OnOk result (self.new ≡ self.old ++ signed_decimal n) }
+    {
+        self.push_bytes(Line::of_int(n).bytes())
+    }
+
+    /// Adds a count of 10^-12 with 12 decimals.
+    pub fn push_fixed(&mut self, n: i128) -> Result<(), AllocError>
+        ensures { OnOk result (self.new ≡ self.old ++ fixed_text n) }
+    {
+        self.push_bytes(Line::of_fixed(n).bytes())
+    }
+
+    fn push_bytes(&mut self, piece: &[u8]) -> Result<(), AllocError>
+        ensures { OnOk result (self.new ≡ self.old ++ piece.now) }
+    {
+        self.bytes.extend_from_slice(piece)?;
+        Ok(())
+    }
+}
