@@ -1,7 +1,8 @@
 -- Sums and quotients as the code has them, by their bits.
-use Rattle.std.proofs.Common.{◌≡◌, ℕ, ◌+◌, ◌<◌, ◌≤◌, ◌^◌, ◌∙◌, refl, arith, ℤ, pos, ◌+ℤ◌, ◌-ℤ◌, unsigned_abs, to_z}
+use Rattle.std.proofs.Common.{◌≡◌, ℕ, ◌+◌, ◌<◌, ◌≤◌, ◌^◌, ◌∙◌, refl, arith, ℤ, pos, negsuc, neg_ℤ, ◌+ℤ◌, ◌-ℤ◌, unsigned_abs, to_z}
 use Rattle.std.specs.Int.{w128, int_max}
 use Rattle.std.proofs.lemmas.Int.{to_z_pos}
+use Rattle.std.proofs.Math.Nat.{div-le_self}
 use Rattle.fixed_num.specs.Floors.{floor_of, ceil_of, floor_quotient, ceil_quotient}
 use Rattle.fixed_num.proofs.SignedLemmas.{back_from_abs, signed_arith}
 use Rattle.fixed_num.proofs.SumLemmas.{added, abs-sum}
@@ -21,8 +22,16 @@ sum_is s r h k = rw (back_from_abs s (omega (arith, h))) (added s r (10 ^ 37) (1
 pub sum_small : (s r : ℤ) → unsigned_abs s ≤ 10 ^ 37 → unsigned_abs r ≤ 10 ^ 33 → unsigned_abs (by_bits (by_bits s +ℤ by_bits r)) ≤ unsigned_abs s + 10 ^ 33
 sum_small s r h k = rw (sum_is s r h (omega (arith, k))) (omega (arith, abs-sum s r, k))
 
-pub no_larger_is : (q v : ℤ) → unsigned_abs v ≤ 10 ^ 37 → unsigned_abs q ≤ unsigned_abs (by_bits v) → unsigned_abs q ≤ unsigned_abs v
-no_larger_is q v h k = rw (back_from_abs v (omega (arith, h))) at k
+-- a quotient by a natural number above 0 is no larger in absolute value
+floor_size : (a : ℤ) (k : ℕ) → 1 ≤ k → unsigned_abs (floor_of a k) ≤ unsigned_abs a
+floor_size (pos a) k h = div-le_self a k
+floor_size (negsuc a) k h = omega (arith, div-le_self a k)
+
+pub floor_no_larger : (q a : ℤ) (k : ℕ) → 1 ≤ k → q ≡ floor_of a k → unsigned_abs q ≤ unsigned_abs a
+floor_no_larger q a k h e = rw e (floor_size a k h)
+
+pub ceil_no_larger : (q a : ℤ) (k : ℕ) → 1 ≤ k → q ≡ ceil_of a k → unsigned_abs q ≤ unsigned_abs a
+ceil_no_larger q a k h e = rw e (omega (arith, signed_arith, floor_size (neg_ℤ a) k h))
 
 -- a number less, and more, by a natural number
 pub difference_is : (q : ℤ) (m : ℕ) → unsigned_abs q ≤ 10 ^ 37 → m ≤ 10 ^ 16 → by_bits (by_bits q -ℤ to_z w128 m) ≡ q -ℤ pos m
@@ -45,20 +54,20 @@ pub raised_within : (z : ℤ) (m : ℕ) → unsigned_abs z ≤ 10 ^ 36 → m ≤
 raised_within z m h k = omega (arith, signed_arith, h, k)
 
 -- the quotient that the code takes of a number less, and more, by a margin
-pub share_low_is : (q z : ℤ) (m by : ℕ) → unsigned_abs z ≤ 10 ^ 36 → m ≤ 10 ^ 16 → by < 2 ^ 64 → q ≡ floor_quotient (by_bits (by_bits z -ℤ to_z w128 m)) (to_z w128 by) → unsigned_abs q ≤ unsigned_abs (by_bits (by_bits z -ℤ to_z w128 m)) → (by_bits q ≡ floor_of (z -ℤ pos m) by) × (unsigned_abs (by_bits q) ≤ 10 ^ 37)
-share_low_is q z m by h k few e n =
+pub share_low_is : (q z : ℤ) (m by : ℕ) → unsigned_abs z ≤ 10 ^ 36 → m ≤ 10 ^ 16 → by < 2 ^ 64 → 1 ≤ by → q ≡ floor_quotient (by_bits (by_bits z -ℤ to_z w128 m)) (to_z w128 by) → (by_bits q ≡ floor_of (z -ℤ pos m) by) × (unsigned_abs (by_bits q) ≤ 10 ^ 37)
+share_low_is q z m by h k few some e =
     let d = difference_is z m (omega (arith, h)) k in
     let w = lowered_within z m h k in
     let e' : q ≡ floor_of (z -ℤ pos m) by = rw (d, to_z_pos w128 by (omega (arith, few))) at e in
-    let n' : unsigned_abs q ≤ 10 ^ 37 = omega (arith, rw d at n, w) in
+    let n' : unsigned_abs q ≤ 10 ^ 37 = omega (arith, floor_no_larger q (z -ℤ pos m) by some e', w) in
     let b = back_from_abs q (omega (arith, n')) in
     (b ∙ e', rw b n')
 
-pub share_high_is : (q z : ℤ) (m by : ℕ) → unsigned_abs z ≤ 10 ^ 36 → m ≤ 10 ^ 16 → by < 2 ^ 64 → q ≡ ceil_quotient (by_bits (by_bits z +ℤ to_z w128 m)) (to_z w128 by) → unsigned_abs q ≤ unsigned_abs (by_bits (by_bits z +ℤ to_z w128 m)) → (by_bits q ≡ ceil_of (z +ℤ pos m) by) × (unsigned_abs (by_bits q) ≤ 10 ^ 37)
-share_high_is q z m by h k few e n =
+pub share_high_is : (q z : ℤ) (m by : ℕ) → unsigned_abs z ≤ 10 ^ 36 → m ≤ 10 ^ 16 → by < 2 ^ 64 → 1 ≤ by → q ≡ ceil_quotient (by_bits (by_bits z +ℤ to_z w128 m)) (to_z w128 by) → (by_bits q ≡ ceil_of (z +ℤ pos m) by) × (unsigned_abs (by_bits q) ≤ 10 ^ 37)
+share_high_is q z m by h k few some e =
     let d = raised_is z m (omega (arith, h)) k in
     let w = raised_within z m h k in
     let e' : q ≡ ceil_of (z +ℤ pos m) by = rw (d, to_z_pos w128 by (omega (arith, few))) at e in
-    let n' : unsigned_abs q ≤ 10 ^ 37 = omega (arith, rw d at n, w) in
+    let n' : unsigned_abs q ≤ 10 ^ 37 = omega (arith, ceil_no_larger q (z +ℤ pos m) by some e', w) in
     let b = back_from_abs q (omega (arith, n')) in
     (b ∙ e', rw b n')
