@@ -11,7 +11,7 @@ abbrev pub scan : ℕ → List Event → Option ℕ
 scan n [] = None
 scan n (begin at o ∷ es) = deeper n at (λ m. scan m es)
 scan n (finish at ∷ es) = scan (suc n) es
-scan n (key at x ∷ es) = scan n es
+scan n (key at end x ∷ es) = scan n es
 scan n (Event.null at ∷ es) = scan n es
 scan n (Event.boolean at b ∷ es) = scan n es
 scan n (Event.number at x ∷ es) = scan n es
@@ -45,7 +45,7 @@ mutual
 
   scan_members : (ms : Members) (n : ℕ) (fs : List Event) → scan n (members_events ms ++ fs) ≡ or_else (members_first_past n ms) (scan n fs)
   scan_members no_members n fs = refl
-  scan_members (and_member at k t ms) n fs = ap (scan n) (append_assoc (events_of t) (members_events ms) fs) ∙ (scan_tree t n (members_events ms ++ fs) ∙ ap (or_else (first_past n t)) (scan_members ms n fs) ∙ sym (or_else_assoc (first_past n t) (members_first_past n ms) (scan n fs)))
+  scan_members (and_member at end k t ms) n fs = ap (scan n) (append_assoc (events_of t) (members_events ms) fs) ∙ (scan_tree t n (members_events ms ++ fs) ∙ ap (or_else (first_past n t)) (scan_members ms n fs) ∙ sym (or_else_assoc (first_past n t) (members_first_past n ms) (scan n fs)))
 
 pub deep_is : (t : Tree) (n : ℕ) → first_past n t ≡ scan n (events_of t)
 deep_is t n = sym (or_else_none (first_past n t)) ∙ sym (scan_tree t n []) ∙ ap (scan n) (append-nil (events_of t))
@@ -54,7 +54,7 @@ deep_is t n = sym (or_else_none (first_past n t)) ∙ sym (scan_tree t n []) ∙
 abbrev IsScalar : Event → Type 0
 IsScalar (begin at o) = ⊥
 IsScalar (finish at) = ⊥
-IsScalar (key at x) = Unit {0}
+IsScalar (key at end x) = Unit {0}
 IsScalar (Event.null at) = Unit {0}
 IsScalar (Event.boolean at b) = Unit {0}
 IsScalar (Event.number at x) = Unit {0}
@@ -175,7 +175,7 @@ step_goes k levels (string i at text p) b r h e =
 scan_scalar : (e : Event) → IsScalar e → (n : ℕ) (fs : List Event) → scan n (e ∷ fs) ≡ scan n fs
 scan_scalar (begin at o) h n fs = absurd h
 scan_scalar (finish at) h n fs = absurd h
-scan_scalar (key at x) h n fs = refl
+scan_scalar (key at end x) h n fs = refl
 scan_scalar (Event.null at) h n fs = refl
 scan_scalar (Event.boolean at b) h n fs = refl
 scan_scalar (Event.number at x) h n fs = refl

@@ -1,6 +1,6 @@
 -- Values, and so whole texts, that the grammar allows are read.
 use Rattle.std.specs.Prelude.{◌==◌}
-use Rattle.std.proofs.Common.{◌≡◌, ◌≢◌, ℕ, ◌+◌, List, [], ◌∷◌, ◌++◌, length, Bool, true, false, refl, sym, ◌∙◌, ap, subst, append_assoc, append-nil, length-append, arith}
+use Rattle.std.proofs.Common.{suc, ◌≡◌, ◌≢◌, ℕ, ◌+◌, List, [], ◌∷◌, ◌++◌, length, Bool, true, false, refl, sym, ◌∙◌, ap, subst, append_assoc, append-nil, length-append, arith}
 use Rattle.std.proofs.lemmas.Bool.Decides.{nat_tests}
 use Rattle.decimal_json.specs.Tree.{Tree, Node, Trees, Members, Event, begin, finish, key, events_of, node_events, trees_events, members_events}
 use Rattle.decimal_json.specs.Grammar.{IsDigit, IsInt, HasParts, IsNumber, IsString, IsValue, value, IsNode, IsElement, element, IsMoreTrees, no_more, more, IsMember, member, IsMoreMembers, no_more_members, more_members}
@@ -82,6 +82,10 @@ key_opens k levels key_next = refl
 closed : (e : Event) (a b fs : List Event) (j i : ℕ) → j ≡ i → e ∷ (a ++ (b ++ finish j ∷ fs)) ≡ e ∷ (((a ++ b) ++ finish i ∷ []) ++ fs)
 closed e a b fs j i h = rw h (simp append_assoc)
 
+-- where a key ends
+key_end : (k : ℕ) (a bs : List ℕ) → suc (k + length a) + length (bs ++ 34 ∷ []) ≡ k + length a + length (34 ∷ (bs ++ 34 ∷ []))
+key_end k a bs = omega arith
+
 mutual
   unfolding step value_step after_step
 
@@ -102,8 +106,8 @@ mutual
       (then refl (element_reads value_first h (more_reads g (then refl (at_offset (simp length-append (omega arith)) r)))))
   node_reads {k} {w = w} {fs = fs} (IsNode.empty_object {ws} h) r =
       same {v = 123 ∷ (ws ++ 125 ∷ w)} refl (simp append_assoc) (ap (λ z. begin k true ∷ finish z ∷ fs) (simp length-append (omega arith))) (then refl (skip in_first_key h (then refl (at_offset (simp length-append (omega arith)) r))))
-  node_reads {k} {w = w} {fs = fs} (IsNode.object {at = at} {e} {m} {key = x} {t} {ms} h g) r =
-      same {v = 123 ∷ (e ++ (m ++ 125 ∷ w))} refl (simp append_assoc) (ap (λ es. begin k true ∷ es) (closed (key at x) (events_of t) (members_events ms) fs _ _ (simp length-append (omega arith))))
+  node_reads {k} {w = w} {fs = fs} (IsNode.object {at = at} {end} {e} {m} {key = x} {t} {ms} h g) r =
+      same {v = 123 ∷ (e ++ (m ++ 125 ∷ w))} refl (simp append_assoc) (ap (λ es. begin k true ∷ es) (closed (key at end x) (events_of t) (members_events ms) fs _ _ (simp length-append (omega arith))))
       (then refl (member_reads key_first h (more_members_reads g (then refl (at_offset (simp length-append (omega arith)) r)))))
 
   element_reads : {k : ℕ} {e : List ℕ} {t : Tree} {levels : List Bool} {m : Mode} {w : List ℕ} {fs : List Event} → StartsValue m → IsElement k e t → Reads (k + length e) (st levels after) w fs → Reads k (st levels m) (e ++ w) (events_of t ++ fs)
@@ -113,13 +117,13 @@ mutual
   more_reads no_more r = at_offset (omega arith) r
   more_reads {w = w} {fs = fs} (more {e} {m} {t} {ts} h g) r = same {v = 44 ∷ (e ++ (m ++ w))} {es = events_of t ++ (trees_events ts ++ fs)} refl (simp append_assoc) (simp append_assoc) (then refl (element_reads value_wanted h (more_reads g (at_offset (simp length-append (omega arith)) r))))
 
-  member_reads : {k at : ℕ} {e x : List ℕ} {t : Tree} {levels : List Bool} {m : Mode} {w : List ℕ} {fs : List Event} → StartsKey m → IsMember k e at x t → Reads (k + length e) (st levels after) w fs → Reads k (st levels m) (e ++ w) (key at x ∷ (events_of t ++ fs))
-  member_reads {k} {levels = levels} {w = w} s (member {before = a} {between = z} {e = e} h (IsString.quoted {bs} g) f j) r =
-      same {v = a ++ (34 ∷ (bs ++ 34 ∷ (z ++ 58 ∷ (e ++ w))))} refl (simp append_assoc) refl (skip (key_waits s) h (then (key_opens _ levels s) (same {v = (bs ++ 34 ∷ []) ++ (z ++ 58 ∷ (e ++ w))} refl (simp append_assoc) refl (string_reads (IsString.quoted g) (at_offset {j = k + length a + length (34 ∷ (bs ++ 34 ∷ []))} (omega arith) (skip in_colon f (then refl (element_reads value_wanted j (at_offset (simp length-append (omega arith)) r)))))))))
+  member_reads : {k at end : ℕ} {e x : List ℕ} {t : Tree} {levels : List Bool} {m : Mode} {w : List ℕ} {fs : List Event} → StartsKey m → IsMember k e at end x t → Reads (k + length e) (st levels after) w fs → Reads k (st levels m) (e ++ w) (key at end x ∷ (events_of t ++ fs))
+  member_reads {k} {levels = levels} {w = w} {fs = fs} s (member {before = a} {between = z} {e = e} {text = x} {t = t} h (IsString.quoted {bs} g) f j) r =
+      same {v = a ++ (34 ∷ (bs ++ 34 ∷ (z ++ 58 ∷ (e ++ w))))} refl (simp append_assoc) (ap (λ n. key (k + length a) n x ∷ (events_of t ++ fs)) (key_end k a bs)) (skip (key_waits s) h (then (key_opens _ levels s) (same {v = (bs ++ 34 ∷ []) ++ (z ++ 58 ∷ (e ++ w))} refl (simp append_assoc) refl (string_reads (IsString.quoted g) (at_offset {j = k + length a + length (34 ∷ (bs ++ 34 ∷ []))} (omega arith) (skip in_colon f (then refl (element_reads value_wanted j (at_offset (simp length-append (omega arith)) r)))))))))
 
   more_members_reads : {k : ℕ} {m : List ℕ} {ts : Members} {levels : List Bool} {w : List ℕ} {fs : List Event} → IsMoreMembers k m ts → Reads (k + length m) (st (true ∷ levels) after) w fs → Reads k (st (true ∷ levels) after) (m ++ w) (members_events ts ++ fs)
   more_members_reads no_more_members r = at_offset (omega arith) r
-  more_members_reads {w = w} {fs = fs} (more_members {at = at} {e} {m} {key = x} {t} {ms} h g) r = same {v = 44 ∷ (e ++ (m ++ w))} {es = key at x ∷ (events_of t ++ (members_events ms ++ fs))} refl (simp append_assoc) (simp append_assoc) (then refl (member_reads key_next h (more_members_reads g (at_offset (simp length-append (omega arith)) r))))
+  more_members_reads {w = w} {fs = fs} (more_members {at = at} {end} {e} {m} {key = x} {t} {ms} h g) r = same {v = 44 ∷ (e ++ (m ++ w))} {es = key at end x ∷ (events_of t ++ (members_events ms ++ fs))} refl (simp append_assoc) (simp append_assoc) (then refl (member_reads key_next h (more_members_reads g (at_offset (simp length-append (omega arith)) r))))
 
 -- a text is read whole, with the events of its tree
 pub text_reads : {bytes : List ℕ} {t : Tree} → IsElement 0 bytes t → Reads 0 (st [] want) bytes (events_of t)

@@ -12,7 +12,7 @@ use Rattle.decimal_json.specs.declared.builder.Builder.{Builder}
 abbrev pub HasRoom : Event → Type 0
 HasRoom (Begin at o) = Unit {0}
 HasRoom (Finish at) = at + 1 < 2 ^ 64
-HasRoom (Key at x) = Unit {0}
+HasRoom (Key at end x) = Unit {0}
 HasRoom (Null at) = at + 5 < 2 ^ 64
 HasRoom (Boolean at b) = at + 5 < 2 ^ 64
 HasRoom (Num at x) = at + length x.items < 2 ^ 64
@@ -21,7 +21,7 @@ HasRoom (Text at end x) = Unit {0}
 abbrev pub level_of : Level → Open
 level_of (Listed at ts) = open_list at (trees_view ts.items)
 level_of (Object at ms) = open_object at (members_view ms.items)
-level_of (Pair at ms key_at key) = open_member at (members_view ms.items) key_at key
+level_of (Pair at ms key_at key_end key) = open_member at (members_view ms.items) key_at key_end key
 
 abbrev pub levels_of : List Level → List Open
 levels_of xs = reverse (map level_of xs)

@@ -145,7 +145,7 @@ mutual
     empty_list : {k : ℕ} {ws : List ℕ} → AreBlanks ws → IsNode k (91 ∷ (ws ++ 93 ∷ [])) (Node.list no_trees)
     list : {k : ℕ} {e m : List ℕ} {t : Tree} {ts : Trees} → IsElement (suc k) e t → IsMoreTrees (suc k + length e) m ts → IsNode k (91 ∷ (e ++ (m ++ 93 ∷ []))) (Node.list (and_tree t ts))
     empty_object : {k : ℕ} {ws : List ℕ} → AreBlanks ws → IsNode k (123 ∷ (ws ++ 125 ∷ [])) (Node.object no_members)
-    object : {k at : ℕ} {e m key : List ℕ} {t : Tree} {ms : Members} → IsMember (suc k) e at key t → IsMoreMembers (suc k + length e) m ms → IsNode k (123 ∷ (e ++ (m ++ 125 ∷ []))) (Node.object (and_member at key t ms))
+    object : {k at end : ℕ} {e m key : List ℕ} {t : Tree} {ms : Members} → IsMember (suc k) e at end key t → IsMoreMembers (suc k + length e) m ms → IsNode k (123 ∷ (e ++ (m ++ 125 ∷ []))) (Node.object (and_member at end key t ms))
 
   -- a value with blanks round it
   pub data IsElement : ℕ → List ℕ → Tree → Type 0 where
@@ -156,14 +156,14 @@ mutual
     no_more : {k : ℕ} → IsMoreTrees k [] no_trees
     more : {k : ℕ} {e m : List ℕ} {t : Tree} {ts : Trees} → IsElement (suc k) e t → IsMoreTrees (suc k + length e) m ts → IsMoreTrees k (44 ∷ (e ++ m)) (and_tree t ts)
 
-  -- member: string name-separator value, with the offset of its opening quote
-  pub data IsMember : ℕ → List ℕ → ℕ → List ℕ → Tree → Type 0 where
-    member : {k : ℕ} {before s between e text : List ℕ} {t : Tree} → AreBlanks before → IsString s text → AreBlanks between → IsElement (suc (k + length before + length s + length between)) e t → IsMember k (before ++ (s ++ (between ++ 58 ∷ e))) (k + length before) text t
+  -- member: string name-separator value, with the offsets of its opening quote and after its closing one
+  pub data IsMember : ℕ → List ℕ → ℕ → ℕ → List ℕ → Tree → Type 0 where
+    member : {k : ℕ} {before s between e text : List ℕ} {t : Tree} → AreBlanks before → IsString s text → AreBlanks between → IsElement (suc (k + length before + length s + length between)) e t → IsMember k (before ++ (s ++ (between ++ 58 ∷ e))) (k + length before) (k + length before + length s) text t
 
   -- the members from the second on, each with its comma
   pub data IsMoreMembers : ℕ → List ℕ → Members → Type 0 where
     no_more_members : {k : ℕ} → IsMoreMembers k [] no_members
-    more_members : {k at : ℕ} {e m key : List ℕ} {t : Tree} {ms : Members} → IsMember (suc k) e at key t → IsMoreMembers (suc k + length e) m ms → IsMoreMembers k (44 ∷ (e ++ m)) (and_member at key t ms)
+    more_members : {k at end : ℕ} {e m key : List ℕ} {t : Tree} {ms : Members} → IsMember (suc k) e at end key t → IsMoreMembers (suc k + length e) m ms → IsMoreMembers k (44 ∷ (e ++ m)) (and_member at end key t ms)
 
 -- JSON-text = ws value ws
 abbrev pub IsText : List ℕ → Tree → Type 0

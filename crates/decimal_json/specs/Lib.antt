@@ -6,6 +6,7 @@ pub mod Decimal
 pub mod Token
 pub mod Exact
 pub mod Trees
+pub mod Events
 pub mod Scaling
 pub mod Split
 pub mod Tallies

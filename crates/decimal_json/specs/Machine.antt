@@ -188,7 +188,7 @@ after_string true = colon
 after_string false = after
 
 abbrev pub string_event : Bool → ℕ → ℕ → List ℕ → Event
-string_event true at end text = key at text
+string_event true at end text = key at end text
 string_event false at end text = Event.text at end text
 
 abbrev pub inside_move : List Bool → Bool → ℕ → List ℕ → Inside → Move

@@ -47,7 +47,7 @@ state_of m = st (levels_of m.levels.items) (mode_of m.mode m.at m.token.items)
 abbrev pub event_of : Event → tree.Event
 event_of (Begin at o) = tree.begin at o
 event_of (Finish at) = tree.finish at
-event_of (Key at x) = tree.key at x.items
+event_of (Key at end x) = tree.key at end x.items
 event_of (Null at) = tree.Event.null at
 event_of (Boolean at b) = tree.Event.boolean at b
 event_of (Num at x) = tree.Event.number at x.items
@@ -101,7 +101,7 @@ IsSound k m = ModeHolds m.mode × HasEmptyToken m.mode m.token.items × IsNear k
 abbrev pub EventNear : ℕ → Event → Type 0
 EventNear k (Begin at o) = at ≤ k
 EventNear k (Finish at) = at ≤ k
-EventNear k (Key at x) = at ≤ k
+EventNear k (Key at end x) = at ≤ k
 EventNear k (Null at) = at ≤ k
 EventNear k (Boolean at b) = at ≤ k
 EventNear k (Num at x) = at + length x.items ≤ k

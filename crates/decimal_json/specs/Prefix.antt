@@ -50,7 +50,7 @@ abbrev mutual
 
   pub members_first_past : ℕ → Members → Option ℕ
   members_first_past n no_members = None
-  members_first_past n (and_member at key t ms) = or_else (first_past n t) (members_first_past n ms)
+  members_first_past n (and_member at end key t ms) = or_else (first_past n t) (members_first_past n ms)
 
 -- at that offset stands the first bracket or brace that opens a 17th level, in each text that begins with the bytes up to it
 pub record IsDepthFault (bytes : List ℕ) (at : ℕ) : Type 0 where

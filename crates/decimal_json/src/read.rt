@@ -196,8 +196,13 @@ mod tests {
             panic!(rt; "no object")
         };
         assert_eq!(rt; members.len(), 1);
-        for Member { at, key, value } in members {
-            assert_eq!(rt; (at, value.at, value.end), (3, 11, 22));
+        for Member {
+            at,
+            end,
+            key,
+            value,
+        } in members {
+            assert_eq!(rt; (at, end, value.at, value.end), (3, 8, 11, 22));
             let key = Text::of_string(key.into_string());
             assert_eq!(rt; key.as_str(), "k\n");
         }

@@ -198,7 +198,7 @@ list_numbers limits (tree at end _) h = omega arith
 entry_weights : (limits : Limits) (s : Spot) (w : Tree → ℕ) (ms : Members) → ((key : List ℕ) (t : Tree) → values_faults limits (placed (under s key) t) ≡ [] → w t ≤ risk_numbers (under s key) t)
     → values_faults limits (placed_members s ms) ≡ [] → weights w (entry_list ms) ≤ length (numbers_at is_risk (placed_members s ms))
 entry_weights limits s w no_members f h = omega arith
-entry_weights limits s w (and_member at k t ms) f h =
+entry_weights limits s w (and_member at end k t ms) f h =
     let all = sym (values_faults-append limits (placed (under s k) t) (placed_members s ms)) ∙ h in
     omega (
       arith,
@@ -220,7 +220,7 @@ object_weights limits s w (tree at end _) f h = omega arith
 -- a value under a key has no more numbers than the object
 key_numbers : (s : Spot) (key : List ℕ) (ms : Members) (v : Tree) → first_value (bytes_eq key) (entry_list ms) ≡ Some v → risk_numbers (under s key) v ≤ length (numbers_at is_risk (placed_members s ms))
 key_numbers s key no_members v e = cc
-key_numbers s key (and_member at k t ms) v e =
+key_numbers s key (and_member at end k t ms) v e =
     let split = numbers_sum is_risk (placed (under s k) t) (placed_members s ms) in
     by (bytes_eq key k) refl e (key_numbers s key ms v) split
   where

@@ -139,7 +139,7 @@ numbers_end limits s ks ms h a last =
 -- a skipped object has no key with a fault
 skipped_keys : (limits : Limits) (e : List Key) (ms : Members) → keys_faults limits spot.Skipped e ms ≡ []
 skipped_keys limits e no_members = refl
-skipped_keys limits e (and_member at key t ms) = skipped_keys limits (e ++ []) ms
+skipped_keys limits e (and_member at end key t ms) = skipped_keys limits (e ++ []) ms
 
 -- an object is no whole number
 no_whole : (ms : Members) → is_some (whole (Node.object ms)) ≡ true → ⊥

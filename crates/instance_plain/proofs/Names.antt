@@ -52,7 +52,7 @@ all_other e j names a = λ i d h q.
 
 good_names : (limits : Limits) (e : List Key) (ms : Members) → length e ≤ limits.interventions → keys_faults limits spot.Interventions e ms ≡ [] → AreGood limits.interventions e (map (λ n. n.key) (entry_list ms))
 good_names limits e no_members l h = record { few = omega arith; new = λ i d k. absurd (omega arith); shaped = λ i d k. absurd (omega arith); apart = λ i j d k m. absurd (omega arith) }
-good_names limits e (and_member at k t ms) l h =
+good_names limits e (and_member at end k t ms) l h =
     let g : IsGoodKey limits.interventions e k = good_key limits e k at (clear_left (key_faults limits spot.Interventions e at k) _ h) in
     let size : length (e ++ by_text k ∷ []) ≡ length e + 1 = length-append e (by_text k ∷ []) in
     let r : AreGood limits.interventions (e ++ by_text k ∷ []) (map (λ n. n.key) (entry_list ms)) =

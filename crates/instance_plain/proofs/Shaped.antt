@@ -56,7 +56,7 @@ shaped_is limits root h =
 first_clear : (limits : Limits) (s : Spot) (key : List ℕ) (ms : Members) (v : Tree) → values_faults limits (placed_members s ms) ≡ [] → first_value (bytes_eq key) (entry_list ms) ≡ Some v
     → values_faults limits (placed (under s key) v) ≡ []
 first_clear limits s key no_members v h e = cc
-first_clear limits s key (and_member at k t ms) v h e =
+first_clear limits s key (and_member at end k t ms) v h e =
     let all : values_faults limits (placed (under s k) t) ++ values_faults limits (placed_members s ms) ≡ [] = sym (values_faults-append limits (placed (under s k) t) (placed_members s ms)) ∙ h in
     by (bytes_eq key k) refl e (clear_left (values_faults limits (placed (under s k) t)) _ all) (first_clear limits s key ms v (clear_right (values_faults limits (placed (under s k) t)) _ all))
   where
@@ -105,9 +105,9 @@ pub record AreGood (limit : ℕ) (e : List Key) (names : List (List ℕ)) : Type
 
 names_list : Members → List (List ℕ)
 names_list no_members = []
-names_list (and_member at k t ms) = k ∷ names_list ms
+names_list (and_member at end k t ms) = k ∷ names_list ms
 
 names_list-entries : (ms : Members) → map (λ e. e.key) (entry_list ms) ≡ names_list ms
 unfolding names_list
 names_list-entries no_members = refl
-names_list-entries (and_member at k t ms) = ap (λ r. k ∷ r) (names_list-entries ms)
+names_list-entries (and_member at end k t ms) = ap (λ r. k ∷ r) (names_list-entries ms)

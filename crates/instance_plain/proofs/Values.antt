@@ -46,7 +46,7 @@ value_step false t o q h r = r h
 
 some_value : (key : List ℕ) (ms : Members) → has_key (keys_of kind.Record ms) (by_text key) ≡ true → (x : Tree) × (first_value (bytes_eq key) (entry_list ms) ≡ Some x)
 some_value key no_members h = cc
-some_value key (and_member at k t ms) h = value_step (bytes_eq key k) t (first_value (bytes_eq key) (entry_list ms)) (has_key (keys_of kind.Record ms) (by_text key)) h (λ q. some_value key ms q)
+some_value key (and_member at end k t ms) h = value_step (bytes_eq key k) t (first_value (bytes_eq key) (entry_list ms)) (has_key (keys_of kind.Record ms) (by_text key)) h (λ q. some_value key ms q)
 
 has_value : (at end : ℕ) (key : List ℕ) (ms : Members) → has_key (keys_of kind.Record ms) (by_text key) ≡ true → HasValue key (tree at end (Node.object ms))
 has_value at end key ms h = let r = some_value key ms h in record { value = r.0; found = r.1 }

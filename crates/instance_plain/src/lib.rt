@@ -1,3 +1,4 @@
+//! Reading an instance of the reduced form by a plain, slow program over the tree of its text.
 #![tactic(auto)]
 
 mod error;

@@ -24,7 +24,7 @@ pub record Entry : Type 0 where
 -- the entries of an object, in the order of the text
 abbrev pub entry_list : Members → List Entry
 entry_list no_members = []
-entry_list (and_member at key t ms) = record { key = key; value = t } ∷ entry_list ms
+entry_list (and_member at end key t ms) = record { key = key; value = t } ∷ entry_list ms
 
 -- the entries of a value, if it is an object, in file order
 abbrev pub entries : Tree → List Entry

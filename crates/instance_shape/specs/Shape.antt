@@ -146,4 +146,4 @@ abbrev mutual
 
   pub placed_members : Spot → Members → List Placed
   placed_members s no_members = []
-  placed_members s (and_member at key t ms) = placed (under s key) t ++ placed_members s ms
+  placed_members s (and_member at end key t ms) = placed (under s key) t ++ placed_members s ms

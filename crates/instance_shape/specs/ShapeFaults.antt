@@ -56,13 +56,13 @@ key_faults limits s earlier at key =
 -- the faults of the keys of an object, behind earlier ones
 abbrev pub keys_faults : Limits → Spot → List Key → Members → List Fault
 keys_faults limits s earlier no_members = []
-keys_faults limits s earlier (and_member at key t ms) =
+keys_faults limits s earlier (and_member at end key t ms) =
     key_faults limits s earlier at key ++ keys_faults limits s (earlier ++ key_of (kind_of s) key) ms
 
 -- the keys of an object
 abbrev pub keys_of : Kind → Members → List Key
 keys_of kd no_members = []
-keys_of kd (and_member at key t ms) = key_of kd key ++ keys_of kd ms
+keys_of kd (and_member at end key t ms) = key_of kd key ++ keys_of kd ms
 
 -- the first required key that an object lacks
 abbrev pub first_missing : List (Known × Spot) → List Key → Option Known
