@@ -1,5 +1,6 @@
 pub mod CrossFaults
 pub mod Defined
+pub mod FileFaults
 pub mod FileTables
 pub mod Keys
 pub mod LookUp

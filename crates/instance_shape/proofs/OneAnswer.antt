@@ -1,0 +1,142 @@
+-- Bytes have one answer: an instance, or a fault.
+use Rattle.std.proofs.Common.{◌≡◌, ℕ, ℤ, suc, ◌+◌, ◌<◌, ◌≤◌, ◌⊎◌, inl, inr, List, [], ◌++◌, length, take, drop, Option, Some, None, refl, sym, ◌∙◌, ap, subst, arith, append_assoc, take-append-drop, take-take, Bool, true, false, nat_lt}
+use Rattle.std.proofs.lemmas.Bool.Decides.{nat_tests}
+use Rattle.decimal_json.specs.Tree.{Tree}
+use Rattle.decimal_json.specs.Grammar.{IsElement}
+use Rattle.decimal_json.specs.Prefix.{IsPrefix, IsSyntaxFault, IsDepthFault, IsShallow, first_past}
+use Rattle.decimal_json.proofs.Laws.{one_tree}
+use Rattle.decimal_json.proofs.Loop.{no_syntax_fault, no_depth_fault}
+use Rattle.instance_model.specs.Tables.{Tables}
+use Rattle.instance_model.specs.declared.limits.Limits.{Limits}
+use Rattle.instance_shape.specs.declared.fault.Fault.{Fault}
+use Rattle.instance_shape.specs.ShapeFaults.{shape_faults, row_of, IsBefore, Among, IsLeast}
+use Rattle.instance_shape.specs.CrossFaults.{CrossFault, cross_fault}
+use Rattle.instance_shape.specs.FileTables.{tables}
+use Rattle.instance_shape.specs.Defined.{IsTreeOf, Defines, HasShapeFault, HasCrossFault}
+use Rattle.instance_shape.specs.FileFaults.{FileFault, syntax, too_deep, shape, across, HasFileFault, HaveOneAnswer}
+
+-- of two numbers one is less, or it is not
+order : (a b : ℕ) → (a < b) ⊎ (b ≤ a)
+order a b = by (nat_lt a b) refl
+  where
+    by : (t : Bool) → nat_lt a b ≡ t → (a < b) ⊎ (b ≤ a)
+    by true e = inl (grind (arith, nat_tests))
+    by false e = inr (grind (arith, nat_tests))
+
+-- ---- the text
+
+-- what begins with more bytes begins with fewer
+begins : (bytes rest : List ℕ) (n m : ℕ) → n ≤ m → take m bytes ++ rest ≡ take n bytes ++ (drop n (take m bytes) ++ rest)
+begins bytes rest n m h =
+    ap (λ z. z ++ rest) (sym (take-append-drop n (take m bytes)))
+    ∙ append_assoc (take n (take m bytes)) (drop n (take m bytes)) rest
+    ∙ ap (λ z. z ++ (drop n (take m bytes) ++ rest)) (take-take n m bytes h)
+
+front : (bytes : List ℕ) (n m : ℕ) → n ≤ m → IsPrefix (take m bytes) → IsPrefix (take n bytes)
+front bytes n m h p = record {
+  rest = drop n (take m bytes) ++ p.rest;
+  tree = p.tree;
+  text = subst (λ z. IsElement 0 z p.tree) (begins bytes p.rest n m h) p.text;
+}
+
+-- a place at which bytes stop to begin a text lies behind each beginning
+not_before : (bytes : List ℕ) (a b : ℕ) → IsSyntaxFault bytes a → a < b → b ≤ length bytes → IsPrefix (take b bytes) → ⊥
+not_before bytes a b f l w p = f.stuck (omega arith) (front bytes (suc a) b (omega arith) p)
+
+one_syntax : (bytes : List ℕ) (a b : ℕ) → IsSyntaxFault bytes a → IsSyntaxFault bytes b → a ≡ b
+one_syntax bytes a b f g =
+    elim (order a b) [ inl l ↦ absurd (not_before bytes a b f l g.within g.sound) | inr m ↦
+    elim (order b a) [ inl l ↦ absurd (not_before bytes b a g l f.within f.sound) | inr n ↦ omega arith ] ]
+
+-- in a text that begins so, the first level too deep stands there
+depth_in : (bytes rest : List ℕ) (t : Tree) (d n : ℕ) → IsDepthFault bytes d → suc d ≤ n → IsElement 0 (take n bytes ++ rest) t → first_past 16 t ≡ Some d
+depth_in bytes rest t d n f h e = f.opens (drop (suc d) (take n bytes) ++ rest) t (subst (λ z. IsElement 0 z t) (begins bytes rest (suc d) n h) e)
+
+one_depth_ordered : (bytes : List ℕ) (a b : ℕ) → IsDepthFault bytes a → IsDepthFault bytes b → a ≤ b → a ≡ b
+one_depth_ordered bytes a b f g l =
+    let p = g.sound in
+    let x = depth_in bytes p.rest p.tree a (suc b) f (omega arith) p.text in
+    let y = depth_in bytes p.rest p.tree b (suc b) g (omega arith) p.text in
+    cc
+
+one_depth : (bytes : List ℕ) (a b : ℕ) → IsDepthFault bytes a → IsDepthFault bytes b → a ≡ b
+one_depth bytes a b f g =
+    elim (order a b) [ inl l ↦ one_depth_ordered bytes a b f g (omega arith) | inr m ↦ sym (one_depth_ordered bytes b a g f m) ]
+
+syntax_or_depth : (bytes : List ℕ) (a d : ℕ) → IsSyntaxFault bytes a → IsShallow bytes a → IsDepthFault bytes d → ⊥
+syntax_or_depth bytes a d f s g =
+    elim (order d a) [ inl l ↦ later l | inr m ↦ not_before bytes a (suc d) f (omega arith) (omega (arith, g.within)) g.sound ]
+  where
+    later : d < a → ⊥
+    later l =
+        let p = f.sound in
+        let x = s p.rest p.tree p.text d (depth_in bytes p.rest p.tree d a g (omega arith) p.text) in
+        omega arith
+
+-- ---- the shape
+
+one_least : (fs : List Fault) (f g : Fault) → IsLeast fs f → IsLeast fs g → f ≡ g
+one_least fs f g a b = by (a.least g b.among) (b.least f a.among)
+  where
+    by : (g ≡ f) ⊎ IsBefore f g → (f ≡ g) ⊎ IsBefore g f → f ≡ g
+    by (inl e) y = sym e
+    by (inr x) (inl e) = e
+    by (inr x) (inr y) = absurd (both x y)
+      where
+        both : IsBefore f g → IsBefore g f → ⊥
+        both (inl l) (inl m) = omega arith
+        both (inl l) (inr m) = omega (arith, m.0)
+        both (inr l) (inl m) = omega (arith, l.0)
+        both (inr l) (inr m) = omega (arith, l.1, m.1)
+
+-- ---- one tree
+
+same_root : (bytes : List ℕ) (r q : Tree) → IsTreeOf bytes r → IsTreeOf bytes q → r ≡ q
+same_root bytes r q a b = one_tree bytes r q a.text b.text
+
+one_instance : (limits : Limits) (slack : ℤ) (bytes : List ℕ) (a b : Tables) → Defines limits slack bytes a → Defines limits slack bytes b → a ≡ b
+one_instance limits slack bytes a b x y = x.tables ∙ ap (tables slack) (same_root bytes x.root y.root x.text y.text) ∙ sym y.tables
+
+no_shape : (limits : Limits) (bytes : List ℕ) (root : Tree) (f : Fault) → IsTreeOf bytes root → shape_faults limits root ≡ [] → HasShapeFault limits bytes f → ⊥
+no_shape limits bytes root f t e h =
+    subst (λ xs. Among xs f) (ap (shape_faults limits) (same_root bytes h.root root h.text t) ∙ e) h.least.among
+
+no_across : (limits : Limits) (bytes : List ℕ) (root : Tree) (f : CrossFault) → IsTreeOf bytes root → cross_fault root ≡ None → HasCrossFault limits bytes f → ⊥
+no_across limits bytes root f t e h =
+    let x : cross_fault root ≡ Some f = ap cross_fault (same_root bytes root h.root t h.text) ∙ h.first in
+    cc
+
+apart : (limits : Limits) (slack : ℤ) (bytes : List ℕ) (a : Tables) (f : FileFault) → Defines limits slack bytes a → HasFileFault limits bytes f → ⊥
+apart limits slack bytes a (syntax at) d h = no_syntax_fault bytes at d.root d.text.text h.0
+apart limits slack bytes a (too_deep at) d h = no_depth_fault bytes at d.root d.text.text d.text.shallow h
+apart limits slack bytes a (shape f) d h = no_shape limits bytes d.root f d.text d.shaped h
+apart limits slack bytes a (across f) d h = no_across limits bytes d.root f d.text d.fitting h
+
+one_fault : (limits : Limits) (bytes : List ℕ) (f g : FileFault) → HasFileFault limits bytes f → HasFileFault limits bytes g → f ≡ g
+one_fault limits bytes (syntax a) (syntax b) h i = ap syntax (one_syntax bytes a b h.0 i.0)
+one_fault limits bytes (syntax a) (too_deep b) h i = absurd (syntax_or_depth bytes a b h.0 h.1 i)
+one_fault limits bytes (syntax a) (shape g) h i = absurd (no_syntax_fault bytes a i.root i.text.text h.0)
+one_fault limits bytes (syntax a) (across g) h i = absurd (no_syntax_fault bytes a i.root i.text.text h.0)
+one_fault limits bytes (too_deep a) (syntax b) h i = absurd (syntax_or_depth bytes b a i.0 i.1 h)
+one_fault limits bytes (too_deep a) (too_deep b) h i = ap too_deep (one_depth bytes a b h i)
+one_fault limits bytes (too_deep a) (shape g) h i = absurd (no_depth_fault bytes a i.root i.text.text i.text.shallow h)
+one_fault limits bytes (too_deep a) (across g) h i = absurd (no_depth_fault bytes a i.root i.text.text i.text.shallow h)
+one_fault limits bytes (shape f) (syntax b) h i = absurd (no_syntax_fault bytes b h.root h.text.text i.0)
+one_fault limits bytes (shape f) (too_deep b) h i = absurd (no_depth_fault bytes b h.root h.text.text h.text.shallow i)
+one_fault limits bytes (shape f) (shape g) h i =
+    ap shape (one_least (shape_faults limits h.root) f g h.least (subst (λ r. IsLeast (shape_faults limits r) g) (same_root bytes i.root h.root i.text h.text) i.least))
+one_fault limits bytes (shape f) (across g) h i = absurd (no_shape limits bytes i.root f i.text i.shaped h)
+one_fault limits bytes (across f) (syntax b) h i = absurd (no_syntax_fault bytes b h.root h.text.text i.0)
+one_fault limits bytes (across f) (too_deep b) h i = absurd (no_depth_fault bytes b h.root h.text.text h.text.shallow i)
+one_fault limits bytes (across f) (shape g) h i = absurd (no_shape limits bytes h.root g h.text h.shaped i)
+one_fault limits bytes (across f) (across g) h i =
+    let x : Some f ≡ Some g = sym h.first ∙ ap cross_fault (same_root bytes h.root i.root h.text i.text) ∙ i.first in
+    let e : f ≡ g = cc in
+    ap across e
+
+pub one_answer : (limits : Limits) (slack : ℤ) (bytes : List ℕ) → HaveOneAnswer limits slack bytes
+one_answer limits slack bytes = record {
+  instance = one_instance limits slack bytes;
+  fault = one_fault limits bytes;
+  apart = apart limits slack bytes;
+}
