@@ -40,7 +40,7 @@ mutual
   trees_room s n grammar.no_more = omega arith
   trees_room s n (grammar.more {k = k} {e = e} {m = m} {t = t} {ts = ts} a b) = omega (arith, element_room (element s n) a, trees_room s (n + 1) b, length-append (placed (element s n) t) (placed_elements s (n + 1) ts), length-append e m)
 
-  member_room : (s : Spot) {k at : ℕ} {v key : List ℕ} {t : Tree} → IsMember k v at key t → length (placed s t) ≤ length v
+  member_room : (s : Spot) {k at end : ℕ} {v key : List ℕ} {t : Tree} → IsMember k v at end key t → length (placed s t) ≤ length v
   member_room s (grammar.member {before = before} {s = x} {between = between} {e = e} b c d a) = omega (arith, element_room s a, length-append before (x ++ (between ++ 58 ∷ e)), length-append x (between ++ 58 ∷ e), length-append between (58 ∷ e))
 
   members_room : (s : Spot) {k : ℕ} {m : List ℕ} {ms : Members} → IsMoreMembers k m ms → length (placed_members s ms) ≤ length m
