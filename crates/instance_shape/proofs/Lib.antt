@@ -1,3 +1,7 @@
+pub mod Bounds
+pub mod Clear
+pub mod ClearParts
 mod Examples
 pub mod OneAnswer
+pub mod RootNumbers
 mod SeenLemmas
