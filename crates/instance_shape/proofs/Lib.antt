@@ -1,9 +1,12 @@
 pub mod Bounds
 pub mod Clear
 pub mod ClearParts
+pub mod CountSums
 mod Examples
 pub mod OneAnswer
+pub mod ListsBelow
 pub mod NamesFit
 pub mod NoCrossFault
 pub mod RootNumbers
+pub mod RunLengths
 mod SeenLemmas
