@@ -25,7 +25,7 @@ unfolding count_sum
 count_sum-ones zero = refl
 count_sum-ones (suc n) = omega (arith, count_sum-ones n)
 
-count_sum-plus : (n : ℕ) (f g : ℕ → ℕ) → count_sum n (λ k. f k + g k) ≡ count_sum n f + count_sum n g
+pub count_sum-plus : (n : ℕ) (f g : ℕ → ℕ) → count_sum n (λ k. f k + g k) ≡ count_sum n f + count_sum n g
 unfolding count_sum
 count_sum-plus zero f g = omega arith
 count_sum-plus (suc n) f g = omega (arith, count_sum-plus n f g)

@@ -4,9 +4,11 @@ pub mod ClearParts
 pub mod CountSums
 mod Examples
 pub mod OneAnswer
+pub mod FewEntries
 pub mod ListsBelow
 pub mod NamesFit
 pub mod NoCrossFault
 pub mod RootNumbers
 pub mod RunLengths
 mod SeenLemmas
+pub mod Weights
