@@ -6,6 +6,7 @@ mod Examples
 pub mod OneAnswer
 pub mod FewEntries
 pub mod ListsBelow
+pub mod LoadCells
 pub mod NamesFit
 pub mod NoCrossFault
 pub mod RootNumbers
