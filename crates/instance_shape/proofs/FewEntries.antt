@@ -1,8 +1,7 @@
 -- The tables of a text without a fault of shape have no more risks and load cells than the text has numbers under risk and
 -- under workload: each of them is looked up under keys of its own.
-use Rattle.std.proofs.Common.{◌≡◌, ◌≢◌, ℕ, ◌+◌, ◌-◌, ◌<◌, ◌≤◌, Bool, true, false, cond, List, [], ◌∷◌, ◌++◌, map, length, Option, Some, None, refl, ◌∙◌, ap, arith, unwrap_or, option_map}
+use Rattle.std.proofs.Common.{◌≡◌, ◌≢◌, ℕ, ◌+◌, ◌-◌, ◌≤◌, Bool, true, false, cond, List, [], map, length, Option, Some, None, refl, ◌∙◌, ap, arith, unwrap_or, option_map}
 use Rattle.std.specs.Prelude.{AllPairs, slice_index, slice_index_or}
-use Rattle.std.specs.List.{sum_by}
 use Rattle.std.proofs.lemmas.List.{length-map}
 use Rattle.std.proofs.lemmas.List.Sums.{sum_by-le-sum_by}
 use Rattle.decimal_json.specs.Tree.{Tree, tree, Node}

@@ -1,14 +1,16 @@
+pub mod Bands
 pub mod Bounds
 pub mod Clear
 pub mod ClearParts
 pub mod CountSums
 mod Examples
-pub mod OneAnswer
 pub mod FewEntries
+pub mod Fits
 pub mod ListsBelow
 pub mod LoadCells
 pub mod NamesFit
 pub mod NoCrossFault
+pub mod OneAnswer
 pub mod RootNumbers
 pub mod RunLengths
 mod SeenLemmas

@@ -1,5 +1,5 @@
 -- The load cells of an intervention: in strict order, at allowed starts, in periods of their runs, and of the file's resources.
-use Rattle.std.proofs.Common.{◌≡◌, ℕ, ◌+◌, ◌-◌, ◌<◌, ◌≤◌, ◌^◌, ◌&&◌, Bool, true, List, [], ◌∷◌, map, length, Option, Some, None, refl, sym, ◌∙◌, ap, subst, arith, inl, inr, ℤ, IsTrue}
+use Rattle.std.proofs.Common.{◌≡◌, ℕ, ◌+◌, ◌-◌, ◌<◌, ◌^◌, true, List, [], map, length, Option, Some, None, refl, sym, ◌∙◌, ap, subst, arith, inl, inr, ℤ, IsTrue}
 use Rattle.std.specs.Prelude.{All, AllPairs, slice_index, slice_index_or, nat_le, nat_lt, unsigned_abs}
 use Rattle.std.proofs.lemmas.Bool.{and_from, le-leb, lt-ltb}
 use Rattle.std.proofs.lemmas.List.{get_or-map, length-map}

@@ -1,5 +1,5 @@
 -- The keys of an object of names without a fault of shape are names, no two the same, and no more than the limit.
-use Rattle.std.proofs.Common.{◌≡◌, ◌≢◌, ℕ, ◌+◌, ◌<◌, ◌≤◌, ◌&&◌, Bool, true, false, not, List, [], ◌∷◌, ◌++◌, map, length, Option, Some, refl, sym, ◌∙◌, ap, subst, arith, bytes_eq, length-append, pred}
+use Rattle.std.proofs.Common.{◌≡◌, ◌≢◌, ℕ, ◌+◌, ◌<◌, ◌≤◌, ◌&&◌, Bool, true, false, not, List, [], ◌∷◌, ◌++◌, map, length, Option, Some, refl, sym, ◌∙◌, ap, subst, arith, bytes_eq, length-append}
 use Rattle.std.specs.Prelude.{All, AllPairs, nat_le, ◌==◌, ◌||◌, slice_index_or}
 use Rattle.std.proofs.lemmas.Bool.{or_parts, not-false, both_ways, and_parts, leb-true}
 use Rattle.std.proofs.lemmas.Bool.Decides.{nat_tests}

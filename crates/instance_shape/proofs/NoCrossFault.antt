@@ -1,13 +1,13 @@
 -- What the absence of a fault across a file says of its scenario list, resources, interventions and exclusions.
-use Rattle.std.proofs.Common.{◌≡◌, ℕ, ◌+◌, ◌-◌, ◌<◌, ◌≤◌, ◌&&◌, Bool, true, false, cond, List, [], ◌∷◌, map, length, take, Option, Some, None, refl, sym, ◌∙◌, ap, subst, arith, bytes_eq, unwrap_or, position, is_some}
-use Rattle.std.specs.Prelude.{All, slice_index, slice_index_or, nat_le, nat_lt, ◌==◌}
+use Rattle.std.proofs.Common.{◌≡◌, ℕ, ◌+◌, ◌-◌, ◌<◌, ◌≤◌, Bool, true, false, cond, List, [], ◌∷◌, map, length, Option, Some, None, refl, arith, bytes_eq, unwrap_or, position, is_some}
+use Rattle.std.specs.Prelude.{All, slice_index, nat_le, ◌==◌}
 use Rattle.std.proofs.lemmas.Bool.{and_parts, leb-true, eqb-true}
 use Rattle.std.proofs.lemmas.List.{length-map, length-take-le}
 use Rattle.std.proofs.lemmas.List.Elements.{All-nil, All-cons, All-weaker, All-map}
 use Rattle.std.proofs.lemmas.List.Quantifiers.{position-Some}
-use Rattle.decimal_json.specs.Tree.{Tree, tree, Node}
+use Rattle.decimal_json.specs.Tree.{Tree}
 use Rattle.instance_model.specs.declared.parts.Exclusion.{Exclusion}
-use Rattle.instance_model.specs.Rules.{first_of, or_else}
+use Rattle.instance_model.specs.Rules.{or_else}
 use Rattle.instance_model.specs.Tables.{allowed_of}
 use Rattle.instance_model.proofs.FirstLemmas.{or_else-none, first_of_none}
 use Rattle.instance_shape.specs.declared.fault.Known.TheVariants as is

@@ -1,5 +1,5 @@
 -- The tables of risks and soft flags are as long as the interventions, their allowed starts and the periods of their runs want.
-use Rattle.std.proofs.Common.{◌≡◌, ℕ, ◌+◌, ◌-◌, ◌<◌, ◌≤◌, Bool, true, false, cond, List, [], ◌∷◌, map, length, None, refl, sym, ◌∙◌, ap, arith, unwrap_or, ℤ}
+use Rattle.std.proofs.Common.{◌≡◌, ℕ, ◌+◌, ◌-◌, ◌<◌, Bool, true, false, cond, List, [], map, length, None, refl, sym, ◌∙◌, ap, arith, unwrap_or, ℤ}
 use Rattle.std.specs.Prelude.{All, slice_index, slice_index_or, if◌then◌else◌}
 use Rattle.std.specs.List.{sum_by}
 use Rattle.std.proofs.lemmas.List.{length-map}

@@ -1,10 +1,24 @@
 //! Laws of the definitions. The functions do nothing: the contract is the law.
 
 ghost use Rattle.std.specs.Prelude.{ℕ, ℤ, List};
+ghost use Rattle.instance_model.specs.Fitting.{IsFitting};
+ghost use Rattle.instance_model.specs.Tables.{Tables};
 ghost use Rattle.instance_model.specs.declared.limits.Limits.{Limits};
+ghost use Rattle.instance_shape.specs.Defined.{Defines};
 ghost use Rattle.instance_shape.specs.FileFaults.{HaveOneAnswer};
+ghost use Rattle.instance_shape.specs.Ranges.{AreStandard, IsSlack};
 
 /// The bytes of a file stand for at most one instance, and have at most one fault that counts, and not both.
 pub fn files_have_one_answer()
     ensures { (limits : Limits) (slack : ℤ) (bytes : List ℕ) → HaveOneAnswer limits slack bytes }
+{}
+
+/// The tables that a file defines are those of an instance, for limits of which none is above the standard one and a
+/// slack from 0 to 10^-3.
+pub fn defined_tables_fit()
+    ensures { (limits : Limits) (slack : ℤ) (bytes : List ℕ) (inst : Tables)
+        → AreStandard limits
+        → IsSlack slack
+        → Defines limits slack bytes inst
+        → IsFitting inst }
 {}
