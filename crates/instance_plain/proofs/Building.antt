@@ -1,20 +1,19 @@
 -- The tables that are built are those of the text.
-use Rattle.std.proofs.Common.{◌≡◌, ℕ, Bool, true, List, [], ◌∷◌, map, length, refl, sym, ◌∙◌, ap, arith}
-use Rattle.std.specs.Prelude.{ℤ, ◌==◌, replicate}
+use Rattle.std.proofs.Common.{◌≡◌, ℕ, zero, suc, ◌+◌, Bool, true, false, cond, List, [], ◌∷◌, ◌++◌, map, length, refl, sym, ◌∙◌, ap, subst, arith}
+use Rattle.std.specs.Prelude.{ℤ, ◌==◌, replicate, slice_index, slice_index_or}
 use Rattle.std.proofs.lemmas.Bool.Decides.{nat_tests}
 use Rattle.decimal_json.specs.Tree.{Tree}
 use Rattle.instance_model.specs.declared.parts.LoadCell.{LoadCell}
 use Rattle.instance_model.specs.declared.parts.Exclusion.{Exclusion}
-use Rattle.instance_model.specs.Tables.{Tables}
+use Rattle.instance_model.specs.Tables.{Tables, allowed_of}
 use Rattle.instance_shape.specs.declared.fault.Known.TheVariants as is
-use Rattle.instance_shape.specs.LookUp.{Entry, entries, known, periods, scenarios, interventions}
+use Rattle.instance_shape.specs.LookUp.{Entry, entries, known, periods, scenarios, interventions, durations, workload}
 use Rattle.instance_shape.specs.CrossFaults.{cross_fault}
-use Rattle.instance_shape.specs.FileTables.{all_below, each_run, cells_at}
+use Rattle.instance_shape.specs.FileTables.{lists_below, all_below, each_run, cells_at, cell_of}
 use Rattle.instance_plain.specs.Interventions.{are_sound}
 use Rattle.instance_plain.specs.Reduced.{IsReduced}
 use Rattle.instance_plain.specs.Told.{TellsNone}
 use Rattle.instance_plain.proofs.CrossLemmas.{cross_told}
-use Rattle.instance_plain.proofs.Fitting.{no_loads}
 
 -- tables with the same fields are the same
 pub same_tables : (a b : Tables) → a.periods ≡ b.periods → a.alpha ≡ b.alpha → a.quantile ≡ b.quantile → a.scenarios ≡ b.scenarios → a.resource_names ≡ b.resource_names → a.upper ≡ b.upper → a.lower ≡ b.lower → a.season_names ≡ b.season_names → a.in_season ≡ b.in_season → a.names ≡ b.names → a.delta ≡ b.delta → a.exclusion_names ≡ b.exclusion_names → a.excluded ≡ b.excluded → a.loads ≡ b.loads → a.risks ≡ b.risks → a.soft ≡ b.soft → a.rounded ≡ b.rounded → a ≡ b
@@ -52,6 +51,22 @@ none_below f es h = sym (ap (λ q. all_below q f) h)
 
 pub none_mapped : {A : Type 0} (f : Entry → A) (es : List Entry) → es ≡ [] → [] ≡ map f es
 none_mapped f es h = sym (ap (map f) h)
+
+-- ---- no loads
+
+lists_none : {A : Type 0} (n : ℕ) (f : ℕ → List A) → ((k : ℕ) → f k ≡ []) → lists_below n f ≡ []
+lists_none zero f h = refl
+lists_none (suc n) f h = ap (λ q. lists_below n f ++ q) (h n) ∙ ap (λ q. q ++ []) (lists_none n f h)
+
+cond_none : {A : Type 0} (b : Bool) (xs : List A) → xs ≡ [] → cond b xs [] ≡ []
+cond_none true xs h = h
+cond_none false xs h = refl
+
+no_loads : (root v : Tree) → entries (known is.Resources root) ≡ [] → each_run root (cells_at root) v ≡ []
+no_loads root v h = lists_none (length (durations v)) _ (λ k. cond_none (allowed_of (periods root) (durations v) (k + 1)) _ (lists_none (slice_index (durations v) k) _ (λ j. no_cells (k + 1) (k + 1 + j))))
+  where
+    no_cells : (s t : ℕ) → cells_at root v s t ≡ []
+    no_cells s t = subst (λ (es : List Entry). lists_below (length (map (λ e. e.key) es)) (λ c. cell_of s t c (workload v (slice_index_or (map (λ e. e.key) es) c []) t s)) ≡ []) (sym h) refl
 
 pub empty_loads : (root : Tree) (es : List Entry) → entries (known is.Resources root) ≡ [] → replicate (length es) [] ≡ map (λ i. each_run root (cells_at root) i.value) es
 empty_loads root [] h = refl

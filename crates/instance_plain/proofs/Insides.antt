@@ -16,11 +16,12 @@ use Rattle.instance_shape.specs.declared.spot.Kind.{Kind}
 use Rattle.instance_shape.specs.declared.spot.Kind.TheVariants as kind
 use Rattle.instance_shape.specs.Shape.{Placed, placed, placed_node, placed_elements, placed_members, kind_of}
 use Rattle.instance_shape.specs.ShapeFaults.{inside_faults, values_faults, too_few, count_trees}
+use Rattle.instance_shape.proofs.Clear.{clear_left, clear_right}
 use Rattle.instance_plain.specs.declared.survey.Survey.{Survey}
 use Rattle.instance_plain.specs.Own.{falls_short}
 use Rattle.instance_plain.specs.Surveys.{TellsClear, Counts, IsSurvey, Surveys, IsInside, InsideSurveys, object_faults}
 use Rattle.instance_plain.proofs.Opened.{list_opened, object_opened, tree_opened}
-use Rattle.instance_plain.proofs.SurveyLemmas.{where_told, clear_left, clear_right, told_true, told_false, HasRoom, counts_room}
+use Rattle.instance_plain.proofs.SurveyLemmas.{where_told, told_true, told_false, HasRoom, counts_room}
 
 few_told : (kd : Kind) (n at : ℕ) → TellsClear (too_few kd n at) (not (falls_short kd n))
 few_told kind.Triple n at = where_told (falls_short kind.Triple n) at flaw.Shape

@@ -18,9 +18,10 @@ use Rattle.instance_shape.specs.Keys.{Key, by_text, key_of, has_key, is_name, is
 use Rattle.instance_shape.specs.Seen.{texts_of}
 use Rattle.instance_shape.specs.Shape.{kind_of, has_shape, required}
 use Rattle.instance_shape.specs.ShapeFaults.{where_so, key_faults, keys_faults, keys_of, takes_names, takes_numbers, first_past, key_limit, first_missing, missing_at}
+use Rattle.instance_shape.proofs.Clear.{clear_left, clear_right, clear_both}
 use Rattle.instance_plain.specs.Surveys.{TellsClear, object_faults}
 use Rattle.instance_plain.specs.Own.{counts_by_text, is_full, may_be_text}
-use Rattle.instance_plain.proofs.SurveyLemmas.{where_told, both_told, clear_left, clear_right, clear_both}
+use Rattle.instance_plain.proofs.SurveyLemmas.{where_told, both_told}
 use Rattle.instance_plain.proofs.Opened.{key_opened}
 use Rattle.instance_plain.proofs.Splits.{parted, taken_more}
 

@@ -1,31 +1,22 @@
 -- Surveys of values one after another, and of a value with what is in it.
-use Rattle.std.proofs.Common.{◌≡◌, ℕ, ◌+◌, ◌<◌, ◌^◌, ◌≤◌, ◌&&◌, Bool, true, false, cond, not, List, [], ◌∷◌, ◌++◌, length, refl, sym, ◌∙◌, ap, subst, arith, append_assoc, length-append}
+use Rattle.std.proofs.Common.{◌≡◌, ℕ, ◌+◌, ◌<◌, ◌^◌, ◌≤◌, ◌&&◌, Bool, true, false, cond, not, List, [], ◌∷◌, ◌++◌, length, refl, sym, ◌∙◌, subst, arith, length-append}
 use Rattle.decimal_json.specs.Tree.{Tree, tree, Node}
 use Rattle.decimal_json.specs.declared.tree.Tree as rust_tree
 use Rattle.decimal_json.specs.Trees.{tree_view, node_view}
 use Rattle.instance_model.specs.declared.limits.Limits.{Limits}
 use Rattle.instance_shape.specs.declared.fault.Fault.{Fault}
 use Rattle.instance_shape.specs.declared.fault.Flaw.{Flaw}
+use Rattle.instance_shape.specs.declared.fault.Flaw.TheVariants as flaw
 use Rattle.instance_shape.specs.declared.spot.Spot.{Spot}
 use Rattle.instance_shape.specs.Shape.{Placed, placed, placed_node, kind_of, has_shape}
 use Rattle.instance_shape.specs.ShapeFaults.{where_so, own_faults, inside_faults, value_faults, values_faults, value_rows, numbers_at, is_risk, is_workload, place_of_number}
 use Rattle.instance_shape.specs.FileTables.{rounded, is_count}
 use Rattle.instance_shape.specs.LookUp.{differs_at}
+use Rattle.instance_shape.proofs.Clear.{clear_left, clear_right, clear_both, values_faults-append, is_so}
+use Rattle.instance_shape.proofs.Weights.{numbers_sum}
 use Rattle.instance_plain.specs.declared.survey.Survey.{Survey}
 use Rattle.instance_plain.specs.Surveys.{TellsClear, Counts, IsSurvey, IsOwn, IsInside, value_at}
 use Rattle.instance_plain.proofs.Opened.{tree_opened}
-
-pub clear_left : (xs ys : List Fault) → xs ++ ys ≡ [] → xs ≡ []
-clear_left [] ys h = refl
-clear_left (x ∷ xs) ys h = cc
-
-pub clear_right : (xs ys : List Fault) → xs ++ ys ≡ [] → ys ≡ []
-clear_right [] ys h = h
-clear_right (x ∷ xs) ys h = cc
-
-pub clear_both : (xs ys : List Fault) → xs ≡ [] → ys ≡ [] → xs ++ ys ≡ []
-clear_both [] ys h k = k
-clear_both (x ∷ xs) ys h k = cc
 
 -- a fault, unless the test holds
 pub where_told : (b : Bool) (at : ℕ) (f : Flaw) → TellsClear (where_so b at f) (not b)
@@ -42,20 +33,9 @@ both_told xs ys false b h k = λ e. h (clear_left xs ys e)
 abbrev pub both : Survey → Survey → Survey
 both a b = record { risks = a.risks + b.risks; workloads = a.workloads + b.workloads; rounded = a.rounded + b.rounded }
 
-pub values_faults-append : (limits : Limits) (xs ys : List Placed) → values_faults limits (xs ++ ys) ≡ values_faults limits xs ++ values_faults limits ys
-values_faults-append limits [] ys = refl
-values_faults-append limits (x ∷ xs) ys = ap (λ r. value_faults limits x ++ r) (values_faults-append limits xs ys) ∙ sym (append_assoc (value_faults limits x) (values_faults limits xs) (values_faults limits ys))
-
-pub numbers_at-append : (p : Spot → Bool) (xs ys : List Placed) → numbers_at p (xs ++ ys) ≡ numbers_at p xs ++ numbers_at p ys
-numbers_at-append p [] ys = refl
-numbers_at-append p (x ∷ xs) ys = ap (λ r. cond (p x.spot) (place_of_number x.tree) [] ++ r) (numbers_at-append p xs ys) ∙ sym (append_assoc (cond (p x.spot) (place_of_number x.tree) []) (numbers_at p xs) (numbers_at p ys))
-
 pub rounded-append : (xs ys : List Placed) → rounded (xs ++ ys) ≡ rounded xs + rounded ys
 rounded-append [] ys = omega arith
 rounded-append (x ∷ xs) ys = omega (arith, rounded-append xs ys)
-
-numbers_sum : (p : Spot → Bool) (xs ys : List Placed) → length (numbers_at p (xs ++ ys)) ≡ length (numbers_at p xs) + length (numbers_at p ys)
-numbers_sum p xs ys = ap length (numbers_at-append p xs ys) ∙ length-append (numbers_at p xs) (numbers_at p ys)
 
 pub counts_append : (xs ys : List Placed) (a b : Survey) → Counts xs a → Counts ys b → Counts (xs ++ ys) (both a b)
 counts_append xs ys a b h k = record {
@@ -111,12 +91,8 @@ counts_room vs s h = record {
 
 -- a value with what is in it
 
-shape_told : (b : Bool) (at : ℕ) (f : Flaw) (ys : List Fault) → where_so (not b) at f ++ ys ≡ [] → b ≡ true
-shape_told true at f ys h = refl
-shape_told false at f ys h = cc
-
 pub own_shape : (limits : Limits) (s : Spot) (n : Node) (own : Survey) → IsOwn limits s n own → has_shape (kind_of s) n ≡ true
-own_shape limits s n own h = shape_told (has_shape (kind_of s) n) 0 _ (value_rows limits s (kind_of s) 0 n) (h.clear 0)
+own_shape limits s n own h = is_so (has_shape (kind_of s) n) 0 flaw.Shape (clear_left (where_so (not (has_shape (kind_of s) n)) 0 flaw.Shape) (value_rows limits s (kind_of s) 0 n) (h.clear 0))
 
 pub room_inside : (s : Spot) (t : rust_tree.Tree) → length (placed s (tree_view t)) < 2 ^ 63 → length (placed_node s (node_view t.node)) < 2 ^ 63
 room_inside s t h = let k : length (placed s (tree t.at t.end (node_view t.node))) < 2 ^ 63 = subst (λ (v : Tree). length (placed s v) < 2 ^ 63) (tree_opened t) h in omega (arith, k)

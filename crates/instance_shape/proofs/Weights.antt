@@ -77,11 +77,11 @@ pairs_in w m n o = omega (arith, count_sum_below m (λ t. count_sum n (λ s. wei
 
 -- ---- the numbers in a value
 
-pub numbers_at-append : (p : Spot → Bool) (xs ys : List Placed) → numbers_at p (xs ++ ys) ≡ numbers_at p xs ++ numbers_at p ys
+numbers_at-append : (p : Spot → Bool) (xs ys : List Placed) → numbers_at p (xs ++ ys) ≡ numbers_at p xs ++ numbers_at p ys
 numbers_at-append p [] ys = refl
 numbers_at-append p (x ∷ xs) ys = ap (λ r. cond (p x.spot) (place_of_number x.tree) [] ++ r) (numbers_at-append p xs ys) ∙ sym (append_assoc (cond (p x.spot) (place_of_number x.tree) []) (numbers_at p xs) (numbers_at p ys))
 
-numbers_sum : (p : Spot → Bool) (xs ys : List Placed) → length (numbers_at p (xs ++ ys)) ≡ length (numbers_at p xs) + length (numbers_at p ys)
+pub numbers_sum : (p : Spot → Bool) (xs ys : List Placed) → length (numbers_at p (xs ++ ys)) ≡ length (numbers_at p xs) + length (numbers_at p ys)
 numbers_sum p xs ys = ap length (numbers_at-append p xs ys) ∙ length-append (numbers_at p xs) (numbers_at p ys)
 
 -- how many numbers at some spots a value at a spot has in it

@@ -1,4 +1,4 @@
-use Rattle.std.proofs.Common.{◌≡◌, ◌≤◌, List, [], map, length, Option, sym, ◌∙◌, ap, subst, arith, is_some, IfSome}
+use Rattle.std.proofs.Common.{◌≡◌, ◌≤◌, List, [], map, length, Option, refl, sym, ◌∙◌, ap, subst, arith, is_some, IfSome}
 use Rattle.std.specs.Prelude.{AllPairs, ◌≢◌, pos, ◌+ℤ◌, ◌-ℤ◌, string_bytes, replicate}
 use Rattle.std.proofs.lemmas.List.{length-map}
 use Rattle.decimal_json.specs.Trees.{tree_view, member_view}
@@ -9,15 +9,15 @@ use Rattle.instance_shape.specs.declared.spot.Spot.TheVariants as spot
 use Rattle.instance_shape.specs.LookUp.{Entry, entries, elements, keys, known, whole_at, durations, periods, interventions, count_at}
 use Rattle.instance_shape.specs.CrossFaults.{cross_fault}
 use Rattle.instance_shape.specs.FileTables.{all_below, lists_below, in_season, exclusion, risks_at, soft_at}
+use Rattle.instance_shape.specs.declared.fault.Which.TheVariants as which
+use Rattle.instance_shape.proofs.NamesFit.{names_fit}
+use Rattle.instance_shape.proofs.RootNumbers.{periods_range}
 use Rattle.instance_plain.specs.declared.interventions.Interventions.{Interventions}
 use Rattle.instance_plain.specs.Interventions.{AreTablesOf}
 use Rattle.instance_plain.specs.Rows.{runs_rows}
 use Rattle.instance_plain.specs.Told.{TellsNone}
 use Rattle.instance_plain.specs.Views.{entries_view, entry_of}
 use Rattle.instance_plain.proofs.Building.{same_tables, read_told, none_below, none_mapped, empty_loads}
-use Rattle.instance_plain.proofs.Fitting.{no_names}
-use Rattle.instance_plain.proofs.Names.{names_fit}
-use Rattle.instance_plain.proofs.Values.{periods_range, known_clear}
 use Rattle.instance_plain.proofs.read.build.Goals as goal
 
 pub read_interventions-requires-clause-few : goal.read_interventions-requires-clause-few
@@ -30,7 +30,7 @@ pub read_interventions-requires-clause-apart : goal.read_interventions-requires-
 read_interventions-requires-clause-apart c =
     let root = tree_view c.args.root.now in
     let fit : AreNames standard_limits.interventions (keys (known is.Interventions root)) =
-    known_clear standard_limits spot.Root is.Interventions root (λ v. AreNames standard_limits.interventions (keys v)) c.requires.shaped.values (no_names standard_limits.interventions) (λ v h. names_fit standard_limits v h) in
+    names_fit standard_limits spot.Root is.Interventions standard_limits.interventions standard_limits.interventions root (record { names = refl; which = which.Interventions; limited = refl }) (omega arith) c.requires.shaped.values in
     subst (λ (es : List Entry). AllPairs (λ a b. a ≢ b) (map (λ e. e.key) es)) (sym c.entries_at-members.ensures) fit.apart
 
 pub returns-in_default-clause-sound : goal.returns-in_default-clause-sound

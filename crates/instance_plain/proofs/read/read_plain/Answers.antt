@@ -10,10 +10,10 @@ use Rattle.instance_shape.specs.declared.spot.Spot.TheVariants as spot
 use Rattle.instance_shape.specs.CrossFaults.{cross_fault}
 use Rattle.instance_shape.specs.FileTables.{tables, rounded}
 use Rattle.instance_shape.specs.Shape.{placed}
+use Rattle.instance_shape.proofs.Fits.{fits, standard_is, no_slack}
 use Rattle.instance_plain.specs.declared.survey.Survey.{Survey}
 use Rattle.instance_plain.specs.Reduced.{IsReduced}
 use Rattle.instance_plain.specs.Told.{IsShaped, TellsNone}
-use Rattle.instance_plain.proofs.Fitting.{fits}
 use Rattle.instance_plain.proofs.Room.{text_room}
 use Rattle.instance_plain.proofs.Shaped.{shaped_so}
 use Rattle.instance_plain.proofs.read.read_plain.Goals as goal
@@ -30,7 +30,7 @@ from_parts-requires c =
     subst (λ (o : Option Survey). IfSome o (λ s. (IsShaped standard_limits root) × (IsReduced root) × (s.rounded ≡ rounded (placed spot.Root root)))) c.in-Some.is c.in_ok-survey.ensures.some in
     let none : cross_fault root ≡ None = subst (λ (o : Option Parts). TellsNone (cross_fault root) (is_some o)) c.in-Some-2.is c.in_ok-parts.ensures.sound in
     let same : tables_of c.in-Some-2.parts ≡ tables (pos 0) root = subst (λ (o : Option Parts). IfSome o (λ p. tables_of p ≡ tables (pos 0) root)) c.in-Some-2.is c.in_ok-parts.ensures.tables in
-    subst (λ (t : Tables). IsFitting t) (sym same) (fits root known.0 none known.1)
+    subst (λ (t : Tables). IsFitting t) (sym same) (fits standard_limits (pos 0) root standard_is no_slack (shaped_so standard_limits root known.0) none)
 
 pub returns-clause-built : goal.returns-clause-built
 returns-clause-built c =
@@ -42,7 +42,7 @@ returns-clause-built c =
     record {
       root = root;
       text = record { text = c.in-Ok.ensures.tree; shallow = c.in-Ok.ensures.shallow };
-      shaped = shaped_so standard_limits root known.0.values known.0.risks known.0.workloads;
+      shaped = shaped_so standard_limits root known.0;
       fitting = none;
       tables = c.in_ok-from_parts.ensures ∙ same;
     }
@@ -56,7 +56,7 @@ returns-clause-reduced c =
       root,
       record {
         text = record { text = c.in-Ok.ensures.tree; shallow = c.in-Ok.ensures.shallow };
-        shaped = shaped_so standard_limits root known.0.values known.0.risks known.0.workloads;
+        shaped = shaped_so standard_limits root known.0;
         fitting = none;
         reduced = known.1;
       },
