@@ -29,27 +29,29 @@ alone s t c (Some x) = λ i j d k l. absurd (omega arith)
 by_resource : (s t a b : ℕ) (x y : LoadCell) → a < b → HasKey s t a x → HasKey s t b y → CellBefore x y
 by_resource s t a b x y l h k = inr (h.start ∙ sym k.start, inr (h.period ∙ sym k.period, omega (arith, h.resource, k.resource)))
 
+-- the workload of resource c in period t at start s, where the file has an entry
+abbrev load_at : Tree → Tree → ℕ → ℕ → ℕ → Option Tree
+load_at root v s t c = workload v (slice_index_or (keys (known is.Resources root)) c []) t s
+
 -- cells of a start and a period
-IsAt : ℕ → ℕ → LoadCell → Type 0
+abbrev IsAt : ℕ → ℕ → LoadCell → Type 0
 IsAt s t cell = (cell.start ≡ s) × (cell.period ≡ t)
 
 period_cells : (root v : Tree) (s t : ℕ) → All (IsAt s t) (cells_at root v s t)
-unfolding IsAt
 period_cells root v s t =
-    all_lists (IsAt s t) (length (keys (known is.Resources root))) (λ c. cell_of s t c (workload v (slice_index_or (keys (known is.Resources root)) c []) t s))
-    (λ c l. All-weaker (HasKey s t c) (IsAt s t) (λ x h. (h.start, h.period)) (cell_of s t c (workload v (slice_index_or (keys (known is.Resources root)) c []) t s)) (keyed s t c (workload v (slice_index_or (keys (known is.Resources root)) c []) t s)))
+    all_lists (IsAt s t) (length (keys (known is.Resources root))) (λ c. cell_of s t c (load_at root v s t c))
+    (λ c l. All-weaker (HasKey s t c) (IsAt s t) (λ x h. (h.start, h.period)) (cell_of s t c (load_at root v s t c)) (keyed s t c (load_at root v s t c)))
 
+-- the cells of one start and period are in order by their resources, those of one start by their periods, and all by their starts
 period_order : (root v : Tree) (s t : ℕ) → AllPairs CellBefore (cells_at root v s t)
 period_order root v s t =
-    pairs_lists CellBefore (HasKey s t) (length (keys (known is.Resources root))) (λ c. cell_of s t c (workload v (slice_index_or (keys (known is.Resources root)) c []) t s)) (by_resource s t)
-    (λ c. keyed s t c (workload v (slice_index_or (keys (known is.Resources root)) c []) t s)) (λ c. alone s t c (workload v (slice_index_or (keys (known is.Resources root)) c []) t s))
+    pairs_lists CellBefore (HasKey s t) (length (keys (known is.Resources root))) (λ c. cell_of s t c (load_at root v s t c)) (by_resource s t)
+    (λ c. keyed s t c (load_at root v s t c)) (λ c. alone s t c (load_at root v s t c))
 
 by_period : (s a b : ℕ) (x y : LoadCell) → a < b → IsAt s (s + a) x → IsAt s (s + b) y → CellBefore x y
-unfolding IsAt
 by_period s a b x y l h k = inr (h.0 ∙ sym k.0, inl (omega (arith, h.1, k.1)))
 
 start_cells : (root v : Tree) (s d : ℕ) → All (λ cell. cell.start ≡ s) (lists_below d (λ j. cells_at root v s (s + j)))
-unfolding IsAt
 start_cells root v s d = all_lists (λ cell. cell.start ≡ s) d (λ j. cells_at root v s (s + j)) (λ j l. All-weaker (IsAt s (s + j)) (λ cell. cell.start ≡ s) (λ x h. h.0) (cells_at root v s (s + j)) (period_cells root v s (s + j)))
 
 start_order : (root v : Tree) (s d : ℕ) → AllPairs CellBefore (lists_below d (λ j. cells_at root v s (s + j)))
@@ -58,8 +60,8 @@ start_order root v s d = pairs_lists CellBefore (λ j. IsAt s (s + j)) d (λ j. 
 by_start : (a b : ℕ) (x y : LoadCell) → a < b → x.start ≡ a + 1 → y.start ≡ b + 1 → CellBefore x y
 by_start a b x y l h k = inl (omega (arith, h, k))
 
-in_order : (root v : Tree) → AllPairs CellBefore (each_run root (cells_at root) v)
-in_order root v =
+pub cells_in_order : (root v : Tree) → AllPairs CellBefore (each_run root (cells_at root) v)
+cells_in_order root v =
     pairs_lists CellBefore (λ k cell. cell.start ≡ k + 1) (length (durations v)) _ by_start
     (λ k. all_cond (λ cell. cell.start ≡ k + 1) (allowed_of (periods root) (durations v) (k + 1)) _ (λ a. start_cells root v (k + 1) (slice_index (durations v) k)))
     (λ k. pairs_cond CellBefore (allowed_of (periods root) (durations v) (k + 1)) _ (start_order root v (k + 1) (slice_index (durations v) k)))
@@ -71,17 +73,17 @@ at_most_one_cell Q s t c None f = All-nil Q
 at_most_one_cell Q s t c (Some x) f = All-cons Q (record { start = s; period = t; resource = c; load = count_at x }) [] (f x) (All-nil Q)
 
 -- what holds of the cells at allowed starts, in periods of their runs and of the resources holds of each cell
-each_cell : (root v : Tree) (Q : LoadCell → Type 0)
+pub each_cell : (root v : Tree) (Q : LoadCell → Type 0)
     → ((k j c : ℕ) (x : Tree) → allowed_of (periods root) (durations v) (k + 1) ≡ true → j < slice_index (durations v) k → c < length (keys (known is.Resources root)) → Q (record { start = k + 1; period = k + 1 + j; resource = c; load = count_at x }))
     → All Q (each_run root (cells_at root) v)
 each_cell root v Q f =
-    let names = keys (known is.Resources root) in
     all_lists Q (length (durations v)) _ (λ k l. all_cond Q (allowed_of (periods root) (durations v) (k + 1)) _ (λ a.
     all_lists Q (slice_index (durations v) k) (λ j. cells_at root v (k + 1) (k + 1 + j)) (λ j m.
-    all_lists Q (length names) (λ c. cell_of (k + 1) (k + 1 + j) c (workload v (slice_index_or names c []) (k + 1 + j) (k + 1))) (λ c n.
-    at_most_one_cell Q (k + 1) (k + 1 + j) c (workload v (slice_index_or names c []) (k + 1 + j) (k + 1)) (λ x. f k j c x a m n)))))
+    all_lists Q (length (keys (known is.Resources root))) (λ c. cell_of (k + 1) (k + 1 + j) c (load_at root v (k + 1) (k + 1 + j) c)) (λ c n.
+    at_most_one_cell Q (k + 1) (k + 1 + j) c (load_at root v (k + 1) (k + 1 + j) c) (λ x. f k j c x a m n)))))
 
--- the tables have the durations of an intervention
+-- ---- all of them
+
 runs_in : (inst : Tables) (i : ℕ) (ds : List ℕ) (k j : ℕ) → model.durations inst i ≡ ds → j < slice_index ds k → in_run inst i (k + 1) (k + 1 + j) ≡ true
 unfolding in_run
 runs_in inst i ds k j h l =
@@ -91,19 +93,18 @@ runs_in inst i ds k j h l =
 
 are_cells : (inst : Tables) (i : ℕ) (root v : Tree) → inst.periods ≡ periods root → inst.resource_names ≡ keys (known is.Resources root) → model.durations inst i ≡ durations v → AreCells inst i (each_run root (cells_at root) v)
 are_cells inst i root v p r h = record {
-  ordered = in_order root v;
+  ordered = cells_in_order root v;
   allowed = each_cell root v (λ cell. IsTrue (is_allowed inst i cell.start)) (λ k j c x a m n. is_allowed_is inst i (k + 1) (durations v) true h (sym (ap (λ q. allowed_of q (durations v) (k + 1)) p ∙ a)));
   running = each_cell root v (λ cell. IsTrue (in_run inst i cell.start cell.period)) (λ k j c x a m n. runs_in inst i (durations v) k j h m);
   resources = each_cell root v (λ cell. cell.resource < length inst.resource_names) (λ k j c x a m n. omega (arith, n, ap length r));
   small = each_cell root v (λ cell. unsigned_abs cell.load < 10 ^ 20) (λ k j c x a m n. count_at_most x);
 }
 
--- ---- all interventions
-
 durations_are : (slack : ℤ) (root : Tree) (i : ℕ) (e : Entry) → i < length (interventions root) → model.durations (tables slack root) i ≡ durations (slice_index_or (interventions root) i e).value
 unfolding model.durations
 durations_are slack root i e l = get_or-map (λ (x : Entry). durations x.value) (interventions root) i e [] l
 
+-- the cells of each intervention of the tables fit
 pub cells_fit : (slack : ℤ) (root : Tree) (i : ℕ) → i < length (keys (known is.Interventions root)) → AreCells (tables slack root) i (slice_index_or (map (λ e. each_run root (cells_at root) e.value) (interventions root)) i [])
 cells_fit slack root i h =
     let none : Entry = record { key = []; value = tree 0 0 Node.null } in
