@@ -45,8 +45,11 @@ not_before bytes a b f l w p = f.stuck (omega arith) (front bytes (suc a) b (ome
 
 one_syntax : (bytes : List ℕ) (a b : ℕ) → IsSyntaxFault bytes a → IsSyntaxFault bytes b → a ≡ b
 one_syntax bytes a b f g =
-    elim (order a b) [ inl l ↦ absurd (not_before bytes a b f l g.within g.sound) | inr m ↦
-    elim (order b a) [ inl l ↦ absurd (not_before bytes b a g l f.within f.sound) | inr n ↦ omega arith ] ]
+    elim (order a b) [
+      | inl l ↦ absurd (not_before bytes a b f l g.within g.sound)
+      | inr m ↦
+          elim (order b a) [ inl l ↦ absurd (not_before bytes b a g l f.within f.sound) | inr n ↦ omega arith ]
+    ]
 
 -- in a text that begins so, the first level too deep stands there
 depth_in : (bytes rest : List ℕ) (t : Tree) (d n : ℕ) → IsDepthFault bytes d → suc d ≤ n → IsElement 0 (take n bytes ++ rest) t → first_past 16 t ≡ Some d
