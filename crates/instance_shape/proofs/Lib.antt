@@ -11,6 +11,7 @@ pub mod LoadCells
 pub mod NamesFit
 pub mod NoCrossFault
 pub mod OneAnswer
+pub mod OwnRounding
 pub mod RootNumbers
 pub mod RunLengths
 mod SeenLemmas

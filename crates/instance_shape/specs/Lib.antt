@@ -4,6 +4,7 @@ pub mod FileFaults
 pub mod FileTables
 pub mod Keys
 pub mod LookUp
+pub mod OwnNumbers
 pub mod Ranges
 pub mod Seen
 pub mod Shape

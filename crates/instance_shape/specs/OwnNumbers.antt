@@ -1,0 +1,24 @@
+-- Defines the risk numbers of a file as they are written, each as a whole multiple of a power of ten.
+use Rattle.std.specs.Prelude.{◌≡◌, ℕ, ◌*◌, ◌≤◌, ℤ, List, [], map, unwrap_or}
+use Rattle.std.specs.List.{AllZip}
+use Rattle.decimal_json.specs.Tree.{Tree}
+use Rattle.decimal_json.specs.Grammar.{Parts, HasParts}
+use Rattle.decimal_json.specs.Decimal.{numerator, denominator, signed}
+use Rattle.instance_shape.specs.LookUp.{token_at, risk_list, interventions}
+use Rattle.instance_shape.specs.FileTables.{all_below, each_run}
+
+-- the token's value is exactly z times 10^-places: 10^places times the value, without its sign, is the whole number size
+pub record IsMultiple (places : ℕ) (token : List ℕ) (z : ℤ) : Type 0 where
+  pub parts : Parts
+  pub token_parts : HasParts token parts
+  pub size : ℕ
+  pub exact : size * denominator parts ≡ numerator parts places
+  pub z_is : z ≡ signed parts.negative size
+
+-- what a function gives of each risk number, in the order of the table of risks: that table is `each_risk count_at root`
+abbrev pub each_risk : {A : Type 0} → (Tree → A) → Tree → List A
+each_risk f root = all_below (interventions root) (each_run root (λ v s t. map f (unwrap_or (risk_list v t s) [])))
+
+-- the table of risks with each number of the file as it is written, in 10^-places, where it has the count
+abbrev pub AreOwnNumbers : ℕ → Tree → List ℤ → Type 0
+AreOwnNumbers places root numbers = AllZip (IsMultiple places) (each_risk token_at root) numbers
