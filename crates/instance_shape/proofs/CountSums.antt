@@ -72,7 +72,7 @@ column_grows before g a (suc d) h = let e : a + suc d ≡ a + d + 1 = omega arit
 
 -- ---- sums over a list
 
-count_sum-shift : (n : ℕ) (f : ℕ → ℕ) → count_sum (suc n) f ≡ f 0 + count_sum n (λ i. f (suc i))
+pub count_sum-shift : (n : ℕ) (f : ℕ → ℕ) → count_sum (suc n) f ≡ f 0 + count_sum n (λ i. f (suc i))
 unfolding count_sum
 count_sum-shift zero f = omega arith
 count_sum-shift (suc n) f = omega (arith, count_sum-shift n f)

@@ -12,6 +12,7 @@ pub mod NamesFit
 pub mod NoCrossFault
 pub mod OneAnswer
 pub mod OwnRounding
+pub mod Places
 pub mod RootNumbers
 pub mod RunLengths
 mod SeenLemmas

@@ -15,6 +15,7 @@ use Rattle.instance_shape.specs.LookUp.{Entry, keys, known, count_at, workload, 
 use Rattle.instance_shape.specs.FileTables.{tables, lists_below, each_run, cell_of, cells_at}
 use Rattle.instance_shape.proofs.Bounds.{count_at_most}
 use Rattle.instance_shape.proofs.ListsBelow.{all_lists, all_cond, pairs_cond, pairs_lists}
+use Rattle.instance_shape.proofs.RunLengths.{durations_are}
 
 -- ---- order
 
@@ -99,10 +100,6 @@ are_cells inst i root v p r h = record {
   resources = each_cell root v (λ cell. cell.resource < length inst.resource_names) (λ k j c x a m n. omega (arith, n, ap length r));
   small = each_cell root v (λ cell. unsigned_abs cell.load < 10 ^ 20) (λ k j c x a m n. count_at_most x);
 }
-
-durations_are : (slack : ℤ) (root : Tree) (i : ℕ) (e : Entry) → i < length (interventions root) → model.durations (tables slack root) i ≡ durations (slice_index_or (interventions root) i e).value
-unfolding model.durations
-durations_are slack root i e l = get_or-map (λ (x : Entry). durations x.value) (interventions root) i e [] l
 
 -- the cells of each intervention of the tables fit
 pub cells_fit : (slack : ℤ) (root : Tree) (i : ℕ) → i < length (keys (known is.Interventions root)) → AreCells (tables slack root) i (slice_index_or (map (λ e. each_run root (cells_at root) e.value) (interventions root)) i [])

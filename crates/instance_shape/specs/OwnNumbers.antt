@@ -1,5 +1,5 @@
 -- Defines the risk numbers of a file as they are written, each as a whole multiple of a power of ten.
-use Rattle.std.specs.Prelude.{◌≡◌, ℕ, ◌*◌, ◌≤◌, ℤ, List, [], map, unwrap_or}
+use Rattle.std.specs.Prelude.{◌≡◌, ℕ, ◌*◌, ℤ, List, [], map, unwrap_or}
 use Rattle.std.specs.List.{AllZip}
 use Rattle.decimal_json.specs.Tree.{Tree}
 use Rattle.decimal_json.specs.Grammar.{Parts, HasParts}
@@ -15,9 +15,13 @@ pub record IsMultiple (places : ℕ) (token : List ℕ) (z : ℤ) : Type 0 where
   pub exact : size * denominator parts ≡ numerator parts places
   pub z_is : z ≡ signed parts.negative size
 
--- what a function gives of each risk number, in the order of the table of risks: that table is `each_risk count_at root`
+-- what a function gives of each risk number of an intervention at start s in period t, by scenario
+abbrev pub each_at : {A : Type 0} → (Tree → A) → Tree → ℕ → ℕ → List A
+each_at f v s t = map f (unwrap_or (risk_list v t s) [])
+
+-- what it gives of each risk number in the order of the table of risks, which is `each_risk count_at root`
 abbrev pub each_risk : {A : Type 0} → (Tree → A) → Tree → List A
-each_risk f root = all_below (interventions root) (each_run root (λ v s t. map f (unwrap_or (risk_list v t s) [])))
+each_risk f root = all_below (interventions root) (each_run root (each_at f))
 
 -- the table of risks with each number of the file as it is written, in 10^-places, where it has the count
 abbrev pub AreOwnNumbers : ℕ → Tree → List ℤ → Type 0
