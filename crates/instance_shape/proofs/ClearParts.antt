@@ -1,6 +1,6 @@
 -- What stands in a value without a fault of shape: each entry and each element has none, and a required key is there.
 use Rattle.std.proofs.Common.{◌≡◌, ℕ, ◌+◌, ◌<◌, Bool, true, false, cond, List, [], ◌∷◌, length, Option, Some, None, refl, sym, ap, subst, bytes_eq, pred, unwrap_or}
-use Rattle.std.specs.Prelude.{All, ◌||◌, slice_index_or}
+use Rattle.std.specs.Prelude.{All, ◌||◌, ◌&&◌, ◌==◌, slice_index_or}
 use Rattle.std.proofs.lemmas.List.Elements.{All-nil, All-cons, All-head, All-tail}
 use Rattle.std.proofs.lemmas.Slice.Eq.{bytes_eq-Decides}
 use Rattle.decimal_json.specs.Tree.{Tree, tree, Node, Trees, no_trees, and_tree, Members, no_members, and_member}
@@ -9,10 +9,10 @@ use Rattle.instance_shape.specs.declared.fault.Known.{Known}
 use Rattle.instance_shape.specs.declared.spot.Spot.{Spot}
 use Rattle.instance_shape.specs.declared.spot.Spot.TheVariants as spot
 use Rattle.instance_shape.specs.declared.spot.Kind.TheVariants as kind
-use Rattle.instance_shape.specs.Keys.{Key, by_text, has_key, text_of}
+use Rattle.instance_shape.specs.Keys.{Key, by_text, has_key, is_digits, number_of, text_of}
 use Rattle.instance_shape.specs.Shape.{placed, placed_elements, placed_members, element, under, required}
 use Rattle.instance_shape.specs.ShapeFaults.{values_faults, keys_faults, keys_of, first_missing, missing_at}
-use Rattle.instance_shape.specs.LookUp.{Entry, elements, tree_list, entries, entry_list, first_value, at_key, known}
+use Rattle.instance_shape.specs.LookUp.{Entry, elements, tree_list, entries, entry_list, first_value, at_key, at_number, known}
 use Rattle.instance_shape.proofs.Clear.{IsClear, clear_front, clear_rest, clear_right, inside_clear, node_clear}
 
 -- ---- elements and entries
@@ -64,6 +64,13 @@ at_key_clear limits s key t v h e =
     let found : IsFound (λ x. IsClear limits (under s x.key) x.value) (bytes_eq key) v =
     first_found (λ x. IsClear limits (under s x.key) x.value) (bytes_eq key) (entries t) v (entries_clear limits s t (λ x. IsClear limits (under s x.key) x.value) h (λ k x c. c)) e in
     subst (λ (k : List ℕ). IsClear limits (under s k) v) (sym ((bytes_eq-Decides key found.key).0 found.passes)) found.holds
+
+-- the value under a period or start, where all keys of the object have one spot
+pub at_number_clear : (limits : Limits) (s q : Spot) (n : ℕ) (t v : Tree) → ((key : List ℕ) → under s key ≡ q) → IsClear limits s t → at_number n t ≡ Some v → IsClear limits q v
+at_number_clear limits s q n t v u h e =
+    let found : IsFound (λ x. IsClear limits (under s x.key) x.value) (λ key. is_digits key && (number_of key == n)) v =
+    first_found (λ x. IsClear limits (under s x.key) x.value) (λ key. is_digits key && (number_of key == n)) (entries t) v (entries_clear limits s t (λ x. IsClear limits (under s x.key) x.value) h (λ k x c. c)) e in
+    subst (λ (r : Spot). IsClear limits r v) (u found.key) found.holds
 
 -- what holds of null and of each value without a fault at a spot holds of the value under a required key
 pub known_clear : (limits : Limits) (s : Spot) (k : Known) (t : Tree) (P : Tree → Type 0) → IsClear limits s t → P (tree 0 0 Node.null) → ((v : Tree) → IsClear limits (under s (text_of k)) v → P v) → P (known k t)

@@ -11,8 +11,11 @@ pub mod LoadCells
 pub mod NamesFit
 pub mod NoCrossFault
 pub mod OneAnswer
+pub mod OwnReading
 pub mod OwnRounding
 pub mod Places
+pub mod RiskNumbers
+pub mod RiskPlaces
 pub mod RootNumbers
 pub mod RunLengths
 mod SeenLemmas

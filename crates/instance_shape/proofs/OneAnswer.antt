@@ -94,7 +94,7 @@ one_least fs f g a b = by (a.least g b.among) (b.least f a.among)
 
 -- ---- one tree
 
-same_root : (bytes : List ℕ) (r q : Tree) → IsTreeOf bytes r → IsTreeOf bytes q → r ≡ q
+pub same_root : (bytes : List ℕ) (r q : Tree) → IsTreeOf bytes r → IsTreeOf bytes q → r ≡ q
 same_root bytes r q a b = one_tree bytes r q a.text b.text
 
 one_instance : (limits : Limits) (slack : ℤ) (bytes : List ℕ) (a b : Tables) → Defines limits slack bytes a → Defines limits slack bytes b → a ≡ b

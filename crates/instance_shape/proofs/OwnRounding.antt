@@ -74,7 +74,7 @@ token_rounds token places z count differs h m x =
     let z_is : z ≡ signed p.negative m.size = m.z_is ∙ ap (λ (q : Parts). signed q.negative m.size) same in
     rw (z_is, x.count_is) (parts_round p (10 ^ (places - 12)) m.size x.size differs (exact ∙ numerator_scaled p places h) x.nearest x.differs_is)
 
--- what may have been rounded at one place may have been rounded at all
+-- a start may be soft in a period by another number too
 pub softer : (f : ℕ) (soft differs : Bool) (z count : ℤ) → (differs ≡ true → soft ≡ true) → RoundsTo f differs z count → RoundsTo f soft z count
 softer f true true z count h r = r
 softer f true false z count h r = rw r (omega (arith, signed_arith))

@@ -78,7 +78,7 @@ table_length slack root f before a =
 
 -- ---- risks and soft flags
 
-scenarios_of_is : (slack : ℤ) (root : Tree) (t : ℕ) → scenarios_of (tables slack root) t ≡ slice_index (scenarios root) (t - 1)
+pub scenarios_of_is : (slack : ℤ) (root : Tree) (t : ℕ) → scenarios_of (tables slack root) t ≡ slice_index (scenarios root) (t - 1)
 unfolding scenarios_of
 scenarios_of_is slack root t = refl
 
@@ -99,5 +99,9 @@ all_grow slack root g h =
 pub risks_each : (slack : ℤ) (root : Tree) → cross_fault root ≡ None → length (all_below (interventions root) (each_run root risks_at)) ≡ all_entries (tables slack root) (scenarios_before (tables slack root))
 risks_each slack root h = table_length slack root risks_at (scenarios_before (tables slack root)) (all_grow slack root count_at h)
 
+-- there is one soft flag for each period
+pub soft_grow : (root : Tree) → All (λ e. GrowsAs root soft_at periods_before e.value) (interventions root)
+soft_grow root = λ i d l k j b a m. periods_before_more (k + 1 + j) (omega arith)
+
 pub soft_each : (slack : ℤ) (root : Tree) → length (all_below (interventions root) (each_run root soft_at)) ≡ all_entries (tables slack root) periods_before
-soft_each slack root = table_length slack root soft_at periods_before (λ i d l k j b a m. periods_before_more (k + 1 + j) (omega arith))
+soft_each slack root = table_length slack root soft_at periods_before (soft_grow root)
