@@ -11,6 +11,7 @@ pub mod LoadCells
 pub mod NamesFit
 pub mod NoCrossFault
 pub mod OneAnswer
+pub mod OwnMultiples
 pub mod OwnReading
 pub mod OwnRounding
 pub mod Places

@@ -1,5 +1,5 @@
 -- Defines the risk numbers of a file as they are written, each as a whole multiple of a power of ten.
-use Rattle.std.specs.Prelude.{◌≡◌, ℕ, ◌*◌, ℤ, List, [], map, unwrap_or}
+use Rattle.std.specs.Prelude.{◌≡◌, ℕ, ◌*◌, ◌≤◌, ℤ, List, [], map, unwrap_or}
 use Rattle.std.specs.List.{AllZip}
 use Rattle.decimal_json.specs.Tree.{Tree}
 use Rattle.decimal_json.specs.Grammar.{Parts, HasParts}
@@ -26,3 +26,11 @@ each_risk f root = all_below (interventions root) (each_run root (each_at f))
 -- the same table, with each number of the file as it is written, in 10^-places, in place of its count
 abbrev pub AreOwnNumbers : ℕ → Tree → List ℤ → Type 0
 AreOwnNumbers places root numbers = AllZip (IsMultiple places) (each_risk token_at root) numbers
+
+-- for some places, at least 12, the file has such numbers, and no others
+pub record HasOwnNumbers (root : Tree) : Type 0 where
+  pub places : ℕ
+  pub enough : 12 ≤ places
+  pub numbers : List ℤ
+  pub own : AreOwnNumbers places root numbers
+  pub only : (others : List ℤ) → AreOwnNumbers places root others → others ≡ numbers

@@ -8,7 +8,7 @@ ghost use Rattle.instance_model.specs.Tables.{Tables};
 ghost use Rattle.instance_model.specs.declared.limits.Limits.{Limits};
 ghost use Rattle.instance_shape.specs.Defined.{Defines, IsTreeOf};
 ghost use Rattle.instance_shape.specs.FileFaults.{HaveOneAnswer};
-ghost use Rattle.instance_shape.specs.OwnNumbers.{AreOwnNumbers};
+ghost use Rattle.instance_shape.specs.OwnNumbers.{AreOwnNumbers, HasOwnNumbers};
 ghost use Rattle.instance_shape.specs.Ranges.{AreStandard, IsSlack};
 
 /// The bytes of a file stand for at most one instance, and have at most one fault that counts, and not both.
@@ -35,4 +35,12 @@ pub fn own_numbers_are_a_reading()
         → 12 ≤ places
         → AreOwnNumbers places root numbers
         → IsReading inst (10 ^ (places - 12)) numbers }
+{}
+
+/// There are such places and multiples for every file that defines an instance, and no other multiples for these places.
+pub fn files_have_own_numbers()
+    ensures { (limits : Limits) (slack : ℤ) (bytes : List ℕ) (inst : Tables) (root : Tree)
+        → Defines limits slack bytes inst
+        → IsTreeOf bytes root
+        → HasOwnNumbers root }
 {}

@@ -9,7 +9,9 @@ mod seen;
 mod spot;
 
 pub use fault::{Fault, Flaw, Known, Which};
-pub use laws::{defined_tables_fit, files_have_one_answer, own_numbers_are_a_reading};
+pub use laws::{
+    defined_tables_fit, files_have_one_answer, files_have_own_numbers, own_numbers_are_a_reading,
+};
 pub use names::{is_name, number_of};
 pub use required::{missing_key, text_of};
 pub use seen::{add_number, add_text};
