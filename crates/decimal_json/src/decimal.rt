@@ -1,5 +1,6 @@
 //! What is read of number tokens: counts of 10^-12, whole numbers and millionths.
 ghost use Rattle.std.specs.Prelude.{◌≡◌, ◌≤◌, ◌<◌, ◌^◌, ℕ, ℤ, unsigned_abs, Bool, Some, None, IfSome, IfOk, OnErr, MatchResult};
+ghost use Rattle.decimal_json.specs.Tree as json;
 ghost use Rattle.decimal_json.specs.Decimal.{IsFixedOf, IsTooLarge, IsExactly, IsWholeOf, IsMillionthsOf, signed};
 ghost use Rattle.decimal_json.specs.Exact.{fixed, exactly, whole, millionths};
 ghost use Rattle.decimal_json.specs.Scaling.{counted_size, unrounded_size};
@@ -41,13 +42,31 @@ pub fn whole_of(node: &Node) -> Option<u32>
     ensures function { result ≡ whole (node_view node.now) }
 {
     match node {
-        Node::Num(num) => exact_value(num.as_bytes(), 0, 999_999_999),
-        Node::Text(text) => exact_value(text.as_str().as_bytes(), 0, 999_999_999),
+        Node::Num(num) => whole_of_number(num),
+        Node::Text(text) => whole_of_text(text.as_str()),
         Node::Null => None,
         Node::Bool(_) => None,
         Node::List(_) => None,
         Node::Object(_) => None,
     }
+}
+
+/// The same of a number, for a caller that has no node.
+pub fn whole_of_number(num: &NumText) -> Option<u32>
+    ensures whole { IfSome result (λ n. IsWholeOf (json.Node.number num.now) n) }
+    ensures no_other { (n : ℕ) → IsWholeOf (json.Node.number num.now) n → result ≡ Some n }
+    ensures function { result ≡ whole (json.Node.number num.now) }
+{
+    exact_value(num.as_bytes(), 0, 999_999_999)
+}
+
+/// The same of a text, for a caller that has no node.
+pub fn whole_of_text(text: &str) -> Option<u32>
+    ensures whole { IfSome result (λ n. IsWholeOf (json.Node.text text.now) n) }
+    ensures no_other { (n : ℕ) → IsWholeOf (json.Node.text text.now) n → result ≡ Some n }
+    ensures function { result ≡ whole (json.Node.text text.now) }
+{
+    exact_value(text.as_bytes(), 0, 999_999_999)
 }
 
 /// 10^6 times the token's value, where that is exactly a whole number from 0 to 10^6. Takes no memory.

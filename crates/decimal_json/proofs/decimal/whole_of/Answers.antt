@@ -3,7 +3,7 @@ use Rattle.decimal_json.specs.Tree.{Node, Trees, Members}
 use Rattle.decimal_json.specs.declared.tree.Node as Rust
 use Rattle.decimal_json.specs.declared.tree.Node.TheBlock as block
 use Rattle.decimal_json.specs.declared.tree.Node.{the_lemmas}
-use Rattle.decimal_json.specs.Exact.{whole, exactly}
+use Rattle.decimal_json.specs.Exact.{whole}
 use Rattle.decimal_json.specs.Decimal.{IsWholeOf}
 use Rattle.decimal_json.specs.Trees.{node_view, trees_view, members_view}
 use Rattle.decimal_json.proofs.ExactLaws.{if_some, whole_sound, whole_found}
@@ -15,19 +15,11 @@ num_seen node num e = ap node_view e ∙ search (rules, the_lemmas)
 text_seen : (node : Rust.Node) (text : List ℕ) → node ≡ block.Text text → node_view node ≡ Node.text text
 text_seen node text e = ap node_view e ∙ search (rules, the_lemmas)
 
-whole_num : (token : List ℕ) → whole (Node.number token) ≡ exactly 0 999_999_999 token
-unfolding whole
-whole_num token = refl
-
-whole_text : (token : List ℕ) → whole (Node.text token) ≡ exactly 0 999_999_999 token
-unfolding whole
-whole_text token = refl
-
 pub returns-in-Num-clause-function : goal.returns-in-Num-clause-function
-returns-in-Num-clause-function c = c.exact_value.ensures ∙ ap (exactly 0 999_999_999) c.as_bytes.ensures.same ∙ sym (whole_num c.in-Num.num) ∙ sym (ap whole (num_seen c.args.node.now c.in-Num.num c.in-Num.is))
+returns-in-Num-clause-function c = c.whole_of_number.ensures.function ∙ sym (ap whole (num_seen c.args.node.now c.in-Num.num c.in-Num.is))
 
 pub returns-in-Text-clause-function : goal.returns-in-Text-clause-function
-returns-in-Text-clause-function c = c.exact_value-in-Text.ensures ∙ ap (exactly 0 999_999_999) (c.as_bytes-in-Text.ensures.value ∙ c.as_str.ensures.same) ∙ sym (whole_text c.in-Text.text) ∙ sym (ap whole (text_seen c.args.node.now c.in-Text.text c.in-Text.is))
+returns-in-Text-clause-function c = c.whole_of_text.ensures.function ∙ ap (λ t. whole (Node.text t)) c.as_str.ensures.same ∙ sym (ap whole (text_seen c.args.node.now c.in-Text.text c.in-Text.is))
 
 pub returns-in-Num-clause-whole : goal.returns-in-Num-clause-whole
 returns-in-Num-clause-whole c = if_some (IsWholeOf (node_view c.args.node.now)) _ _ (returns-in-Num-clause-function c) (whole_sound (node_view c.args.node.now))
