@@ -1,0 +1,11 @@
+mod Along
+mod Counting
+mod FaultCodes
+mod FaultRows
+mod FirstIsLeast
+mod FlawLemmas
+mod KeyLemmas
+pub mod Keeping
+mod OneMore
+mod TextOrder
+mod Weighing

@@ -1,0 +1,10 @@
+pub mod Ascending
+pub mod Counts
+pub mod Flaws
+pub mod Frames
+pub mod Kept
+pub mod Machine
+pub mod Reads
+pub mod Seen
+pub mod Standing
+pub mod Taking

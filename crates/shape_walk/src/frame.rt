@@ -1,0 +1,121 @@
+//! What is open in a text.
+
+ghost use Rattle.std.specs.Prelude.{◌≡◌, ℕ, ◌++◌, None, IfOk, OnOk};
+ghost use Rattle.instance_shape.specs.Shape.{kind_of as kind};
+ghost use Rattle.shape_walk.specs.Flaws.{first_flaw};
+ghost use Rattle.shape_walk.specs.Frames.{frame_of};
+ghost use Rattle.shape_walk.specs.Kept.{open_spot, object_spot};
+ghost use Rattle.shape_walk.specs.Machine as machine;
+ghost use Rattle.shape_walk.specs.Reads.{read_of_key};
+
+use crate::judged::Judged;
+use crate::open::Open;
+use crate::seen::Seen;
+use instance_model::Limits;
+use instance_shape::{Flaw, Kind, Spot, element, kind_of, under};
+use std::alloc::{AllocError, Global};
+
+/// The innermost object or list that is open, or the text itself. The elements of a list are counted to three, since no
+/// spot asks for more.
+#[derive(Drop)]
+pub enum Frame {
+    Outside,
+    Object(Open),
+    List(Spot, u8),
+}
+
+impl Frame {
+    /// An object or a list that begins at a spot.
+    pub fn begin(alloc: Global, spot: Spot, object: bool) -> Frame
+        ensures { frame_of result ≡ machine.begun object spot }
+    {
+        if object {
+            Frame::Object(Open {
+                spot,
+                seen: Seen::none(alloc, spot),
+                next: Spot::Skipped,
+            })
+        } else {
+            Frame::List(spot, 0)
+        }
+    }
+
+    /// Its own spot.
+    pub fn spot(&self) -> Spot
+        ensures { result ≡ open_spot (frame_of self.now) }
+    {
+        match self {
+            Frame::Outside => Spot::Skipped,
+            Frame::Object(open) => open.spot,
+            Frame::List(spot, _) => *spot,
+        }
+    }
+
+    /// The spot of the next value in it.
+    pub fn next_spot(&self) -> Spot
+        ensures { result ≡ machine.next_spot (frame_of self.now) }
+    {
+        match self {
+            Frame::Outside => Spot::Root,
+            Frame::Object(open) => open.next,
+            Frame::List(spot, before) => element(*spot, u64::from(*before)),
+        }
+    }
+
+    /// Passes over a value in it, and tells the value's spot.
+    pub fn pass(&mut self) -> Spot
+        ensures spot { result ≡ machine.next_spot (frame_of self.old) }
+        ensures frame { frame_of self.new ≡ machine.behind (frame_of self.old) }
+    {
+        match self {
+            Frame::Outside => Spot::Root,
+            Frame::Object(open) => open.next,
+            Frame::List(spot, before) => {
+                let spot = element(*spot, u64::from(*before));
+                if *before < 3 {
+                    *before += 1;
+                }
+                spot
+            }
+        }
+    }
+
+    /// What is wrong at its closing bracket or brace.
+    pub fn closing_flaw(&self) -> Option<Flaw>
+        ensures { (at : ℕ) → result ≡ first_flaw (machine.closing_faults at (frame_of self.now)) }
+    {
+        match self {
+            Frame::Outside => None,
+            Frame::Object(open) => open.seen.closing_flaw(open.spot),
+            Frame::List(spot, before) => {
+                if matches!(kind_of(*spot), Kind::Triple) && *before < 3 {
+                    Some(Flaw::Shape)
+                } else {
+                    None
+                }
+            }
+        }
+    }
+
+    /// Takes a key in it.
+    pub fn take_key(
+        &mut self,
+        alloc: Global,
+        limits: &Limits,
+        key: &str,
+    ) -> Result<Judged, AllocError>
+        ensures flaw { IfOk result (λ r. (at : ℕ) → r.flaw ≡ first_flaw (machine.faults_of_key limits.now at key.now (frame_of self.old))) }
+        ensures taken { IfOk result (λ r. let spot = object_spot (frame_of self.old) in r.taken
+            ≡ record { spot = spot; read = read_of_key (kind spot) key.now }) }
+        ensures frame { IfOk result (λ r. r.flaw ≡ None → frame_of self.new ≡ machine.behind_key key.now (frame_of self.old)) }
+    {
+        match self {
+            Frame::Object(open) => {
+                let judged = open.seen.take(alloc, limits, open.spot, key)?;
+                open.next = under(open.spot, key);
+                Ok(judged)
+            }
+            Frame::Outside | Frame::List(_, _) => Ok(Judged::unread(Spot::Skipped, None)),
+        }
+    }
+}

@@ -1,0 +1,14 @@
+//! The faults of shape of an instance, found over the events of its text, one by one.
+#![tactic(auto)]
+
+mod counts;
+mod frame;
+mod judged;
+mod open;
+mod seen;
+mod taken;
+mod values;
+mod walk;
+
+pub use taken::{Read, Taken};
+pub use walk::ShapeWalk;

@@ -1,0 +1,208 @@
+//! The walk over the events of a text.
+
+ghost use Rattle.std.specs.Prelude.{◌≡◌, ◌∷◌, [], ◌++◌, ◌↔◌, ℕ, List, Bool, None, Some, IfOk, OnOk, IfSome};
+ghost use Rattle.decimal_json.specs.Tree as json;
+ghost use Rattle.decimal_json.specs.Tree.{events_of};
+ghost use Rattle.decimal_json.specs.Events.{event_view};
+ghost use Rattle.instance_model.specs.declared.limits.Limits.{Limits as Sizes};
+ghost use Rattle.instance_shape.specs.ShapeFaults.{shape_faults, IsLeast};
+ghost use Rattle.instance_shape.specs.declared.fault.Fault.{Fault as FaultValue};
+ghost use Rattle.shape_walk.specs.Ascending.{AscendFrom};
+ghost use Rattle.shape_walk.specs.Kept.{spot_after};
+ghost use Rattle.shape_walk.specs.Flaws.{flaw_at};
+ghost use Rattle.shape_walk.specs.Reads.{read_of};
+ghost use Rattle.shape_walk.specs.Standing.{StandsAfter};
+ghost use Rattle.shape_walk.specs.Taking.{Takes};
+
+use crate::counts::Counts;
+use crate::frame::Frame;
+use crate::taken::{Read, Taken};
+use crate::values::{begin_flaw, judge_number, judge_text, word_flaw};
+use decimal_json::{Event, NumText};
+use instance_model::Limits;
+use instance_shape::{Fault, Flaw, Spot};
+use std::alloc::{AllocError, Global};
+use std::marker::Model;
+use std::mem;
+
+/// Follows the shape over the events of a text, one by one, and knows the first fault.
+#[derive(Drop)]
+pub struct ShapeWalk {
+    alloc: Global,
+    limits: Limits,
+    top: Frame,
+    /// What is open around it, the outermost first.
+    around: Vec<Frame>,
+    counts: Counts,
+    fault: Option<Fault>,
+}
+
+impl Model for ShapeWalk {
+    ghost use Rattle.shape_walk.specs.Counts.{AreWithin};
+    ghost use Rattle.shape_walk.specs.Frames.{frame_of, frames_of};
+    ghost use Rattle.shape_walk.specs.Standing.{Walk};
+
+    ghost Value = { Walk };
+
+    ghost view = { λ w. record {
+      limits = w.limits;
+      state = record { top = frame_of w.top; around = frames_of w.around.items; risks = w.counts.risks; workloads = w.counts.workloads };
+      fault = w.fault;
+    } };
+
+    ghost invariant = { λ w. AreWithin w.limits w.counts };
+}
+
+impl ShapeWalk {
+    /// Before the first event of a text.
+    pub fn make(alloc: Global, limits: &Limits) -> ShapeWalk
+        ensures { StandsAfter limits.now result [] }
+    {
+        ShapeWalk {
+            alloc,
+            limits: *limits,
+            top: Frame::Outside,
+            around: Vec::new(alloc),
+            counts: Counts {
+                risks: 0,
+                workloads: 0,
+            },
+            fault: None,
+        }
+    }
+
+    /// Takes the next event of a text. After an `Err` the walk is of no more use. Once there is a fault, an event changes
+    /// nothing.
+    pub fn take(&mut self, event: &Event) -> Result<Taken, AllocError>
+        ensures stands { OnOk result ((limits : Sizes) (es : List json.Event) → StandsAfter limits self.old es
+            → StandsAfter limits self.new (es ++ event_view event.now ∷ [])) }
+        // of an event behind a fault nothing is told
+        ensures spot { IfOk result (λ taken. (limits : Sizes) (es : List json.Event) → StandsAfter limits self.old es
+            → self.old.fault ≡ None → taken.spot ≡ spot_after es (event_view event.now)) }
+        ensures read { IfOk result (λ taken. self.old.fault ≡ None → taken.read ≡ read_of taken.spot (event_view event.now)) }
+        ensures keeps { (f : FaultValue) → self.old.fault ≡ Some f → self.new ≡ self.old }
+    {
+        if self.fault.is_some() {
+            return Ok(Taken {
+                spot: Spot::Skipped,
+                read: Read::Nothing,
+            });
+        }
+        self.follow(event)
+    }
+
+    /// The first fault so far.
+    pub fn fault(&self) -> Option<Fault>
+        ensures same { result ≡ self.now.fault }
+        ensures none { (limits : Sizes) (root : json.Tree) → AscendFrom 0 (events_of root) → StandsAfter limits self.now (events_of root)
+            → (result ≡ None) ↔ (shape_faults limits root ≡ []) }
+        ensures least { (limits : Sizes) (root : json.Tree) → AscendFrom 0 (events_of root) → StandsAfter limits self.now (events_of root)
+            → (f : FaultValue) → (result ≡ Some f) ↔ IsLeast (shape_faults limits root) f }
+    {
+        self.fault
+    }
+
+    /// Takes an event without a fault before it.
+    fn follow(&mut self, event: &Event) -> Result<Taken, AllocError>
+        requires { self.old.fault ≡ None }
+        ensures { IfOk result (Takes self.old (event_view event.now) self.new) }
+    {
+        match event {
+            Event::Begin { at, object } => self.take_begin(*at, *object),
+            Event::Finish { at } => Ok(self.take_finish(*at)),
+            Event::Key { at, text, .. } => self.take_key(*at, text.as_str()),
+            Event::Null { at } => Ok(self.take_word(*at)),
+            Event::Bool { at, .. } => Ok(self.take_word(*at)),
+            Event::Num { at, num } => Ok(self.take_number(*at, num)),
+            Event::Text { at, text, .. } => Ok(self.take_text(*at, text.as_str())),
+        }
+    }
+
+    /// The first byte of an object or a list.
+    fn take_begin(&mut self, at: u64, object: bool) -> Result<Taken, AllocError>
+        requires { self.old.fault ≡ None }
+        ensures { IfOk result (Takes self.old (json.begin at object) self.new) }
+    {
+        let spot = self.top.next_spot();
+        self.fault = fault_at(at, begin_flaw(spot, object));
+        let begun = Frame::begin(self.alloc, spot, object);
+        let outer = mem::replace(&mut self.top, begun);
+        self.around.push(outer)?;
+        Ok(Taken {
+            spot,
+            read: Read::Nothing,
+        })
+    }
+
+    /// The closing bracket or brace of what is open.
+    fn take_finish(&mut self, at: u64) -> Taken
+        requires { self.old.fault ≡ None }
+        ensures { Takes self.old (json.finish at) self.new result }
+    {
+        let spot = self.top.spot();
+        self.fault = fault_at(at, self.top.closing_flaw());
+        self.top = match self.around.pop() {
+            None => Frame::Outside,
+            Some(outer) => outer,
+        };
+        self.top.pass();
+        Taken {
+            spot,
+            read: Read::Nothing,
+        }
+    }
+
+    /// A key of the object that is open.
+    fn take_key(&mut self, at: u64, key: &str) -> Result<Taken, AllocError>
+        requires { self.old.fault ≡ None }
+        ensures { (end : ℕ) → IfOk result (Takes self.old (json.key at end key.now) self.new) }
+    {
+        let judged = self.top.take_key(self.alloc, &self.limits, key)?;
+        self.fault = fault_at(at, judged.flaw);
+        Ok(judged.taken)
+    }
+
+    /// `null`, `true` or `false`.
+    fn take_word(&mut self, at: u64) -> Taken
+        requires { self.old.fault ≡ None }
+        ensures null { Takes self.old (json.Event.null at) self.new result }
+        ensures boolean { (b : Bool) → Takes self.old (json.Event.boolean at b) self.new result }
+    {
+        let spot = self.top.pass();
+        self.fault = fault_at(at, word_flaw(spot));
+        Taken {
+            spot,
+            read: Read::Nothing,
+        }
+    }
+
+    /// A number.
+    fn take_number(&mut self, at: u64, num: &NumText) -> Taken
+        requires { self.old.fault ≡ None }
+        ensures { Takes self.old (json.Event.number at num.now) self.new result }
+    {
+        let spot = self.top.pass();
+        let judged = judge_number(&self.limits, spot, num);
+        let past = self.counts.count(&self.limits, spot);
+        self.fault = fault_at(at, judged.flaw.or(past));
+        judged.taken
+    }
+
+    /// A text that is no key.
+    fn take_text(&mut self, at: u64, text: &str) -> Taken
+        requires { self.old.fault ≡ None }
+        ensures { (end : ℕ) → Takes self.old (json.Event.text at end text.now) self.new result }
+    {
+        let spot = self.top.pass();
+        let judged = judge_text(&self.limits, spot, text);
+        self.fault = fault_at(at, judged.flaw);
+        judged.taken
+    }
+}
+
+/// The fault that a flaw at a place is.
+fn fault_at(at: u64, flaw: Option<Flaw>) -> Option<Fault>
+    ensures { result ≡ flaw_at at flaw }
+{
+    flaw.map(|flaw| Fault { at, flaw })
+}
