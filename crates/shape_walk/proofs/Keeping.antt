@@ -1,6 +1,7 @@
 -- What is kept of the events of a tree, one after another, is what is kept of the tree.
-use Rattle.std.proofs.Common.{◌≡◌, ℕ, ◌+◌, List, [], ◌∷◌, ◌++◌, true, false, refl, sym, ◌∙◌, ap, append_assoc, append-nil, add-zero, add_assoc, pred}
+use Rattle.std.proofs.Common.{◌≡◌, ℕ, ◌+◌, List, [], ◌∷◌, ◌++◌, true, false, refl, sym, ◌∙◌, ap, append_assoc, append-nil, add-zero, add_assoc, pred, Option, Some, None}
 use Rattle.decimal_json.specs.Tree.{Tree, tree, Node, Trees, no_trees, and_tree, Members, no_members, and_member, Event, begin, finish, key, events_of, node_events, trees_events, members_events}
+use Rattle.instance_shape.specs.declared.fault.Fault.{Fault}
 use Rattle.instance_shape.specs.declared.spot.Spot.{Spot}
 use Rattle.instance_shape.specs.declared.spot.Spot.TheVariants as spot
 use Rattle.instance_shape.specs.Keys.{Key, key_of}
@@ -8,6 +9,7 @@ use Rattle.instance_shape.specs.Shape.{kind_of, under, element}
 use Rattle.instance_shape.specs.ShapeFaults.{keys_of, count_trees, is_risk, is_workload}
 use Rattle.shape_walk.specs.Machine.{Frame, outside, in_object, in_list, State, next_spot, behind, one_more, step, start, state_along}
 use Rattle.shape_walk.specs.Kept.{event_spot, spot_after, kept_from, kept, keep_value, keep_node, keep_elements, keep_members}
+use Rattle.shape_walk.specs.Standing.{Walk}
 use Rattle.shape_walk.proofs.TextOrder.{numbers_in, node_numbers, elements_numbers, members_numbers, last_next}
 use Rattle.shape_walk.proofs.Counting.{counted, more_counted, element_counted, more_is, st}
 
@@ -71,3 +73,11 @@ more_from keep (d ∷ es) e s a = more_from keep es e (step d s) (keep (event_sp
 -- with one event more, the last one is kept last, at its spot
 pub kept_more : {A : Type 0} (keep : Spot → Event → A → A) (es : List Event) (e : Event) (a : A) → kept keep (es ++ e ∷ []) a ≡ keep (spot_after es e) e (kept keep es a)
 kept_more keep es e a = more_from keep es e start a
+
+-- where a walk has no fault behind an event, it had none before it, as `take` keeps a fault
+pub none_before : (old new : Walk) → ((f : Fault) → old.fault ≡ Some f → new ≡ old) → new.fault ≡ None → old.fault ≡ None
+none_before old new keeps none = by old.fault refl
+  where
+    by : (o : Option Fault) → old.fault ≡ o → o ≡ None
+    by None e = refl
+    by (Some f) e = let same : new.fault ≡ Some f = ap (λ (w : Walk). w.fault) (keeps f e) ∙ e in cc

@@ -1,0 +1,202 @@
+//! Small texts, with their faults and spots worked out by hand.
+
+use super::*;
+use decimal_json::{Member, Node, TextFault, Tree, read_tree};
+use fixed_num::Fixed;
+use instance_shape::{Known, Which};
+use std::test::Fail;
+
+/// A text without a fault that has each kind of value once.
+const GOOD: &[u8] =
+    b"{\"Resources\":{\"c1\":{\"max\":[10],\"min\":[0]}},\"Seasons\":{\"winter\":[\"1\"]},\
+\"Interventions\":{\"I1\":{\"tmax\":\"2\",\"Delta\":[3,3],\"workload\":{\"c1\":{\"04\":{\"5\":5.5}}},\"risk\":{\"6\":{\"7\":[2.5]}}}},\
+\"Exclusions\":{\"E1\":[\"I1\",\"I2\",\"winter\"]},\"T\":8,\"Scenarios_number\":[9],\"Quantile\":0.95,\"Alpha\":0.5,\"note\":[null,true]}";
+
+/// What a walk tells of one event more.
+fn tell(
+    walk: &mut ShapeWalk,
+    told: &mut Vec<(Spot, Read)>,
+    event: Event,
+) -> Result<(), AllocError> {
+    let taken = walk.take(&event)?;
+    told.push((taken.spot, taken.read))?;
+    Ok(())
+}
+
+/// What a walk tells of the events of a value.
+fn tell_value(
+    walk: &mut ShapeWalk,
+    told: &mut Vec<(Spot, Read)>,
+    tree: Tree,
+) -> Result<(), AllocError> {
+    let Tree { at, end, node } = tree;
+    let last = end.saturating_sub(1);
+    match node {
+        Node::Null => tell(walk, told, Event::Null { at }),
+        Node::Bool(value) => tell(walk, told, Event::Bool { at, value }),
+        Node::Num(num) => tell(walk, told, Event::Num { at, num }),
+        Node::Text(text) => tell(walk, told, Event::Text { at, end, text }),
+        Node::List(items) => {
+            tell(walk, told, Event::Begin { at, object: false })?;
+            for item in items {
+                tell_value(walk, told, item)?;
+            }
+            tell(walk, told, Event::Finish { at: last })
+        }
+        Node::Object(members) => {
+            tell(walk, told, Event::Begin { at, object: true })?;
+            for member in members {
+                let Member {
+                    at,
+                    end,
+                    key,
+                    value,
+                } = member;
+                tell(walk, told, Event::Key { at, end, text: key })?;
+                tell_value(walk, told, value)?;
+            }
+            tell(walk, told, Event::Finish { at: last })
+        }
+    }
+}
+
+/// The first fault of a text, and what was told of its events.
+fn walk_over(
+    alloc: Global,
+    limits: &Limits,
+    text: &[u8],
+) -> Result<(Option<Fault>, Vec<(Spot, Read)>), TextFault> {
+    let mut walk = ShapeWalk::make(alloc, limits);
+    let mut told = Vec::new(alloc);
+    tell_value(&mut walk, &mut told, read_tree(alloc, text)?)?;
+    Ok((walk.fault(), told))
+}
+
+fn fault(at: u64, flaw: Flaw) -> Option<Fault> {
+    Some(Fault { at, flaw })
+}
+
+#[test]
+fn first_faults(rt: HostRuntime) {
+    let mut limits = Limits::standard();
+    limits.resources = 1;
+    limits.risk_cells = 1;
+    let table: [(&[u8], Option<Fault>); 15] = [
+        (GOOD, None),
+        (b"[]", fault(0, Flaw::Shape)),
+        (b"{\"x\":1,\"x\":2}", fault(7, Flaw::Double)),
+        (
+            b"{\"Resources\":{\"\":{\"max\":0}}}",
+            fault(14, Flaw::BadName),
+        ),
+        (
+            b"{\"Resources\":{\"c\":{\"max\":[1]}}}",
+            fault(28, Flaw::Missing(Known::Min)),
+        ),
+        (
+            b"{\"Resources\":{\"a\":{\"max\":[],\"min\":[]},\"b\":0}}",
+            fault(38, Flaw::Limit(Which::Resources)),
+        ),
+        (
+            b"{\"Interventions\":{\"I\":{\"risk\":{\"1\":{},\"01\":{}}}}}",
+            fault(38, Flaw::Double),
+        ),
+        (
+            b"{\"Interventions\":{\"I\":{\"risk\":{\"1\":{\"1\":[1e8]}}}}}",
+            fault(41, Flaw::TooLarge),
+        ),
+        (
+            b"{\"Interventions\":{\"I\":{\"risk\":{\"1\":{\"1\":[1,2]}}}}}",
+            fault(43, Flaw::Limit(Which::RiskCells)),
+        ),
+        (
+            b"{\"Exclusions\":{\"E\":[\"a\",\"b\"]}}",
+            fault(27, Flaw::Shape),
+        ),
+        (
+            b"{\"Exclusions\":{\"E\":[\"a\",\"b\",\"c\",\"d\"]}}",
+            fault(32, Flaw::Shape),
+        ),
+        (b"{\"T\":513}", fault(5, Flaw::Limit(Which::Periods))),
+        (b"{\"T\":0,\"T\":1}", fault(5, Flaw::Limit(Which::Periods))),
+        (b"{\"T\":\"1.5\"}", fault(5, Flaw::Shape)),
+        (b"{\"Quantile\":0}", fault(12, Flaw::Shape)),
+    ];
+    for (text, want) in table {
+        match walk_over(rt.alloc(), &limits, text) {
+            Ok((fault, _)) => assert_eq!(rt; fault, want),
+            Err(_) => assert!(rt; false),
+        }
+    }
+}
+
+/// A count of 10^-12.
+fn count(number: i128) -> Read {
+    let count = Fixed::from_count(number).unwrap_or(Fixed::zero());
+    Read::Count {
+        count,
+        rounded: false,
+    }
+}
+
+#[test]
+fn what_is_read(rt: HostRuntime) -> Result<(), Fail> {
+    let want = [
+        (Spot::BandLimit, count(10_000_000_000_000)),
+        (Spot::BandLimit, count(0)),
+        (Spot::SeasonPeriod, Read::Whole(1)),
+        (Spot::Tmax, Read::Whole(2)),
+        (Spot::Duration, Read::Whole(3)),
+        (Spot::Duration, Read::Whole(3)),
+        (Spot::WorkloadResource, Read::Whole(4)),
+        (Spot::WorkloadPeriod, Read::Whole(5)),
+        (Spot::WorkloadNumber, count(5_500_000_000_000)),
+        (Spot::Risk, Read::Whole(6)),
+        (Spot::RiskPeriod, Read::Whole(7)),
+        (Spot::RiskNumber, count(2_500_000_000_000)),
+        (Spot::T, Read::Whole(8)),
+        (Spot::Scenario, Read::Whole(9)),
+        (Spot::Quantile, Read::Millionths(950_000)),
+        (Spot::Alpha, Read::Millionths(500_000)),
+    ];
+    let (_, told) = walk_over(rt.alloc(), &Limits::standard(), GOOD)?;
+    let mut read = Vec::new(rt.alloc());
+    for (spot, one) in &told {
+        if *one != Read::Nothing {
+            read.push((*spot, *one))?;
+        }
+    }
+    assert_eq!(rt; read.as_slice(), want.as_slice());
+    Ok(())
+}
+
+#[test]
+fn spots_of_all_events(rt: HostRuntime) -> Result<(), Fail> {
+    let text = b"{\"Exclusions\":{\"E\":[\"a\",\"b\",\"w\"]},\"x\":[1]}";
+    let want = [
+        Spot::Root,
+        // a key stands at the spot of its object
+        Spot::Root,
+        Spot::Exclusions,
+        Spot::Exclusions,
+        Spot::Exclusion,
+        Spot::Word,
+        Spot::Word,
+        Spot::Word,
+        // so does a closing bracket or brace
+        Spot::Exclusion,
+        Spot::Exclusions,
+        Spot::Root,
+        Spot::Skipped,
+        Spot::Skipped,
+        Spot::Skipped,
+        Spot::Root,
+    ];
+    let (_, told) = walk_over(rt.alloc(), &Limits::standard(), text)?;
+    let mut spots = Vec::new(rt.alloc());
+    for (spot, _) in &told {
+        spots.push(*spot)?;
+    }
+    assert_eq!(rt; spots.as_slice(), want.as_slice());
+    Ok(())
+}
