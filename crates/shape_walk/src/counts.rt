@@ -20,7 +20,8 @@ impl Counts {
     /// Counts a number at a spot. A flaw: the limit allows no more.
     pub fn count(&mut self, limits: &Limits, spot: Spot) -> Option<Flaw>
         requires { AreWithin limits.now self.old }
-        ensures past { (at : ℕ) → result ≡ first_flaw (number_past limits.now spot at self.old.risks self.old.workloads) }
+        ensures past { (at : ℕ) → result
+            ≡ first_flaw (number_past limits.now spot at self.old.risks self.old.workloads) }
         ensures risks { result ≡ None → self.new.risks ≡ more_if (is_risk spot) self.old.risks }
         ensures workloads { result ≡ None → self.new.workloads ≡ more_if (is_workload spot) self.old.workloads }
         ensures within { AreWithin limits.now self.new }

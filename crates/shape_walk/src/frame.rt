@@ -104,10 +104,12 @@ impl Frame {
         limits: &Limits,
         key: &str,
     ) -> Result<Judged, AllocError>
-        ensures flaw { IfOk result (λ r. (at : ℕ) → r.flaw ≡ first_flaw (machine.faults_of_key limits.now at key.now (frame_of self.old))) }
+        ensures flaw { IfOk result (λ r. (at : ℕ) → r.flaw
+            ≡ first_flaw (machine.faults_of_key limits.now at key.now (frame_of self.old))) }
         ensures taken { IfOk result (λ r. let spot = object_spot (frame_of self.old) in r.taken
             ≡ record { spot = spot; read = read_of_key (kind spot) key.now }) }
-        ensures frame { IfOk result (λ r. r.flaw ≡ None → frame_of self.new ≡ machine.behind_key key.now (frame_of self.old)) }
+        ensures frame { IfOk result (λ r. r.flaw ≡ None
+            → frame_of self.new ≡ machine.behind_key key.now (frame_of self.old)) }
     {
         match self {
             Frame::Object(open) => {

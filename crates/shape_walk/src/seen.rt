@@ -63,9 +63,12 @@ impl Seen {
         key: &str,
     ) -> Result<Judged, AllocError>
         requires { suits self.old (shape.kind_of spot) ≡ true }
-        ensures flaw { IfOk result (λ r. (at : ℕ) → r.flaw ≡ first_flaw (key_faults limits.now spot (seen_of self.old) at key.now)) }
-        ensures taken { IfOk result (λ r. r.taken ≡ record { spot = spot; read = read_of_key (shape.kind_of spot) key.now }) }
-        ensures added { IfOk result (λ r. r.flaw ≡ None → seen_of self.new ≡ seen_of self.old ++ key_of (shape.kind_of spot) key.now) }
+        ensures flaw { IfOk result (λ r. (at : ℕ) → r.flaw
+            ≡ first_flaw (key_faults limits.now spot (seen_of self.old) at key.now)) }
+        ensures taken { IfOk result (λ r. r.taken
+            ≡ record { spot = spot; read = read_of_key (shape.kind_of spot) key.now }) }
+        ensures added { IfOk result (λ r. r.flaw ≡ None
+            → seen_of self.new ≡ seen_of self.old ++ key_of (shape.kind_of spot) key.now) }
         ensures suits { suits self.new (shape.kind_of spot) ≡ true }
     {
         match self {
@@ -79,8 +82,8 @@ impl Seen {
     }
 }
 
-/// The limit on the number of keys of an object.
-fn limit_at(limits: &Limits, spot: Spot) -> Option<(u64, Which)>
+/// The limit on the number of keys of an object at a spot.
+fn key_limit(limits: &Limits, spot: Spot) -> Option<(u64, Which)>
     ensures { result ≡ key_limit limits.now spot }
 {
     match spot {
@@ -94,13 +97,14 @@ fn limit_at(limits: &Limits, spot: Spot) -> Option<(u64, Which)>
 
 /// What is wrong with a key behind so many others, if it is new.
 fn new_text_flaw(limits: &Limits, spot: Spot, before: usize, key: &str) -> Option<Flaw>
-    ensures { (at : ℕ) → result ≡ first_flaw (where_so (takes_names (shape.kind_of spot) && not (is_name key.now)) at flaws.BadName
+    ensures { (at : ℕ) → result
+        ≡ first_flaw (where_so (takes_names (shape.kind_of spot) && not (is_name key.now)) at flaws.BadName
         ++ first_past (key_limit limits.now spot) before at) }
 {
     if matches!(kind_of(spot), Kind::Names) && !is_name(key) {
         return Some(Flaw::BadName);
     }
-    match limit_at(limits, spot) {
+    match key_limit(limits, spot) {
         Some((limit, which)) if before as u64 == limit => Some(Flaw::Limit(which)),
         _ => None,
     }
@@ -114,8 +118,10 @@ fn take_text(
     key: String,
 ) -> Result<Option<Flaw>, AllocError>
     requires { counts_by_text (shape.kind_of spot) ≡ true }
-    ensures flaw { IfOk result (λ r. (at : ℕ) → r ≡ first_flaw (key_faults limits.now spot (texts_of texts.old.keys) at (string_bytes key))) }
-    ensures added { IfOk result (λ r. r ≡ None → texts_of texts.new.keys ≡ texts_of texts.old.keys ++ key_of (shape.kind_of spot) (string_bytes key)) }
+    ensures flaw { IfOk result (λ r. (at : ℕ) → r
+        ≡ first_flaw (key_faults limits.now spot (texts_of texts.old.keys) at (string_bytes key))) }
+    ensures added { IfOk result (λ r. r ≡ None
+        → texts_of texts.new.keys ≡ texts_of texts.old.keys ++ key_of (shape.kind_of spot) (string_bytes key)) }
 {
     let flaw = new_text_flaw(limits, spot, texts.len(), key.as_str());
     let new = add_text(texts, key)?;
@@ -125,9 +131,12 @@ fn take_text(
 /// Adds a key that counts by its number.
 fn take_number(spot: Spot, numbers: &mut IndexSet<u32>, key: &str) -> Result<Judged, AllocError>
     requires { shape.kind_of spot ≡ kinds.Numbers }
-    ensures flaw { IfOk result (λ r. (limits : Sizes) (at : ℕ) → r.flaw ≡ first_flaw (key_faults limits spot (numbers_of numbers.old.keys) at key.now)) }
-    ensures taken { IfOk result (λ r. r.taken ≡ record { spot = spot; read = read_of_key (shape.kind_of spot) key.now }) }
-    ensures added { IfOk result (λ r. r.flaw ≡ None → numbers_of numbers.new.keys ≡ numbers_of numbers.old.keys ++ key_of (shape.kind_of spot) key.now) }
+    ensures flaw { IfOk result (λ r. (limits : Sizes) (at : ℕ) → r.flaw
+        ≡ first_flaw (key_faults limits spot (numbers_of numbers.old.keys) at key.now)) }
+    ensures taken { IfOk result (λ r. r.taken
+        ≡ record { spot = spot; read = read_of_key (shape.kind_of spot) key.now }) }
+    ensures added { IfOk result (λ r. r.flaw ≡ None
+        → numbers_of numbers.new.keys ≡ numbers_of numbers.old.keys ++ key_of (shape.kind_of spot) key.now) }
 {
     let Some(number) = number_of(key) else {
         return Ok(Judged::unread(spot, Some(Flaw::Shape)));

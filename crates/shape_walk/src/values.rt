@@ -35,7 +35,8 @@ pub fn begin_flaw(spot: Spot, object: bool) -> Option<Flaw>
 #[tactic(auto, unfolding(decimal_json::specs::Exact::whole))]
 pub fn word_flaw(spot: Spot) -> Option<Flaw>
     ensures null { (limits : Sizes) (at : ℕ) → result ≡ first_flaw (own_faults limits spot at json.Node.null) }
-    ensures boolean { (limits : Sizes) (at : ℕ) (b : Bool) → result ≡ first_flaw (own_faults limits spot at (json.Node.boolean b)) }
+    ensures boolean { (limits : Sizes) (at : ℕ) (b : Bool) → result
+        ≡ first_flaw (own_faults limits spot at (json.Node.boolean b)) }
 {
     match kind_of(spot) {
         Kind::Anything => None,
@@ -43,8 +44,8 @@ pub fn word_flaw(spot: Spot) -> Option<Flaw>
     }
 }
 
-/// The limit on a whole number.
-fn limit_at(limits: &Limits, spot: Spot) -> Option<(u64, Which)>
+/// The limit on a whole number at a spot.
+fn whole_limit(limits: &Limits, spot: Spot) -> Option<(u64, Which)>
     ensures { result ≡ whole_limit limits.now spot }
 {
     match spot {
@@ -54,7 +55,7 @@ fn limit_at(limits: &Limits, spot: Spot) -> Option<(u64, Which)>
     }
 }
 
-/// Of what has to be a whole number.
+/// Judges what has to be a whole number.
 fn judge_whole(limits: &Limits, spot: Spot, whole: Option<u32>) -> Judged
     ensures taken { result.taken ≡ record { spot = spot; read = whole_read whole } }
     ensures flaw { (at : ℕ) → result.flaw
@@ -63,7 +64,7 @@ fn judge_whole(limits: &Limits, spot: Spot, whole: Option<u32>) -> Judged
     let Some(number) = whole else {
         return Judged::unread(spot, Some(Flaw::Shape));
     };
-    let flaw = match limit_at(limits, spot) {
+    let flaw = match whole_limit(limits, spot) {
         Some((limit, which)) if number < 1 || u64::from(number) > limit => Some(Flaw::Limit(which)),
         _ => None,
     };
@@ -74,11 +75,11 @@ fn judge_whole(limits: &Limits, spot: Spot, whole: Option<u32>) -> Judged
     }
 }
 
-/// Of what has to be a number of 10^-6, from the least to 1,000,000 of them.
+/// Judges what has to be a number of 10^-6, from the least to 1,000,000 of them.
 fn judge_millionths(spot: Spot, least: u32, millionths: Option<u32>) -> Judged
     ensures taken { result.taken ≡ record { spot = spot; read = millionths_read millionths } }
-    ensures flaw { (at : ℕ) → result.flaw
-        ≡ first_flaw (where_so (not (unwrap_or (option_map (λ m. nat_le least m && nat_le m 1_000_000) millionths) false)) at flaws.Shape) }
+    ensures flaw { (at : ℕ) → result.flaw ≡ first_flaw (where_so
+        (not (unwrap_or (option_map (λ m. nat_le least m && nat_le m 1_000_000) millionths) false)) at flaws.Shape) }
 {
     let Some(number) = millionths else {
         return Judged::unread(spot, Some(Flaw::Shape));
@@ -91,7 +92,7 @@ fn judge_millionths(spot: Spot, least: u32, millionths: Option<u32>) -> Judged
     }
 }
 
-/// Of what has to be a number that is read as a count.
+/// Judges a number that is read as a count.
 fn judge_count(spot: Spot, num: &NumText) -> Judged
     ensures taken { result.taken ≡ record { spot = spot; read = count_read (fixed num.now) } }
     ensures flaw { (at : ℕ) → result.flaw ≡ first_flaw (where_so (is_none (fixed num.now)) at flaws.TooLarge) }
@@ -108,7 +109,7 @@ fn judge_count(spot: Spot, num: &NumText) -> Judged
     }
 }
 
-/// Of a number at a spot.
+/// Reads a number at its spot, and says what is wrong with it.
 pub fn judge_number(limits: &Limits, spot: Spot, num: &NumText) -> Judged
     ensures taken { result.taken ≡ record { spot = spot; read = read_of_number (shape.kind_of spot) num.now } }
     ensures flaw { (at : ℕ) → result.flaw ≡ first_flaw (own_faults limits.now spot at (json.Node.number num.now)) }
@@ -123,7 +124,7 @@ pub fn judge_number(limits: &Limits, spot: Spot, num: &NumText) -> Judged
     }
 }
 
-/// Of a text at a spot.
+/// Reads a text at its spot, and says what is wrong with it.
 pub fn judge_text(limits: &Limits, spot: Spot, text: &str) -> Judged
     ensures taken { result.taken ≡ record { spot = spot; read = read_of_text (shape.kind_of spot) text.now } }
     ensures flaw { (at : ℕ) → result.flaw ≡ first_flaw (own_faults limits.now spot at (json.Node.text text.now)) }

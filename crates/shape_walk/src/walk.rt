@@ -46,7 +46,12 @@ impl Model for ShapeWalk {
 
     ghost view = { λ w. record {
       limits = w.limits;
-      state = record { top = frame_of w.top; around = frames_of w.around.items; risks = w.counts.risks; workloads = w.counts.workloads };
+      state = record {
+        top = frame_of w.top;
+        around = frames_of w.around.items;
+        risks = w.counts.risks;
+        workloads = w.counts.workloads;
+      };
       fault = w.fault;
     } };
 
@@ -71,15 +76,18 @@ impl ShapeWalk {
         }
     }
 
-    /// Takes the next event of a text. After an `Err` the walk is of no more use. Once there is a fault, an event changes
-    /// nothing.
+    /// Takes the next event of a text. Once there is a fault, an event changes nothing, and nothing is told of it.
+    ///
+    /// # Errors
+    ///
+    /// Where memory runs out; the walk is then of no more use.
     pub fn take(&mut self, event: &Event) -> Result<Taken, AllocError>
         ensures stands { OnOk result ((limits : Sizes) (es : List json.Event) → StandsAfter limits self.old es
             → StandsAfter limits self.new (es ++ event_view event.now ∷ [])) }
-        // of an event behind a fault nothing is told
         ensures spot { IfOk result (λ taken. (limits : Sizes) (es : List json.Event) → StandsAfter limits self.old es
             → self.old.fault ≡ None → taken.spot ≡ spot_after es (event_view event.now)) }
-        ensures read { IfOk result (λ taken. self.old.fault ≡ None → taken.read ≡ read_of taken.spot (event_view event.now)) }
+        ensures read { IfOk result (λ taken. self.old.fault ≡ None
+            → taken.read ≡ read_of taken.spot (event_view event.now)) }
         ensures keeps { (f : FaultValue) → self.old.fault ≡ Some f → self.new ≡ self.old }
     {
         if self.fault.is_some() {
@@ -91,12 +99,14 @@ impl ShapeWalk {
         self.follow(event)
     }
 
-    /// The first fault so far.
+    /// The first fault so far. Behind all events of a text it is none exactly where the text has no fault of shape, and
+    /// else the one that counts.
     pub fn fault(&self) -> Option<Fault>
         ensures same { result ≡ self.now.fault }
-        ensures none { (limits : Sizes) (root : json.Tree) → AscendFrom 0 (events_of root) → StandsAfter limits self.now (events_of root)
-            → (result ≡ None) ↔ (shape_faults limits root ≡ []) }
-        ensures least { (limits : Sizes) (root : json.Tree) → AscendFrom 0 (events_of root) → StandsAfter limits self.now (events_of root)
+        ensures none { (limits : Sizes) (root : json.Tree) → AscendFrom 0 (events_of root)
+            → StandsAfter limits self.now (events_of root) → (result ≡ None) ↔ (shape_faults limits root ≡ []) }
+        ensures least { (limits : Sizes) (root : json.Tree) → AscendFrom 0 (events_of root)
+            → StandsAfter limits self.now (events_of root)
             → (f : FaultValue) → (result ≡ Some f) ↔ IsLeast (shape_faults limits root) f }
     {
         self.fault
@@ -200,7 +210,7 @@ impl ShapeWalk {
     }
 }
 
-/// The fault that a flaw at a place is.
+/// A flaw at a place, as a fault.
 fn fault_at(at: u64, flaw: Option<Flaw>) -> Option<Fault>
     ensures { result ≡ flaw_at at flaw }
 {

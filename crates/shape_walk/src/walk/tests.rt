@@ -77,7 +77,7 @@ fn fault(at: u64, flaw: Flaw) -> Option<Fault> {
 }
 
 #[test]
-fn first_faults(rt: HostRuntime) {
+fn first_faults(rt: HostRuntime) -> Result<(), Fail> {
     let mut limits = Limits::standard();
     limits.resources = 1;
     limits.risk_cells = 1;
@@ -123,11 +123,10 @@ fn first_faults(rt: HostRuntime) {
         (b"{\"Quantile\":0}", fault(12, Flaw::Shape)),
     ];
     for (text, want) in table {
-        match walk_over(rt.alloc(), &limits, text) {
-            Ok((fault, _)) => assert_eq!(rt; fault, want),
-            Err(_) => assert!(rt; false),
-        }
+        let (fault, _) = walk_over(rt.alloc(), &limits, text)?;
+        assert_eq!(rt; fault, want);
     }
+    Ok(())
 }
 
 /// A count of 10^-12.
