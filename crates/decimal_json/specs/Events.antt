@@ -1,5 +1,5 @@
 -- The event of a text that a value of Rust's type stands for, and the offset after an event's last byte.
-use Rattle.std.specs.Prelude.{ℕ, ◌+◌, length, List, Bool, true, false}
+use Rattle.std.specs.Prelude.{ℕ, ◌+◌, length, true, false}
 use Rattle.decimal_json.specs.Tree as json
 use Rattle.decimal_json.specs.declared.event.Event.{Event}
 use Rattle.decimal_json.specs.declared.event.Event.TheVariants.{Begin, Finish, Key, Null, Bool as Boolean, Num, Text}

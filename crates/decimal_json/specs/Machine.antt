@@ -112,6 +112,17 @@ may_end mark = false
 may_end sign = false
 may_end exponent = true
 
+-- a digit does not change where in the number
+abbrev pub is_within_digits : Phase → Bool
+is_within_digits minus = false
+is_within_digits lone_zero = false
+is_within_digits whole = true
+is_within_digits point = false
+is_within_digits fraction = true
+is_within_digits mark = false
+is_within_digits sign = false
+is_within_digits exponent = true
+
 abbrev pub with_front : Event → Move → Move
 with_front e None = None
 with_front e (Some r) = Some (r.0, e ∷ r.1)

@@ -97,6 +97,13 @@ IsNear k After at token = Unit {0}
 abbrev pub IsSound : ℕ → Machine → Type 0
 IsSound k m = ModeHolds m.mode × HasEmptyToken m.mode m.token.items × IsNear k m.mode m.at m.token.items
 
+-- nothing of it has changed but, at most, the room of its buffers
+pub record SameMachine (old new : Machine) : Type 0 where
+  pub levels : new.levels.items ≡ old.levels.items
+  pub mode : new.mode ≡ old.mode
+  pub at : new.at ≡ old.at
+  pub token : new.token.items ≡ old.token.items
+
 -- an event of the bytes up to the one at k
 abbrev pub EventNear : ℕ → Event → Type 0
 EventNear k (Begin at o) = at ≤ k

@@ -18,7 +18,7 @@ use crate::tree::Tree;
 use std::alloc::{AllocError, Global};
 
 /// How many arrays and objects may be open at once.
-const MOST_LEVELS: usize = 16;
+pub(crate) const MOST_LEVELS: usize = 16;
 
 /// Hands the byte at k to the machine, and what it tells to the builder. False: it is refused.
 fn advance(
@@ -109,7 +109,7 @@ pub fn read_tree(alloc: Global, bytes: &[u8]) -> Result<Tree, TextFault>
             at: bytes.len() as u64,
         });
     }
-    match conclude(alloc, machine, builder, bytes.len() as u64)? {
+    match conclude(alloc, &machine, builder, bytes.len() as u64)? {
         Some(tree) => Ok(tree),
         None => unreachable!(),
     }
@@ -118,19 +118,19 @@ pub fn read_tree(alloc: Global, bytes: &[u8]) -> Result<Tree, TextFault>
 /// What is told at the end, and the tree.
 fn conclude(
     alloc: Global,
-    machine: Machine,
+    machine: &Machine,
     mut builder: Builder,
     k: u64,
 ) -> Result<Option<Tree>, AllocError>
-    requires ends { IsTrue (is_some (ending (state_of machine).levels (state_of machine).mode)) }
-    requires sound { IsSound k machine }
+    requires ends { IsTrue (is_some (ending (state_of machine.now).levels (state_of machine.now).mode)) }
+    requires sound { IsSound k machine.now }
     requires room { k < 2 ^ 63 }
-    requires told { (es : List Event) → ending (state_of machine).levels (state_of machine).mode ≡ Some es →
+    requires told { (es : List Event) → ending (state_of machine.now).levels (state_of machine.now).mode ≡ Some es →
         AreSound es }
     ensures { IfOk result
-        (λ t. Concludes (state_of machine) (built_of builder) (option_map tree_view t)) }
+        (λ t. Concludes (state_of machine.now) (built_of builder) (option_map tree_view t)) }
 {
-    if let Some(event) = machine.finish(alloc)? {
+    if let Some(event) = machine.last_event(alloc)? {
         builder.feed(alloc, event)?;
     }
     Ok(builder.finish())

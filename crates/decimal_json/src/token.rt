@@ -114,7 +114,7 @@ fn may_be_int(digits: &[u8]) -> bool
 }
 
 /// How many digits the bytes begin with.
-fn digit_count(bytes: &[u8]) -> usize
+pub(crate) fn digit_count(bytes: &[u8]) -> usize
     ensures count { result ≡ token.digit_count bytes.now }
     ensures within { result ≤ length bytes.now }
 {

@@ -1,22 +1,14 @@
-use Rattle.std.specs.Prelude.{◌==◌}
-use Rattle.std.proofs.Common.{◌≡◌, ◌∙◌, sym, ap, refl, true, false, Bool, ℕ, List, [], ◌∷◌, ◌++◌, arith}
-use Rattle.std.proofs.lemmas.Bool.Decides.{nat_tests}
-use Rattle.decimal_json.specs.Machine.{step, inside_step, go, is_plain, string, plain}
+use Rattle.std.proofs.Common.{◌≡◌, ◌∙◌, sym, ap, true, Bool, ℕ, List, [], ◌∷◌, ◌++◌}
+use Rattle.decimal_json.specs.Machine.{step, go, is_plain}
 use Rattle.decimal_json.specs.Machines.{mode_of}
 use Rattle.decimal_json.specs.declared.machine.Mode.{Mode}
 use Rattle.decimal_json.specs.declared.machine.Mode.TheVariants.{Str}
 use Rattle.decimal_json.specs.declared.within.Within.TheVariants.{Plain}
+use Rattle.decimal_json.proofs.Runs.{plain_goes}
 use Rattle.decimal_json.proofs.machine.Machine.quiet_step.Goals as goal
 
-no_quote : (b : ℕ) → is_plain b ≡ true → (b == 34) ≡ false
-no_quote b h = grind (arith, nat_tests)
-
-plain_goes : (k : ℕ) (levels : List Bool) (is_key : Bool) (at : ℕ) (text : List ℕ) (b : ℕ) → is_plain b ≡ true → step k levels (string is_key at text plain) b ≡ go levels (string is_key at (text ++ b ∷ []) plain)
-unfolding step inside_step
-plain_goes k levels is_key at text b h = rw h (rw (no_quote b h) refl)
-
 string_stays : (k : ℕ) (levels : List Bool) (mode : Mode) (at : ℕ) (token new : List ℕ) (is_key : Bool) (b : ℕ) → mode ≡ Str is_key Plain → new ≡ token ++ b ∷ [] → is_plain b ≡ true → step k levels (mode_of mode at token) b ≡ go levels (mode_of mode at new)
-string_stays k levels mode at token new is_key b e f h = rw (e, f) (plain_goes k levels is_key at token b h)
+string_stays k levels mode at token new is_key b e f h = rw (e, f) (plain_goes k b at levels is_key token h)
 
 pub returns-in_ok-push-in-Plain-clause-moves : goal.returns-in_ok-push-in-Plain-clause-moves
 returns-in_ok-push-in-Plain-clause-moves c _ =

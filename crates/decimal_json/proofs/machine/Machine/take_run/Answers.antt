@@ -1,0 +1,19 @@
+use Rattle.std.proofs.Common.{sym, ◌∙◌}
+use Rattle.std.proofs.lemmas.List.Sums.{prefix_len-le-length}
+use Rattle.decimal_json.specs.Machine.{is_plain}
+use Rattle.decimal_json.proofs.Runs.{number_taken, string_taken}
+use Rattle.decimal_json.proofs.machine.Machine.take_run.Goals as goal
+
+pub returns-in-Number-clause-moves : goal.returns-in-Number-clause-moves
+returns-in-Number-clause-moves c =
+    let longer = c.lengthen_token.ensures in
+    number_taken c.args.self.now c.lengthen_token.new.self c.lengthen_token.result c.args.bytes.now c.in-Number.phase c.digit_count.result
+    c.in-Number.is (sym c.is_within_digits.ensures ∙ c.if-is_within_digits.true) c.digit_count.ensures.count c.digit_count.ensures.within
+    longer.count longer.moves longer.levels longer.mode longer.at
+
+pub returns-in-Str-clause-moves : goal.returns-in-Str-clause-moves
+returns-in-Str-clause-moves c =
+    let longer = c.lengthen_token-in-Str.ensures in
+    string_taken c.args.self.now c.lengthen_token-in-Str.new.self c.lengthen_token-in-Str.result c.args.bytes.now c.in-Str.field-0 c.in-Str.within c.plain_count.result
+    c.in-Str.is (sym c.may_close.ensures ∙ c.if-may_close.true) c.plain_count.ensures (rw c.plain_count.ensures (prefix_len-le-length is_plain c.args.bytes.now))
+    longer.count longer.moves longer.levels longer.mode longer.at
