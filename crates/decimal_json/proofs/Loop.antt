@@ -30,7 +30,7 @@ pub starts_at : (s : State) (b : Built) → s ≡ st [] want → b ≡ bt [] Non
 starts_at s b e f = subst (λ z. Came z b []) (sym e) (subst (λ z. Came (st [] want) z []) (sym f) starts)
 
 -- the run over one byte more, by what the machine does with it
-one_more : (s : State) (bytes : List ℕ) (k : ℕ) (es : List Event) → k < length bytes → run 0 (st [] want) (take k bytes) ≡ Some (s, es) → run 0 (st [] want) (take (k + 1) bytes) ≡ run_on es (run_then (λ u. Some (u, [])) (step k s.levels s.mode (get_or bytes k 0)))
+pub one_more : (s : State) (bytes : List ℕ) (k : ℕ) (es : List Event) → k < length bytes → run 0 (st [] want) (take k bytes) ≡ Some (s, es) → run 0 (st [] want) (take (k + 1) bytes) ≡ run_on es (run_then (λ u. Some (u, [])) (step k s.levels s.mode (get_or bytes k 0)))
 one_more s bytes k es h c =
     let e : take (k + 1) bytes ≡ take k bytes ++ get_or bytes k 0 ∷ [] = take_more bytes k 0 h in
     let l : 0 + length (take k bytes) ≡ k = simp length-take (omega arith) in
@@ -38,7 +38,7 @@ one_more s bytes k es h c =
     ∙ ap (λ z. run_on es (run_then (λ u. Some (u, [])) (step z s.levels s.mode (get_or bytes k 0)))) l
 
 -- the texts that begin so have no array or object that is too deep in these bytes
-shallow : (s : State) (p : List ℕ) (es : List Event) → run 0 (st [] want) p ≡ Some (s, es) → Levelled s es → (rest : List ℕ) (t : Tree) → IsElement 0 (p ++ rest) t → (d : ℕ) → first_past 16 t ≡ Some d → length p ≤ d
+pub shallow : (s : State) (p : List ℕ) (es : List Event) → run 0 (st [] want) p ≡ Some (s, es) → Levelled s es → (rest : List ℕ) (t : Tree) → IsElement 0 (p ++ rest) t → (d : ℕ) → first_past 16 t ≡ Some d → length p ≤ d
 shallow s p es r l rest t h d e =
     let q = taken_text p rest t h in
     let same_run : ◌≡◌ {A = State × List Event} (q.state, q.front) (s, es) = let z = q.runs in cc in
@@ -52,7 +52,7 @@ shallow s p es r l rest t h d e =
 pub shallow_at : (s : State) (b : Built) (bytes : List ℕ) (k : ℕ) → k ≤ length bytes → Came s b (take k bytes) → IsShallow bytes k
 shallow_at s b bytes k i c rest t h d e = let j = shallow s (take k bytes) c.events c.runs c.levels rest t h d e in omega (arith, length-take k bytes)
 
-not_beyond : (k : ℕ) (t : State) (es : List Event) → length t.levels ≤ 16 → Deeper k t es → Levelled t es
+pub not_beyond : (k : ℕ) (t : State) (es : List Event) → length t.levels ≤ 16 → Deeper k t es → Levelled t es
 not_beyond k t es l (within h) = h
 not_beyond k t es l (beyond h f) = absurd (omega arith)
 
@@ -61,7 +61,7 @@ beyond_there k t es l (within h) = let i = h.open_levels in absurd (omega arith)
 beyond_there k t es l (beyond h f) = f
 
 -- each text that begins so has it there
-found : (k : ℕ) (s : State) (p : List ℕ) (es : List Event) (rest : List ℕ) (t : Tree) → run 0 (st [] want) p ≡ Some (s, es) → ((fs : List Event) → scan 16 (es ++ fs) ≡ Some k) → IsElement 0 (p ++ rest) t → first_past 16 t ≡ Some k
+pub found : (k : ℕ) (s : State) (p : List ℕ) (es : List Event) (rest : List ℕ) (t : Tree) → run 0 (st [] want) p ≡ Some (s, es) → ((fs : List Event) → scan 16 (es ++ fs) ≡ Some k) → IsElement 0 (p ++ rest) t → first_past 16 t ≡ Some k
 found k s p es rest t r f h =
     let q = taken_text p rest t h in
     let same_run : ◌≡◌ {A = State × List Event} (q.state, q.front) (s, es) = let z = q.runs in cc in
@@ -96,7 +96,7 @@ too_deep s t old new bytes k h c a l =
 all_of : (bytes : List ℕ) (k : ℕ) → k ≡ length bytes → take k bytes ≡ bytes
 all_of bytes k e = take_all k bytes (omega arith)
 
-none_from : {A : Type 0} (o : Option A) → is_some o ≡ false → o ≡ None
+pub none_from : {A : Type 0} (o : Option A) → is_some o ≡ false → o ≡ None
 none_from None e = refl
 none_from (Some x) e = absurd cc
 

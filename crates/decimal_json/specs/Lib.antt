@@ -7,6 +7,8 @@ pub mod Token
 pub mod Exact
 pub mod Trees
 pub mod Events
+pub mod Stream
+pub mod Unreads
 pub mod Scaling
 pub mod Split
 pub mod Tallies
@@ -16,3 +18,7 @@ pub mod Machines
 pub mod Builder
 pub mod Building
 pub mod Sound
+pub mod Readings
+pub mod PullViews
+pub mod Pulls
+pub mod Steps
