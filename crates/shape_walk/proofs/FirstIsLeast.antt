@@ -13,7 +13,7 @@ use Rattle.instance_shape.specs.declared.fault.Which.TheVariants as which
 use Rattle.instance_shape.specs.declared.spot.Spot.TheVariants as spot
 use Rattle.instance_shape.specs.Shape.{placed}
 use Rattle.instance_shape.specs.ShapeFaults.{where_so, row_of, is_risk, is_workload, numbers_at, values_faults, count_faults, shape_faults, IsBefore, Among, IsLeast}
-use Rattle.shape_walk.specs.Ascending.{AscendFrom}
+use Rattle.decimal_json.specs.Stream.{AscendFrom}
 use Rattle.shape_walk.specs.Machine.{State, faults_at, faults_along, step, start, first_fault}
 use Rattle.shape_walk.specs.Standing.{Walk, StandsAfter}
 use Rattle.shape_walk.proofs.Along.{text_along}

@@ -7,7 +7,7 @@ ghost use Rattle.decimal_json.specs.Events.{event_view};
 ghost use Rattle.instance_model.specs.declared.limits.Limits.{Limits as Sizes};
 ghost use Rattle.instance_shape.specs.ShapeFaults.{shape_faults, IsLeast};
 ghost use Rattle.instance_shape.specs.declared.fault.Fault.{Fault as FaultValue};
-ghost use Rattle.shape_walk.specs.Ascending.{AscendFrom};
+ghost use Rattle.decimal_json.specs.Stream.{AscendFrom};
 ghost use Rattle.shape_walk.specs.Kept.{spot_after};
 ghost use Rattle.shape_walk.specs.Flaws.{flaw_at};
 ghost use Rattle.shape_walk.specs.Reads.{read_of};
