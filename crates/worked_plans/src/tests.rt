@@ -1,0 +1,561 @@
+//! Worked rows: plans of small instances, each with its verdict, worked out by hand from the definitions.
+#![tactic(auto, unfolding(instance_model::specs::Naturals::count_sum, instance_model::specs::Tables::is_allowed, instance_model::specs::Tables::allowed_of, instance_model::specs::Tables::in_run, instance_model::specs::Tables::durations, instance_model::specs::Tables::tmax, instance_model::specs::Tables::delta_of, instance_model::specs::Tables::entries_at, instance_model::specs::Tables::entries_of, instance_model::specs::Tables::all_entries, instance_model::specs::Tables::scenarios_before, instance_model::specs::Tables::periods_before,))]
+
+ghost use Rattle.std.specs.Prelude.{◌≡◌, length, IsTrue};
+ghost use Rattle.worked_plans.specs.Sketches.{is_fitting};
+
+use crate::keeps_rules;
+use crate::sketch::{Sketch, instance};
+use instance_model::{Exclusion, Rule};
+use plan_score::{Values, Verdict, judge};
+use std::alloc::{AllocError, Global};
+use std::process::Abort;
+use std::test::Fail;
+
+/// The count of 1.
+const ONE: i64 = 1_000_000_000_000;
+
+/// Two interventions of one period each, of which either start takes 6 of the one resource.
+const PAIR: Sketch<'static> = Sketch {
+    periods: 2,
+    alpha: 500_000,
+    quantile: 500_000,
+    scenarios: &[2, 2],
+    resources: 1,
+    upper: &[10 * ONE, 10 * ONE],
+    lower: &[0, 0],
+    seasons: 0,
+    in_season: &[],
+    delta: &[&[1, 1], &[1, 1]],
+    excluded: &[],
+    loads: &[
+        &[(1, 1, 0, 6 * ONE), (2, 2, 0, 6 * ONE)],
+        &[(1, 1, 0, 6 * ONE), (2, 2, 0, 6 * ONE)],
+    ],
+    risks: &[ONE, 3 * ONE, 5 * ONE, 5 * ONE, 2 * ONE, 2 * ONE, 4 * ONE, 0],
+    soft: &[false, false, false, false],
+};
+
+/// Two interventions, of one period each, and one scenario a period.
+const SURE: Sketch<'static> = Sketch {
+    periods: 2,
+    alpha: 1_000_000,
+    quantile: 1_000_000,
+    scenarios: &[1, 1],
+    resources: 0,
+    upper: &[],
+    lower: &[],
+    seasons: 1,
+    in_season: &[true, true],
+    delta: &[&[1, 1], &[1, 1]],
+    excluded: &[BOTH],
+    loads: &[&[], &[]],
+    risks: &[0, 4 * ONE, 0, 2 * ONE],
+    soft: &[false, false, false, false],
+};
+
+/// Two interventions of two periods each, without risk, over three periods.
+const LONG: Sketch<'static> = Sketch {
+    periods: 3,
+    alpha: 0,
+    quantile: 1,
+    scenarios: &[1, 1, 1],
+    resources: 0,
+    upper: &[],
+    lower: &[],
+    seasons: 1,
+    in_season: &[true, false, true],
+    delta: &[&[2, 2], &[2, 2]],
+    excluded: &[BOTH],
+    loads: &[&[], &[]],
+    risks: &[0, 0, 0, 0, 0, 0, 0, 0],
+    soft: &[false, false, false, false, false, false, false, false],
+};
+
+/// One intervention in one period, in three scenarios.
+const SINGLE: Sketch<'static> = Sketch {
+    periods: 1,
+    alpha: 1_000_000,
+    quantile: 1_000_000,
+    scenarios: &[3],
+    resources: 0,
+    upper: &[],
+    lower: &[],
+    seasons: 0,
+    in_season: &[],
+    delta: &[&[1]],
+    excluded: &[],
+    loads: &[&[]],
+    risks: &[-ONE, -2 * ONE, -2 * ONE],
+    soft: &[false],
+};
+
+/// Two interventions of unlike durations over three periods, with two or three scenarios each.
+const UNEVEN: Sketch<'static> = Sketch {
+    periods: 3,
+    alpha: 500_000,
+    quantile: 950_000,
+    scenarios: &[2, 3, 2],
+    resources: 1,
+    upper: &[20 * ONE, 20 * ONE, 20 * ONE],
+    lower: &[0, 0, 0],
+    seasons: 2,
+    in_season: &[true, false, true, true, true, true],
+    delta: &[&[2, 2], &[1, 1, 1]],
+    excluded: &[BOTH],
+    loads: &[
+        &[
+            (1, 1, 0, 14 * ONE),
+            (1, 2, 0, 14 * ONE),
+            (2, 2, 0, 8 * ONE),
+            (2, 3, 0, 8 * ONE),
+        ],
+        &[(3, 3, 0, 5_500_000_000_000)],
+    ],
+    risks: &[
+        4 * ONE,
+        8 * ONE,
+        5 * ONE,
+        7 * ONE,
+        9 * ONE,
+        ONE,
+        2 * ONE,
+        3 * ONE,
+        2 * ONE,
+        6 * ONE,
+        ONE,
+        ONE,
+        3 * ONE,
+        3 * ONE,
+        3 * ONE,
+        500_000_000_000,
+        1_500_000_000_000,
+    ],
+    soft: &[false, false, false, false, false, false, false],
+};
+
+/// The two interventions exclude each other.
+const BOTH: Exclusion = Exclusion {
+    first: 0,
+    second: 1,
+    season: 0,
+};
+
+/// An intervention is excluded with itself.
+const FIRST_ALONE: Exclusion = Exclusion {
+    first: 0,
+    second: 0,
+    season: 0,
+};
+
+const SECOND_ALONE: Exclusion = Exclusion {
+    first: 1,
+    second: 1,
+    season: 0,
+};
+
+// Each plan has the verdict beside it, and `keeps_rules` agrees.
+fn judges<const N: usize>(
+    rt: &impl Abort,
+    alloc: Global,
+    sketch: &Sketch,
+    rows: &[([Option<u32>; N], Verdict)],
+) -> Result<(), AllocError>
+    requires fits { IsTrue (is_fitting sketch.now) }
+    requires each { length sketch.now.names ≡ N }
+{
+    let inst = instance(alloc, sketch)?;
+    for (plan, verdict) in rows {
+        assert_eq!(rt; judge(alloc, &inst, plan)?, *verdict, "{plan:?}");
+        let kept = matches!(*verdict, Verdict::Feasible(_));
+        assert_eq!(rt; keeps_rules(alloc, &inst, plan)?, kept, "{plan:?}");
+    }
+    Ok(())
+}
+
+fn over(c: u32, t: u32, load: i64, limit: i64) -> Verdict {
+    Verdict::Broken(Rule::Over {
+        c,
+        t,
+        load: load as i128,
+        limit: limit as i128,
+    })
+}
+
+fn under(c: u32, t: u32, load: i64, limit: i64) -> Verdict {
+    Verdict::Broken(Rule::Under {
+        c,
+        t,
+        load: load as i128,
+        limit: limit as i128,
+    })
+}
+
+fn clash(e: u32, t: u32) -> Verdict {
+    Verdict::Broken(Rule::Clash { e, t })
+}
+
+// Score and roof, then the printed cost, mean and excess.
+fn feasible(
+    sums: (i128, i128),
+    cost: (i128, i128),
+    mean: (i128, i128),
+    excess: (i128, i128),
+) -> Verdict {
+    Verdict::Feasible(Values {
+        score: sums.0,
+        roof: sums.1,
+        cost_low: cost.0,
+        cost_high: cost.1,
+        mean_low: mean.0,
+        mean_high: mean.1,
+        excess_low: excess.0,
+        excess_high: excess.1,
+    })
+}
+
+// A plan without risk.
+fn free() -> Verdict {
+    feasible((0, 0), (0, 0), (0, 0), (0, 0))
+}
+
+// The values where both interventions of PAIR, or one in each period, start as early as they may.
+fn plain() -> Verdict {
+    feasible(
+        (2_000_000_000_000_000_000, 2_000_000_000_000_000_000),
+        (1_000_000_000_000, 1_000_000_000_000),
+        (2_000_000_000_000, 2_000_000_000_000),
+        (0, 0),
+    )
+}
+
+#[test]
+fn loads_are_within_limits(rt: HostRuntime) -> Result<(), Fail> {
+    let alloc = rt.alloc();
+    let rows = [
+        ([Some(1), Some(2)], plain()),
+        ([Some(1), Some(1)], over(0, 1, 12 * ONE, 10 * ONE)),
+        ([Some(2), Some(2)], over(0, 2, 12 * ONE, 10 * ONE)),
+    ];
+    judges(&rt, alloc, &PAIR, &rows)?;
+    let close = Sketch {
+        upper: &[11_999_500_000_000, 10 * ONE],
+        ..PAIR
+    };
+    let rows = [([Some(1), Some(1)], over(0, 1, 12 * ONE, 11_999_500_000_000))];
+    judges(&rt, alloc, &close, &rows)?;
+    let equal = Sketch {
+        upper: &[12 * ONE, 6 * ONE],
+        ..PAIR
+    };
+    judges(&rt, alloc, &equal, &[([Some(1), Some(1)], plain())])?;
+    let equal = Sketch {
+        lower: &[6 * ONE, 6 * ONE],
+        ..PAIR
+    };
+    judges(&rt, alloc, &equal, &[([Some(1), Some(2)], plain())])?;
+    let needed = Sketch {
+        upper: &[10 * ONE, 12 * ONE],
+        lower: &[ONE, 0],
+        ..PAIR
+    };
+    judges(
+        &rt,
+        alloc,
+        &needed,
+        &[([Some(2), Some(2)], under(0, 1, 0, ONE))],
+    )?;
+    Ok(())
+}
+
+#[test]
+fn bands_have_an_order(rt: HostRuntime) -> Result<(), Fail> {
+    let alloc = rt.alloc();
+    let crossed = Sketch {
+        upper: &[5 * ONE, 10 * ONE],
+        lower: &[20 * ONE, 0],
+        ..PAIR
+    };
+    judges(
+        &rt,
+        alloc,
+        &crossed,
+        &[([Some(1), Some(1)], over(0, 1, 12 * ONE, 5 * ONE))],
+    )?;
+    let first = Sketch {
+        upper: &[20 * ONE, 5 * ONE],
+        lower: &[20 * ONE, 0],
+        ..PAIR
+    };
+    judges(
+        &rt,
+        alloc,
+        &first,
+        &[([Some(1), Some(2)], under(0, 1, 6 * ONE, 20 * ONE))],
+    )?;
+    let two = Sketch {
+        resources: 2,
+        upper: &[10 * ONE, 5 * ONE, -ONE, 10 * ONE],
+        lower: &[0, 0, -5 * ONE, 0],
+        ..PAIR
+    };
+    judges(
+        &rt,
+        alloc,
+        &two,
+        &[([Some(1), Some(2)], over(0, 2, 6 * ONE, 5 * ONE))],
+    )?;
+    let idle = Sketch {
+        upper: &[10 * ONE, 10 * ONE, -ONE, 10 * ONE],
+        ..two
+    };
+    judges(
+        &rt,
+        alloc,
+        &idle,
+        &[([Some(1), Some(2)], over(1, 1, 0, -ONE))],
+    )?;
+    Ok(())
+}
+
+#[test]
+fn exclusions_hold_in_their_season(rt: HostRuntime) -> Result<(), Fail> {
+    let alloc = rt.alloc();
+    let late = Sketch {
+        upper: &[12 * ONE, 12 * ONE],
+        seasons: 1,
+        in_season: &[false, true],
+        excluded: &[BOTH],
+        ..PAIR
+    };
+    let rows = [
+        ([Some(1), Some(1)], plain()),
+        ([Some(2), Some(2)], clash(0, 2)),
+    ];
+    judges(&rt, alloc, &late, &rows)?;
+    let banded = Sketch {
+        upper: &[12 * ONE, 10 * ONE],
+        ..late
+    };
+    let rows = [([Some(2), Some(2)], over(0, 2, 12 * ONE, 10 * ONE))];
+    judges(&rt, alloc, &banded, &rows)?;
+    let kept = feasible(
+        (2_000_000_000_000_000_000, 2_000_000_000_000_000_000),
+        (1_000_000_000_000, 1_000_000_000_000),
+        (1_000_000_000_000, 1_000_000_000_000),
+        (0, 0),
+    );
+    let rows = [
+        ([Some(1), Some(1)], clash(0, 1)),
+        ([Some(2), Some(2)], clash(0, 2)),
+        ([Some(1), Some(2)], kept),
+    ];
+    judges(&rt, alloc, &SURE, &rows)?;
+    Ok(())
+}
+
+#[test]
+fn runs_may_share_periods_outside_the_season(rt: HostRuntime) -> Result<(), Fail> {
+    let alloc = rt.alloc();
+    let rows = [
+        ([Some(1), Some(1)], clash(0, 1)),
+        ([Some(2), Some(2)], clash(0, 3)),
+        ([Some(1), Some(2)], free()),
+    ];
+    judges(&rt, alloc, &LONG, &rows)?;
+    let middle = Sketch {
+        in_season: &[false, true, false],
+        ..LONG
+    };
+    let rows = [
+        ([Some(1), Some(1)], clash(0, 2)),
+        ([Some(1), Some(2)], clash(0, 2)),
+    ];
+    judges(&rt, alloc, &middle, &rows)?;
+    let alone = Sketch {
+        in_season: &[false, false, true],
+        excluded: &[FIRST_ALONE],
+        ..LONG
+    };
+    let rows = [
+        ([Some(1), Some(2)], free()),
+        ([Some(2), Some(1)], clash(0, 3)),
+    ];
+    judges(&rt, alloc, &alone, &rows)?;
+    let each = Sketch {
+        excluded: &[SECOND_ALONE, FIRST_ALONE],
+        ..LONG
+    };
+    judges(&rt, alloc, &each, &[([Some(1), Some(2)], clash(0, 3))])?;
+    Ok(())
+}
+
+#[test]
+fn starts_come_before_loads(rt: HostRuntime) -> Result<(), Fail> {
+    let alloc = rt.alloc();
+    let late = Sketch {
+        upper: &[-ONE, -ONE],
+        lower: &[-ONE, -ONE],
+        delta: &[&[1, 2], &[1, 1]],
+        loads: &[
+            &[(1, 1, 0, 6 * ONE)],
+            &[(1, 1, 0, 6 * ONE), (2, 2, 0, 6 * ONE)],
+        ],
+        risks: &[ONE, 3 * ONE, 2 * ONE, 2 * ONE, 4 * ONE, 0],
+        soft: &[false, false, false],
+        ..PAIR
+    };
+    let rows = [
+        ([None, None], Verdict::Broken(Rule::Unscheduled { i: 0 })),
+        ([Some(1), None], Verdict::Broken(Rule::Unscheduled { i: 1 })),
+        (
+            [Some(0), Some(1)],
+            Verdict::Broken(Rule::Outside { i: 0, s: 0 }),
+        ),
+        (
+            [Some(1), Some(3)],
+            Verdict::Broken(Rule::Outside { i: 1, s: 3 }),
+        ),
+        (
+            [Some(3), Some(0)],
+            Verdict::Broken(Rule::Outside { i: 0, s: 3 }),
+        ),
+        (
+            [Some(2), Some(1)],
+            Verdict::Broken(Rule::Past { i: 0, s: 2 }),
+        ),
+        ([Some(2), None], Verdict::Broken(Rule::Past { i: 0, s: 2 })),
+        ([Some(1), Some(2)], over(0, 1, 6 * ONE, -ONE)),
+    ];
+    judges(&rt, alloc, &late, &rows)?;
+    Ok(())
+}
+
+#[test]
+fn values_are_exact(rt: HostRuntime) -> Result<(), Fail> {
+    let alloc = rt.alloc();
+    let steep = feasible(
+        (3_500_000_000_000_000_000, 3_500_000_000_000_000_000),
+        (1_750_000_000_000, 1_750_000_000_000),
+        (2_000_000_000_000, 2_000_000_000_000),
+        (1_500_000_000_000, 1_500_000_000_000),
+    );
+    judges(
+        &rt,
+        alloc,
+        &Sketch {
+            quantile: 950_000,
+            ..PAIR
+        },
+        &[([Some(1), Some(2)], steep)],
+    )?;
+    let negative = feasible(
+        (-1_666_666_666_666_666_667, -1_666_666_666_666_666_666),
+        (-1_666_666_666_667, -1_666_666_666_666),
+        (-1_666_666_666_667, -1_666_666_666_666),
+        (666_666_666_666, 666_666_666_667),
+    );
+    judges(&rt, alloc, &SINGLE, &[([Some(1)], negative)])?;
+    let rounded = feasible(
+        (-1_666_666_666_666_666_667, -1_666_666_666_666_666_666),
+        (-1_666_666_666_668, -1_666_666_666_666),
+        (-1_666_666_666_668, -1_666_666_666_665),
+        (666_666_666_665, 666_666_666_668),
+    );
+    judges(
+        &rt,
+        alloc,
+        &Sketch {
+            soft: &[true],
+            ..SINGLE
+        },
+        &[([Some(1)], rounded)],
+    )?;
+    let uneven = feasible(
+        (9_250_000_000_000_000_000, 9_250_000_000_000_000_000),
+        (3_083_333_333_333, 3_083_333_333_334),
+        (4_666_666_666_666, 4_666_666_666_667),
+        (1_500_000_000_000, 1_500_000_000_000),
+    );
+    judges(&rt, alloc, &UNEVEN, &[([Some(1), Some(3)], uneven)])?;
+    let none = Sketch {
+        delta: &[],
+        loads: &[],
+        risks: &[],
+        soft: &[],
+        ..SINGLE
+    };
+    judges(&rt, alloc, &none, &[([], free())])?;
+    let needed = Sketch {
+        resources: 1,
+        upper: &[5 * ONE],
+        lower: &[ONE],
+        ..none
+    };
+    judges(&rt, alloc, &needed, &[([], under(0, 1, 0, ONE))])?;
+    Ok(())
+}
+
+// The excess of sums -9, 0 and 3 over their mean, -2, by the rank of the quantile.
+#[test]
+fn ranks_are_rounded_up(rt: HostRuntime) -> Result<(), Fail> {
+    let alloc = rt.alloc();
+    let spread = Sketch {
+        alpha: 0,
+        risks: &[3 * ONE, -9 * ONE, 0],
+        ..SINGLE
+    };
+    let mean = (-2_000_000_000_000, -2_000_000_000_000);
+    let least = feasible((0, 0), (0, 0), mean, (0, 0));
+    let two = (2_000_000_000_000, 2_000_000_000_000);
+    let middle = feasible(
+        (2_000_000_000_000_000_000, 2_000_000_000_000_000_000),
+        two,
+        mean,
+        two,
+    );
+    let five = (5_000_000_000_000, 5_000_000_000_000);
+    let greatest = feasible(
+        (5_000_000_000_000_000_000, 5_000_000_000_000_000_000),
+        five,
+        mean,
+        five,
+    );
+    judges(
+        &rt,
+        alloc,
+        &Sketch {
+            quantile: 333_333,
+            ..spread
+        },
+        &[([Some(1)], least)],
+    )?;
+    judges(
+        &rt,
+        alloc,
+        &Sketch {
+            quantile: 333_334,
+            ..spread
+        },
+        &[([Some(1)], middle)],
+    )?;
+    judges(
+        &rt,
+        alloc,
+        &Sketch {
+            quantile: 666_666,
+            ..spread
+        },
+        &[([Some(1)], middle)],
+    )?;
+    judges(
+        &rt,
+        alloc,
+        &Sketch {
+            quantile: 666_667,
+            ..spread
+        },
+        &[([Some(1)], greatest)],
+    )?;
+    Ok(())
+}
