@@ -17,6 +17,9 @@ use crate::unread::Unread;
 use std::alloc::{AllocError, Global};
 use std::marker::Model;
 
+#[cfg(test)]
+mod tests;
+
 /// What a call tells of the text.
 #[derive(Drop)]
 pub enum Pulled {

@@ -139,6 +139,7 @@ fn conclude(
 #[cfg(test)]
 mod tests {
     use super::*;
+    use crate::samples::samples;
     use crate::text::Text;
     use crate::tree::{Member, Node};
 
@@ -149,38 +150,7 @@ mod tests {
 
     #[test]
     fn texts_and_the_places_of_their_faults(rt: HostRuntime) {
-        let syntax = |at: u64| Err(TextFault::Syntax { at });
-        let deep = |at: u64| Err(TextFault::TooDeep { at });
-        let table: [(&[u8], Result<u64, TextFault>); 24] = [
-            (
-                b"{\"a\" : [1, -2.5e+3, \"\\u00e9\\ud83d\\ude00\", true] }",
-                Ok(49),
-            ),
-            (b" null ", Ok(5)),
-            (b"\"\xc3\xa9\"", Ok(4)),
-            (b"", syntax(0)),
-            (b"\xef\xbb\xbf1", syntax(0)),
-            (b"{\"T\":1,\"T\":2", syntax(12)),
-            (b"{\"T\":01}", syntax(6)),
-            (b"{\"T\":1}x", syntax(7)),
-            (b"[1,]", syntax(3)),
-            (b"\"ab", syntax(3)),
-            (b"-", syntax(1)),
-            (b"1.", syntax(2)),
-            (b"1e", syntax(2)),
-            (b"\"\\udc00\"", syntax(4)),
-            (b"\"\\ud800x", syntax(7)),
-            (b"\"\\ud800\"", syntax(7)),
-            (b"\"\\ud800\\u0041\"", syntax(9)),
-            (b"\"\xc0\x80\"", syntax(1)),
-            (b"\"\xed\xa0\x80\"", syntax(2)),
-            (b"[[[[[[[[[[[[[[[[", syntax(16)),
-            (b"[[[[[[[[[[[[[[[[[", deep(16)),
-            (b"{\"x\":[[[[[[[[[[[[[[[[", deep(20)),
-            (b"{\"x\":[[[[[[[[[[[[[[[", syntax(20)),
-            (b"[[[[[[[[[[[[[[[[]]]]]]]]]]]]]]]]", Ok(32)),
-        ];
-        for (bytes, want) in table {
+        for (bytes, want) in samples() {
             assert_eq!(rt; end_of(rt.alloc(), bytes), want);
         }
     }

@@ -1,0 +1,165 @@
+//! Texts in pieces. What is told is written as words: a sign for the kind, the offsets, and the text.
+
+ghost use Rattle.std.specs.Prelude.{◌<◌};
+ghost use Rattle.decimal_json.specs.Pulls.{IsUnfinished};
+
+use super::*;
+use crate::num_text::NumText;
+use crate::read::read_tree;
+use crate::samples::samples;
+use crate::tree::{Node, Tree};
+use std::fmt::Write;
+
+fn add(words: &mut String, kind: char, at: u64, end: u64, text: &str) -> Result<(), AllocError> {
+    write!(words, "{kind}{at}-{end}{text} ")
+}
+
+fn add_number(words: &mut String, at: u64, num: &NumText) -> Result<(), AllocError> {
+    let token = str::from_utf8(num.as_bytes()).unwrap_or("?");
+    add(words, '0', at, at.wrapping_add(token.len() as u64), token)
+}
+
+fn add_event(words: &mut String, event: &Event) -> Result<(), AllocError> {
+    match event {
+        Event::Begin { at, object: false } => add(words, '[', *at, at.wrapping_add(1), ""),
+        Event::Begin { at, object: true } => add(words, '{', *at, at.wrapping_add(1), ""),
+        Event::Finish { at } => add(words, ']', *at, at.wrapping_add(1), ""),
+        Event::Key { at, end, text } => add(words, 'k', *at, *end, text.as_str()),
+        Event::Null { at } => add(words, 'n', *at, at.wrapping_add(4), ""),
+        Event::Bool { at, value: true } => add(words, 'y', *at, at.wrapping_add(4), ""),
+        Event::Bool { at, value: false } => add(words, 'n', *at, at.wrapping_add(5), ""),
+        Event::Num { at, num } => add_number(words, *at, num),
+        Event::Text { at, end, text } => add(words, 't', *at, *end, text.as_str()),
+    }
+}
+
+fn add_tree(words: &mut String, tree: &Tree) -> Result<(), AllocError> {
+    let (at, end) = (tree.at, tree.end);
+    match &tree.node {
+        Node::Null => add(words, 'n', at, end, ""),
+        Node::Bool(true) => add(words, 'y', at, end, ""),
+        Node::Bool(false) => add(words, 'n', at, end, ""),
+        Node::Num(num) => add_number(words, at, num),
+        Node::Text(text) => add(words, 't', at, end, text.as_str()),
+        Node::List(items) => {
+            add(words, '[', at, at.wrapping_add(1), "")?;
+            for item in items {
+                add_tree(words, item)?;
+            }
+            add(words, ']', end.wrapping_sub(1), end, "")
+        }
+        Node::Object(members) => {
+            add(words, '{', at, at.wrapping_add(1), "")?;
+            for member in members {
+                add(words, 'k', member.at, member.end, member.key.as_str())?;
+                add_tree(words, &member.value)?;
+            }
+            add(words, ']', end.wrapping_sub(1), end, "")
+        }
+    }
+}
+
+/// Adds what is told before the end, and whether there is more to come or a fault.
+fn add_due(words: &mut String, pull: &mut Pull) -> Result<bool, AllocError>
+    requires { IsUnfinished pull.old }
+    ensures { IsUnfinished pull.new }
+{
+    for _ in 0..100 {
+        match pull.next_event() {
+            Ok(Pulled::Event(event)) => add_event(words, &event)?,
+            Ok(Pulled::More) => return Ok(true),
+            _ => return Ok(false),
+        }
+    }
+    Ok(false)
+}
+
+/// Adds what is told to the end.
+fn add_rest(words: &mut String, pull: &mut Pull) -> Result<(), TextFault> {
+    for _ in 0..100 {
+        match pull.finish()? {
+            Pulled::Event(event) => add_event(words, &event)?,
+            Pulled::Done => return Ok(()),
+            Pulled::More => return Err(TextFault::Memory),
+        }
+    }
+    Err(TextFault::Memory)
+}
+
+/// Adds all events of a text that is pushed in pieces of a size.
+fn add_pieces(words: &mut String, alloc: Global, bytes: &[u8], size: usize) -> Result<(), TextFault>
+    requires { 0 < size }
+{
+    let mut pull = Pull::make(alloc)?;
+    for piece in bytes.chunks(size) {
+        pull.push(piece)?;
+        add_due(words, &mut pull)?;
+    }
+    add_rest(words, &mut pull)
+}
+
+/// Adds all events of a text that is read as a whole.
+fn add_whole(words: &mut String, alloc: Global, bytes: &[u8]) -> Result<(), TextFault> {
+    add_tree(words, &read_tree(alloc, bytes)?)?;
+    Ok(())
+}
+
+#[test]
+fn pieces_of_each_size_give_the_events_of_the_tree_or_the_fault(rt: HostRuntime) {
+    let alloc = rt.alloc();
+    for (bytes, want) in samples() {
+        let mut whole = String::new(alloc);
+        let end = add_whole(&mut whole, alloc, bytes);
+        assert_eq!(rt; end, want.map(|_| ()));
+        for size in [1, 7, 100] {
+            let mut words = String::new(alloc);
+            let end = add_pieces(&mut words, alloc, bytes, size);
+            assert_eq!(rt; end, want.map(|_| ()));
+            if end.is_ok() {
+                assert_eq!(rt; words.as_str(), whole.as_str());
+            }
+        }
+    }
+}
+
+/// What is told of two pieces, behind each and at the end, and the fault there.
+fn answers(
+    alloc: Global,
+    pieces: [&[u8]; 3],
+) -> Result<(String, Result<(), TextFault>), AllocError> {
+    let mut words = String::new(alloc);
+    let mut pull = Pull::make(alloc)?;
+    for piece in pieces {
+        pull.push(piece)?;
+        let more = add_due(&mut words, &mut pull)?;
+        words.push_str(if more { ". " } else { "! " })?;
+    }
+    let end = add_rest(&mut words, &mut pull);
+    Ok((words, end))
+}
+
+#[test]
+fn events_are_told_as_soon_as_they_are_due(rt: HostRuntime) {
+    let syntax = |at: u64| Err(TextFault::Syntax { at });
+    let table: [([&[u8]; 3], &str, Result<(), TextFault>); 6] = [
+        ([b"\"", b"a", b"b"], ". . . ", syntax(3)),
+        ([b"12", b"", b""], ". . . 00-212 ", Ok(())),
+        ([b"[12", b"3", b"] "], "[0-1 . . 01-4123 ]4-5 . ", Ok(())),
+        (
+            [b"[1", b"01", b",2]"],
+            "[0-1 . . 01-4101 05-62 ]6-7 . ",
+            Ok(()),
+        ),
+        ([b"[0", b"1", b",2]"], "[0-1 . ! ! ", syntax(2)),
+        (
+            [b"{\"k\\", b"n\":\"\\u00", b"e9\"}"],
+            "{0-1 . k1-6k\n . t7-15\u{e9} ]15-16 . ",
+            Ok(()),
+        ),
+    ];
+    for (pieces, want, fault) in table {
+        let (words, end) = answers(rt.alloc(), pieces).expect(&rt, "memory");
+        assert_eq!(rt; words.as_str(), want);
+        assert_eq!(rt; end, fault);
+    }
+}
