@@ -1,5 +1,6 @@
 -- Defines the lists of risks that heads and the numbers behind them stand for.
-use Rattle.std.specs.Prelude.{◌≡◌, ℕ, ◌≤◌, ℤ, Bool, true, ◌||◌, List, [], ◌∷◌, ◌++◌, length, take, drop}
+use Rattle.std.specs.Prelude.{◌≡◌, ℕ, ◌≤◌, ℤ, Bool, true, ◌||◌, List, [], ◌∷◌, ◌++◌, length}
+use Rattle.std.specs.List.{slice_range}
 use Rattle.instance_rows.specs.declared.risk_lists.RiskHead.{RiskHead}
 use Rattle.instance_rows.specs.declared.risk_lists.RiskList.{RiskList}
 use Rattle.instance_rows.specs.FileRows.{RiskRow}
@@ -14,7 +15,7 @@ abbrev pub list_of : RiskHead → List RiskHead → List ℤ → RiskRow
 list_of h hs numbers = record {
   period = h.period;
   start = h.start;
-  values = drop h.first (take (end_before hs (length numbers)) numbers);
+  values = slice_range numbers h.first (end_before hs (length numbers));
   soft = h.soft;
 }
 

@@ -1,8 +1,9 @@
 //! The lists of risks of an intervention, in the order of the file.
 
-ghost use Rattle.std.specs.Prelude.{◌≡◌, ◌==◌, ◌<◌, [], ◌∷◌, ◌++◌, false, length, slice_index_or, OnOk, OnErr};
+ghost use Rattle.std.specs.Prelude.{◌≡◌, ◌==◌, ◌<◌, ◌≤◌, ◌+◌, [], ◌∷◌, ◌++◌, false, drop, length, slice_index_or, OnOk, OnErr};
 ghost use Rattle.instance_rows.specs.FileRows.{RiskRow};
-ghost use Rattle.instance_rows.specs.RiskLists.{add_to_last, last_soft, list_view};
+ghost use Rattle.std.specs.List.{slice_range};
+ghost use Rattle.instance_rows.specs.RiskLists.{add_to_last, end_before, last_soft, list_view};
 
 use fixed_num::Fixed;
 use std::alloc::{AllocError, Global};
@@ -104,18 +105,34 @@ impl RiskLists {
         ensures { (d : RiskRow) → list_view result ≡ slice_index_or self.now k d }
     {
         let head = self.heads[k];
-        let end = if k + 1 < self.heads.len() {
-            self.heads[k + 1].first
-        } else {
-            self.numbers.len()
-        };
+        let end = end_of(&self.heads, k, self.numbers.len());
         RiskList {
             period: head.period,
             start: head.start,
-            numbers: &self.numbers[head.first..end],
+            numbers: part(&self.numbers, head.first, end),
             soft: head.soft,
         }
     }
+}
+
+/// Where the numbers of list `k` end, of so many.
+fn end_of(heads: &[RiskHead], k: usize, count: usize) -> usize
+    requires { k < length heads.now }
+    ensures { result ≡ end_before (drop (k + 1) heads.now) count }
+{
+    match heads.get(k + 1) {
+        Some(next) => next.first,
+        None => count,
+    }
+}
+
+/// Some numbers from a place to another.
+fn part(numbers: &[Fixed], from: usize, to: usize) -> &[Fixed]
+    requires start { from ≤ to }
+    requires end { to ≤ length numbers.now }
+    ensures { result.now ≡ slice_range numbers.now from to }
+{
+    &numbers[from..to]
 }
 
 /// Marks the last list as soft.
