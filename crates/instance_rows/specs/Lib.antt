@@ -1,3 +1,5 @@
 pub mod FileRows
 pub mod RiskLists
+pub mod RowFaults
+pub mod RowTables
 pub mod Views

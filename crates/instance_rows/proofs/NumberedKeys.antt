@@ -1,0 +1,162 @@
+-- The keys of a text without a fault of shape: of periods and starts each number comes once.
+use Rattle.std.proofs.Common.{◌≡◌, ℕ, ◌==◌, ◌&&◌, ◌||◌, Bool, true, false, cond, not, List, [], ◌∷◌, ◌++◌, Option, Some, None, refl, sym, ◌∙◌, ap, subst, arith, bytes_eq, unwrap_or, nat_eq, append_assoc}
+use Rattle.std.proofs.lemmas.Bool.Decides.{nat_tests}
+use Rattle.std.proofs.lemmas.Slice.Eq.{bytes_eq-Decides}
+use Rattle.decimal_json.specs.Tree.{Tree, tree, Node, Members, no_members, and_member}
+use Rattle.instance_model.specs.declared.limits.Limits.{Limits}
+use Rattle.instance_shape.specs.declared.fault.Fault.{Fault}
+use Rattle.instance_shape.specs.declared.fault.Flaw.{Flaw}
+use Rattle.instance_shape.specs.declared.fault.Flaw.TheVariants as flaw
+use Rattle.instance_shape.specs.declared.fault.Known.{Known}
+use Rattle.instance_shape.specs.declared.spot.Spot.{Spot}
+use Rattle.instance_shape.specs.declared.spot.Kind.{Kind}
+use Rattle.instance_shape.specs.declared.spot.Kind.TheVariants as kind
+use Rattle.instance_shape.specs.Keys.{Key, by_text, by_number, text_of, number_of, is_digits, is_name, same_key, has_key, key_of, is_double}
+use Rattle.instance_shape.specs.Shape.{Placed, placed, placed_members, kind_of, required, under}
+use Rattle.instance_shape.specs.ShapeFaults.{where_so, values_faults, value_faults, tree_faults, own_faults, inside_faults, missing, keys_of, key_faults, keys_faults, first_past, key_limit, takes_names, takes_numbers}
+use Rattle.instance_shape.specs.LookUp.{Entry, entries, entry_list, first_value, at_key, known}
+
+pub clear_left : (xs ys : List Fault) → xs ++ ys ≡ [] → xs ≡ []
+clear_left [] ys h = refl
+clear_left (x ∷ xs) ys h = cc
+
+pub clear_right : (xs ys : List Fault) → xs ++ ys ≡ [] → ys ≡ []
+clear_right [] ys h = h
+clear_right (x ∷ xs) ys h = cc
+
+pub values_faults-append : (limits : Limits) (xs ys : List Placed) → values_faults limits (xs ++ ys) ≡ values_faults limits xs ++ values_faults limits ys
+values_faults-append limits [] ys = refl
+values_faults-append limits (x ∷ xs) ys = ap (λ r. value_faults limits x ++ r) (values_faults-append limits xs ys) ∙ sym (append_assoc (value_faults limits x) (values_faults limits xs) (values_faults limits ys))
+
+-- a value at a spot and all that is in it have no fault
+abbrev pub IsClear : Limits → Spot → Tree → Type 0
+IsClear limits s t = values_faults limits (placed s t) ≡ []
+
+-- the values under some keys have none
+abbrev pub AreClear : Limits → Spot → List Entry → Type 0
+AreClear limits s [] = Unit {0}
+AreClear limits s (e ∷ es) = IsClear limits (under s e.key) e.value × AreClear limits s es
+
+members_clear : (limits : Limits) (s : Spot) (ms : Members) → values_faults limits (placed_members s ms) ≡ [] → AreClear limits s (entry_list ms)
+members_clear limits s no_members h = tt
+members_clear limits s (and_member at end k t ms) h =
+    let all : values_faults limits (placed (under s k) t) ++ values_faults limits (placed_members s ms) ≡ [] = sym (values_faults-append limits (placed (under s k) t) (placed_members s ms)) ∙ h in
+    (clear_left (values_faults limits (placed (under s k) t)) _ all, members_clear limits s ms (clear_right (values_faults limits (placed (under s k) t)) _ all))
+
+pub entries_clear : (limits : Limits) (s : Spot) (t : Tree) → IsClear limits s t → AreClear limits s (entries t)
+entries_clear limits s (tree at end (Node.object ms)) h = members_clear limits s ms (clear_right (value_faults limits (record { spot = s; tree = tree at end (Node.object ms) })) _ h)
+entries_clear limits s (tree at end _) h = tt
+
+-- the faults at the keys of an object without a fault
+object_clear : (limits : Limits) (s : Spot) (at end : ℕ) (ms : Members) → IsClear limits s (tree at end (Node.object ms)) → keys_faults limits s [] ms ≡ []
+object_clear limits s at end ms h =
+    clear_left (keys_faults limits s [] ms) _
+    (clear_right (own_faults limits s at (Node.object ms)) _ (clear_left (tree_faults limits s (tree at end (Node.object ms))) (values_faults limits (placed_members s ms)) h))
+
+-- ---- what is found has what all have
+
+pub found_clear : (limits : Limits) (s q : Spot) (p : List ℕ → Bool) (es : List Entry) (v : Tree) → ((key : List ℕ) → p key ≡ true → under s key ≡ q) → AreClear limits s es → first_value p es ≡ Some v → IsClear limits q v
+found_clear limits s q p [] v f a h = cc
+found_clear limits s q p (e ∷ es) v f a h = by (p e.key) refl h (found_clear limits s q p es v f a.1)
+  where
+    by : (b : Bool) → p e.key ≡ b → cond b (Some e.value) (first_value p es) ≡ Some v → (first_value p es ≡ Some v → IsClear limits q v) → IsClear limits q v
+    by true i h r =
+        let same : e.value ≡ v = cc in
+        subst (λ (x : Tree). IsClear limits q x) same (subst (λ (x : Spot). IsClear limits x e.value) (f e.key i) a.0)
+    by false i h r = r h
+
+-- the value under a required key, or null where there is none
+pub known_clear : (limits : Limits) (s q : Spot) (k : Known) (t : Tree) (P : Tree → Type 0) → under s (text_of k) ≡ q → IsClear limits s t → P (tree 0 0 Node.null) → ((v : Tree) → IsClear limits q v → P v) → P (known k t)
+known_clear limits s q k t P u h n f = by (at_key (text_of k) t) refl
+  where
+    same : (key : List ℕ) → bytes_eq (text_of k) key ≡ true → under s key ≡ q
+    same key e = ap (under s) (sym ((bytes_eq-Decides (text_of k) key).0 e)) ∙ u
+
+    by : (o : Option Tree) → at_key (text_of k) t ≡ o → P (unwrap_or o (tree 0 0 Node.null))
+    by None e = n
+    by (Some v) e = f v (found_clear limits s q (bytes_eq (text_of k)) (entries t) v same (entries_clear limits s t h) e)
+
+-- ---- numbers
+
+-- no key has the number
+abbrev pub HasNot : ℕ → List Entry → Type 0
+HasNot n [] = Unit {0}
+HasNot n (e ∷ es) = ((number_of e.key == n) ≡ false) × HasNot n es
+
+-- every key is a number, and each number comes once
+abbrev pub AreNumbered : List Entry → Type 0
+AreNumbered [] = Unit {0}
+AreNumbered (e ∷ es) = (is_digits e.key ≡ true) × HasNot (number_of e.key) es × AreNumbered es
+
+where_none : (b : Bool) (at : ℕ) (f : Flaw) → where_so b at f ≡ [] → b ≡ false
+where_none true at f h = cc
+where_none false at f h = refl
+
+not_false : (b : Bool) → not b ≡ false → b ≡ true
+not_false true h = refl
+not_false false h = cc
+
+-- a period or start key without a fault
+record IsNew (earlier : List Key) (k : List ℕ) : Type 0 where
+  digits : is_digits k ≡ true
+  new : has_key earlier (by_number (number_of k)) ≡ false
+
+is_new : (limits : Limits) (s : Spot) (earlier : List Key) (at : ℕ) (k : List ℕ) → kind_of s ≡ kind.Numbers → key_faults limits s earlier at k ≡ [] → IsNew earlier k
+is_new limits s earlier at k i h =
+    let double = where_so (is_double earlier (key_of (kind_of s) k)) at flaw.Double in
+    let name = where_so (takes_names (kind_of s) && not (is_name k)) at flaw.BadName in
+    let shape = where_so (takes_numbers (kind_of s) && not (is_digits k)) at flaw.Shape in
+    let three = clear_left ((double ++ name) ++ shape) (first_past (key_limit limits s) _ at) h in
+    let shape_none = where_none (takes_numbers (kind_of s) && not (is_digits k)) at flaw.Shape (clear_right (double ++ name) shape three) in
+    let double_none = where_none (is_double earlier (key_of (kind_of s) k)) at flaw.Double (clear_left double name (clear_left (double ++ name) shape three)) in
+    let d : is_digits k ≡ true = not_false (is_digits k) (sym (ap (λ q. takes_numbers q && not (is_digits k)) i) ∙ shape_none) in
+    record {
+      digits = d;
+      new = sym (ap (λ b. has_key earlier (cond b (by_number (number_of k)) (by_text k))) d) ∙ sym (ap (λ q. is_double earlier (key_of q k)) i) ∙ double_none;
+    }
+
+has_key-append : (a b : List Key) (k : Key) → has_key (a ++ b) k ≡ has_key a k || has_key b k
+has_key-append [] b k = refl
+has_key-append (j ∷ a) b k = ap (λ x. same_key k j || x) (has_key-append a b k) ∙ sym (or_assoc (same_key k j) (has_key a k) (has_key b k))
+  where
+    or_assoc : (a b c : Bool) → (a || b) || c ≡ a || (b || c)
+    or_assoc true b c = refl
+    or_assoc false b c = refl
+
+or_left : (a b : Bool) → a ≡ true → a || b ≡ true
+or_left true b h = refl
+or_left false b h = cc
+
+or_right : (a b : Bool) → b ≡ true → a || b ≡ true
+or_right true b h = refl
+or_right false b h = h
+
+-- behind a key of the number there is no other
+has_not : (limits : Limits) (s : Spot) (earlier : List Key) (ms : Members) (n : ℕ) → kind_of s ≡ kind.Numbers → keys_faults limits s earlier ms ≡ [] → has_key earlier (by_number n) ≡ true → HasNot n (entry_list ms)
+has_not limits s earlier no_members n i h e = tt
+has_not limits s earlier (and_member at end k t ms) n i h e =
+    let new : IsNew earlier k = is_new limits s earlier at k i (clear_left (key_faults limits s earlier at k) _ h) in
+    (other (number_of k == n) refl new.new,
+    has_not limits s (earlier ++ key_of (kind_of s) k) ms n i (clear_right (key_faults limits s earlier at k) _ h) (has_key-append earlier (key_of (kind_of s) k) (by_number n) ∙ or_left (has_key earlier (by_number n)) _ e))
+  where
+    other : (b : Bool) → (number_of k == n) ≡ b → has_key earlier (by_number (number_of k)) ≡ false → b ≡ false
+    other true j f = let q : number_of k ≡ n = grind (arith, nat_tests) in sym e ∙ ap (λ m. has_key earlier (by_number m)) (sym q) ∙ f
+    other false j f = refl
+
+same_number : (n : ℕ) → nat_eq n n ≡ true
+same_number n = grind (arith, nat_tests)
+
+numbered : (limits : Limits) (s : Spot) (earlier : List Key) (ms : Members) → kind_of s ≡ kind.Numbers → keys_faults limits s earlier ms ≡ [] → AreNumbered (entry_list ms)
+numbered limits s earlier no_members i h = tt
+numbered limits s earlier (and_member at end k t ms) i h =
+    let new : IsNew earlier k = is_new limits s earlier at k i (clear_left (key_faults limits s earlier at k) _ h) in
+    let rest = clear_right (key_faults limits s earlier at k) _ h in
+    let mine : key_of (kind_of s) k ≡ by_number (number_of k) ∷ [] = ap (λ q. key_of q k) i ∙ ap (λ b. cond b (by_number (number_of k)) (by_text k) ∷ []) new.digits in
+    let here : has_key (earlier ++ key_of (kind_of s) k) (by_number (number_of k)) ≡ true =
+    has_key-append earlier (key_of (kind_of s) k) (by_number (number_of k))
+    ∙ or_right (has_key earlier (by_number (number_of k))) _ (ap (λ q. has_key q (by_number (number_of k))) mine ∙ or_left (nat_eq (number_of k) (number_of k)) false (same_number (number_of k))) in
+    (new.digits, has_not limits s (earlier ++ key_of (kind_of s) k) ms (number_of k) i rest here, numbered limits s (earlier ++ key_of (kind_of s) k) ms i rest)
+
+pub entries_numbered : (limits : Limits) (s : Spot) (t : Tree) → kind_of s ≡ kind.Numbers → IsClear limits s t → AreNumbered (entries t)
+entries_numbered limits s (tree at end (Node.object ms)) i h = numbered limits s [] ms i (object_clear limits s at end ms h)
+entries_numbered limits s (tree at end _) i h = tt
