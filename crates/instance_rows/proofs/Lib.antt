@@ -1,3 +1,4 @@
+pub mod TableLaw
 pub mod Firsts
 pub mod FaultLaw
 pub mod Same

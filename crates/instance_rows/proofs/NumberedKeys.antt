@@ -135,9 +135,10 @@ or_right false b h = h
 has_not : (limits : Limits) (s : Spot) (earlier : List Key) (ms : Members) (n : ℕ) → kind_of s ≡ kind.Numbers → keys_faults limits s earlier ms ≡ [] → has_key earlier (by_number n) ≡ true → HasNot n (entry_list ms)
 has_not limits s earlier no_members n i h e = tt
 has_not limits s earlier (and_member at end k t ms) n i h e =
-    let new : IsNew earlier k = is_new limits s earlier at k i (clear_left (key_faults limits s earlier at k) _ h) in
-    (other (number_of k == n) refl new.new,
-    has_not limits s (earlier ++ key_of (kind_of s) k) ms n i (clear_right (key_faults limits s earlier at k) _ h) (has_key-append earlier (key_of (kind_of s) k) (by_number n) ∙ or_left (has_key earlier (by_number n)) _ e))
+    let new : IsNew earlier k = is_new limits s earlier at k i (clear_left (key_faults limits s earlier at k) _ h) in (
+      other (number_of k == n) refl new.new,
+      has_not limits s (earlier ++ key_of (kind_of s) k) ms n i (clear_right (key_faults limits s earlier at k) _ h) (has_key-append earlier (key_of (kind_of s) k) (by_number n) ∙ or_left (has_key earlier (by_number n)) _ e),
+    )
   where
     other : (b : Bool) → (number_of k == n) ≡ b → has_key earlier (by_number (number_of k)) ≡ false → b ≡ false
     other true j f = let q : number_of k ≡ n = grind (arith, nat_tests) in sym e ∙ ap (λ m. has_key earlier (by_number m)) (sym q) ∙ f
