@@ -1,3 +1,5 @@
+pub mod Turns
+pub mod Telling
 pub mod TableLaw
 pub mod Firsts
 pub mod FaultLaw

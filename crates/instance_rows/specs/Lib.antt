@@ -1,5 +1,7 @@
+pub mod Answers
 pub mod FileRows
 pub mod RiskLists
 pub mod RowFaults
 pub mod RowTables
+pub mod Sound
 pub mod Views

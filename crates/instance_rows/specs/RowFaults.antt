@@ -68,17 +68,29 @@ exclusion_fault rows words = first_of 3 (word_fault rows words)
 abbrev pub scenarios_fault : FileRows → Option CrossFault
 scenarios_fault rows = unless (length rows.scenarios == rows.periods) scenario_list
 
+-- of resource i
+abbrev pub band_fault_at : FileRows → ℕ → Option CrossFault
+band_fault_at rows i = band_fault rows.periods (slice_index_or rows.resources i []) (slice_index_or rows.bands i no_band)
+
+-- of intervention i
+abbrev pub work_fault_at : FileRows → ℕ → Option CrossFault
+work_fault_at rows i = work_fault rows (slice_index_or rows.interventions i []) (slice_index_or rows.works i no_work)
+
+-- of exclusion i
+abbrev pub exclusion_fault_at : FileRows → ℕ → Option CrossFault
+exclusion_fault_at rows i = exclusion_fault rows (slice_index_or rows.exclusion_words i [])
+
 -- the first of the resources
 abbrev pub bands_fault : FileRows → Option CrossFault
-bands_fault rows = first_of (length rows.bands) (λ i. band_fault rows.periods (slice_index_or rows.resources i []) (slice_index_or rows.bands i no_band))
+bands_fault rows = first_of (length rows.bands) (band_fault_at rows)
 
 -- the first of the interventions
 abbrev pub works_fault : FileRows → Option CrossFault
-works_fault rows = first_of (length rows.works) (λ i. work_fault rows (slice_index_or rows.interventions i []) (slice_index_or rows.works i no_work))
+works_fault rows = first_of (length rows.works) (work_fault_at rows)
 
 -- the first of the exclusions
 abbrev pub exclusions_fault : FileRows → Option CrossFault
-exclusions_fault rows = first_of (length rows.exclusion_words) (λ i. exclusion_fault rows (slice_index_or rows.exclusion_words i []))
+exclusions_fault rows = first_of (length rows.exclusion_words) (exclusion_fault_at rows)
 
 -- the first fault across the file
 abbrev pub rows_fault : FileRows → Option CrossFault

@@ -1,8 +1,12 @@
 //! From the rows that a reader keeps of a file to the instance that they define, or to the first fault across the file.
 #![tactic(auto)]
 
+mod checks;
+mod fault;
+mod names;
 mod risk_lists;
 mod rows;
 
+pub use fault::{CrossFault, RowsFault};
 pub use risk_lists::{RiskList, RiskLists};
 pub use rows::{Bands, FileRows, Load, Work, Workload};
