@@ -1,3 +1,4 @@
+pub mod GridLemmas
 pub mod Turns
 pub mod Telling
 pub mod TableLaw

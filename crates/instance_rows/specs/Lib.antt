@@ -1,5 +1,6 @@
 pub mod Answers
 pub mod FileRows
+pub mod Grid
 pub mod RiskLists
 pub mod RowFaults
 pub mod RowTables

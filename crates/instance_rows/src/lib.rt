@@ -3,6 +3,7 @@
 
 mod checks;
 mod fault;
+mod grid;
 mod names;
 mod risk_lists;
 mod rows;
