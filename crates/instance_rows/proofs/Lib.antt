@@ -1,3 +1,4 @@
+pub mod Places
 pub mod GridLemmas
 pub mod Turns
 pub mod Telling

@@ -6,6 +6,7 @@ use Rattle.std.proofs.lemmas.Grind.{flat_map-append}
 use Rattle.std.proofs.Math.Seq.{drop-cons, take-suc}
 use Rattle.instance_model.specs.Rules.{or_else}
 use Rattle.instance_shape.specs.CrossFaults.{CrossFault, first_in}
+use Rattle.instance_shape.specs.FileTables.{lists_below}
 use Rattle.instance_rows.specs.declared.fault.RowsFault.{RowsFault}
 use Rattle.instance_rows.specs.Answers.{TellsFault}
 use Rattle.instance_rows.proofs.Firsts.{first_in-append, or_else_none, or_else_some}
@@ -36,3 +37,6 @@ told_in f v xs i x e h is none t =
 
 pub mapped_more : {X Y : Type 0} (v : X → Y) (xs : List X) (i : ℕ) (x : X) → i < length xs → x ≡ get_or xs i x → map v (take (i + 1) xs) ≡ map v (take i xs) ++ v x ∷ []
 mapped_more v xs i x h e = ap (map v) (taken_more xs i x h e) ∙ map-append v (take i xs) (x ∷ [])
+
+pub lists_more : {A : Type 0} (n : ℕ) (f : ℕ → List A) → lists_below (n + 1) f ≡ lists_below n f ++ f n
+lists_more n f = ap (λ k. lists_below k f) (add-one n)

@@ -31,6 +31,10 @@ one_or_none (Some k) = k ∷ []
 abbrev pub run_order : List RiskRow → ℕ → ℕ → List ℕ
 run_order risks s d = lists_below d (λ j. one_or_none (place_of risks s (s + j)))
 
--- the numbers of the lists that the allowed runs take, by start, then period
+-- the numbers of the lists that the allowed runs with these durations take, by start, then period
+abbrev pub runs_order : ℕ → List ℕ → List RiskRow → List ℕ
+runs_order periods ds risks = each_run periods ds (λ s t. one_or_none (place_of risks s t))
+
+-- of an intervention
 abbrev pub order_of : ℕ → WorkRow → List ℕ
-order_of periods w = each_run periods (used_durations w) (λ s t. one_or_none (place_of w.risks s t))
+order_of periods w = runs_order periods (used_durations w) w.risks

@@ -10,9 +10,9 @@ use std::alloc::{AllocError, Global};
 /// For each start, then period, the number of the first list there is.
 #[derive(Drop)]
 pub struct Grid {
-    starts: u32,
-    periods: u32,
-    places: Vec<Option<usize>>,
+    pub starts: u32,
+    pub periods: u32,
+    pub places: Vec<Option<usize>>,
 }
 
 impl Grid {

@@ -5,6 +5,7 @@ mod checks;
 mod fault;
 mod grid;
 mod names;
+mod order;
 mod risk_lists;
 mod rows;
 
