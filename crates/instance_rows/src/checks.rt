@@ -1,6 +1,6 @@
 //! The faults of scenarios, resources, starts and workloads.
 
-ghost use Rattle.std.specs.Prelude.{◌≡◌, ◌≤◌, length, map, string_bytes};
+ghost use Rattle.std.specs.Prelude.{◌≡◌, ◌≤◌, OnOk, length, map, string_bytes, vec_len};
 ghost use Rattle.instance_model.specs.Rules.{or_else};
 ghost use Rattle.instance_shape.specs.CrossFaults.{first_in};
 ghost use Rattle.instance_rows.specs.Answers.{Tells};
@@ -51,7 +51,9 @@ fn check_band(alloc: Global, periods: u32, name: &str, bands: &Bands) -> Result<
 
 /// `tmax` of an intervention is a period, and there are as many durations.
 pub fn check_starts(alloc: Global, periods: u32, name: &str, work: &Work) -> Result<(), RowsFault>
-    ensures { Tells (or_else (fault.tmax_fault periods name.now (work_view work.now)) (fault.delta_fault name.now (work_view work.now))) result }
+    ensures told { Tells (or_else (fault.tmax_fault periods name.now (work_view work.now)) (fault.delta_fault name.now (work_view work.now))) result }
+    ensures starts { OnOk result (work.now.tmax ≤ periods) }
+    ensures listed { OnOk result (work.now.tmax ≤ vec_len work.now.durations) }
 {
     if work.tmax == 0 || work.tmax > periods {
         return Err(RowsFault::Across(CrossFault::BadTmax(name.to_string(alloc)?)));

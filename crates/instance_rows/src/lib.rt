@@ -2,12 +2,14 @@
 #![tactic(auto)]
 
 mod checks;
+mod exclusions;
 mod fault;
 mod grid;
 mod names;
 mod order;
 mod risk_lists;
 mod rows;
+mod works;
 
 pub use fault::{CrossFault, RowsFault};
 pub use risk_lists::{RiskList, RiskLists};
