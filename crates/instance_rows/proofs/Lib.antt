@@ -1,3 +1,4 @@
+pub mod SeasonLemmas
 pub mod Places
 pub mod GridLemmas
 pub mod Turns

@@ -1,5 +1,5 @@
 -- One turn of a loop over a list.
-use Rattle.std.proofs.Common.{◌≡◌, ℕ, suc, ◌+◌, ◌<◌, List, [], ◌∷◌, ◌++◌, map, length, take, drop, get_or, Option, Some, None, refl, sym, ◌∙◌, ap, subst, add-one, append_assoc}
+use Rattle.std.proofs.Common.{◌≡◌, ℕ, suc, ◌+◌, ◌<◌, List, [], ◌∷◌, ◌++◌, map, length, take, drop, get_or, Option, Some, None, refl, sym, ◌∙◌, ap, subst, add-one, append_assoc, append-nil}
 use Rattle.std.specs.Prelude.{flat_map}
 use Rattle.std.proofs.lemmas.List.{take-append-drop, map-append}
 use Rattle.std.proofs.lemmas.Grind.{flat_map-append}
@@ -40,3 +40,8 @@ mapped_more v xs i x h e = ap (map v) (taken_more xs i x h e) ∙ map-append v (
 
 pub lists_more : {A : Type 0} (n : ℕ) (f : ℕ → List A) → lists_below (n + 1) f ≡ lists_below n f ++ f n
 lists_more n f = ap (λ k. lists_below k f) (add-one n)
+
+pub joined_more : {X Y Z : Type 0} (g : Y → List Z) (v : X → Y) (xs : List X) (i : ℕ) (x : X) → i < length xs → x ≡ get_or xs i x
+    → flat_map g (map v (take (i + 1) xs)) ≡ flat_map g (map v (take i xs)) ++ g (v x)
+joined_more g v xs i x h e =
+    ap (flat_map g) (mapped_more v xs i x h e) ∙ flat_map-append g (map v (take i xs)) (v x ∷ []) ∙ ap (λ q. flat_map g (map v (take i xs)) ++ q) (append-nil (g (v x)))

@@ -5,10 +5,12 @@ mod checks;
 mod exclusions;
 mod fault;
 mod grid;
+mod limits;
 mod names;
 mod order;
 mod risk_lists;
 mod rows;
+mod seasons;
 mod works;
 
 pub use fault::{CrossFault, RowsFault};
