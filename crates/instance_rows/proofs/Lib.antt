@@ -1,3 +1,8 @@
+pub mod CellTurns
+pub mod CellLaw
+pub mod CellMembers
+pub mod CellOrder
+pub mod Ascending
 pub mod SeasonLemmas
 pub mod Places
 pub mod GridLemmas

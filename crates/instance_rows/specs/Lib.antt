@@ -1,4 +1,5 @@
 pub mod Answers
+pub mod Cells
 pub mod FileRows
 pub mod Grid
 pub mod RiskLists

@@ -1,6 +1,7 @@
 //! From the rows that a reader keeps of a file to the instance that they define, or to the first fault across the file.
 #![tactic(auto)]
 
+mod cells;
 mod checks;
 mod exclusions;
 mod fault;
