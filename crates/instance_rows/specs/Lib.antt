@@ -1,6 +1,7 @@
 pub mod Answers
 pub mod Cells
 pub mod FileRows
+pub mod Filled
 pub mod Grid
 pub mod RiskLists
 pub mod RowFaults

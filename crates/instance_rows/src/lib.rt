@@ -5,6 +5,7 @@ mod cells;
 mod checks;
 mod exclusions;
 mod fault;
+mod fill;
 mod grid;
 mod limits;
 mod names;
