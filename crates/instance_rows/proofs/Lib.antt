@@ -1,3 +1,4 @@
+pub mod SoundLaw
 pub mod OrderLaw
 pub mod CellTurns
 pub mod CellLaw

@@ -48,7 +48,7 @@ entries_clear limits s (tree at end (Node.object ms)) h = members_clear limits s
 entries_clear limits s (tree at end _) h = tt
 
 -- the faults at the keys of an object without a fault
-object_clear : (limits : Limits) (s : Spot) (at end : ℕ) (ms : Members) → IsClear limits s (tree at end (Node.object ms)) → keys_faults limits s [] ms ≡ []
+pub object_clear : (limits : Limits) (s : Spot) (at end : ℕ) (ms : Members) → IsClear limits s (tree at end (Node.object ms)) → keys_faults limits s [] ms ≡ []
 object_clear limits s at end ms h =
     clear_left (keys_faults limits s [] ms) _
     (clear_right (own_faults limits s at (Node.object ms)) _ (clear_left (tree_faults limits s (tree at end (Node.object ms))) (values_faults limits (placed_members s ms)) h))
@@ -88,7 +88,7 @@ abbrev pub AreNumbered : List Entry → Type 0
 AreNumbered [] = Unit {0}
 AreNumbered (e ∷ es) = (is_digits e.key ≡ true) × HasNot (number_of e.key) es × AreNumbered es
 
-where_none : (b : Bool) (at : ℕ) (f : Flaw) → where_so b at f ≡ [] → b ≡ false
+pub where_none : (b : Bool) (at : ℕ) (f : Flaw) → where_so b at f ≡ [] → b ≡ false
 where_none true at f h = cc
 where_none false at f h = refl
 
@@ -115,7 +115,7 @@ is_new limits s earlier at k i h =
       new = sym (ap (λ b. has_key earlier (cond b (by_number (number_of k)) (by_text k))) d) ∙ sym (ap (λ q. is_double earlier (key_of q k)) i) ∙ double_none;
     }
 
-has_key-append : (a b : List Key) (k : Key) → has_key (a ++ b) k ≡ has_key a k || has_key b k
+pub has_key-append : (a b : List Key) (k : Key) → has_key (a ++ b) k ≡ has_key a k || has_key b k
 has_key-append [] b k = refl
 has_key-append (j ∷ a) b k = ap (λ x. same_key k j || x) (has_key-append a b k) ∙ sym (or_assoc (same_key k j) (has_key a k) (has_key b k))
   where
@@ -123,11 +123,11 @@ has_key-append (j ∷ a) b k = ap (λ x. same_key k j || x) (has_key-append a b 
     or_assoc true b c = refl
     or_assoc false b c = refl
 
-or_left : (a b : Bool) → a ≡ true → a || b ≡ true
+pub or_left : (a b : Bool) → a ≡ true → a || b ≡ true
 or_left true b h = refl
 or_left false b h = cc
 
-or_right : (a b : Bool) → b ≡ true → a || b ≡ true
+pub or_right : (a b : Bool) → b ≡ true → a || b ≡ true
 or_right true b h = refl
 or_right false b h = h
 
