@@ -1,3 +1,4 @@
+pub mod ReadyLaw
 pub mod SoundLaw
 pub mod OrderLaw
 pub mod CellTurns

@@ -22,11 +22,12 @@ use Rattle.instance_shape.specs.Keys.{Key, by_text, has_key, key_of, is_double, 
 use Rattle.instance_shape.specs.LookUp.{Entry, entries, entry_list, keys, known, whole_at, periods, interventions}
 use Rattle.instance_shape.specs.Shape.{placed, kind_of}
 use Rattle.instance_shape.specs.ShapeFaults.{where_so, values_faults, value_faults, own_faults, key_faults, keys_faults, first_past, key_limit, takes_names, takes_numbers, outside, shape_faults}
+use Rattle.instance_shape.specs.Ranges.{AreStandard}
 use Rattle.instance_rows.specs.declared.rows.FileRows as declared
 use Rattle.instance_rows.specs.FileRows.{LoadRow, WorkloadRow, WorkRow, band_row, load_row, load_rows, workload_row, work_row, rows_of}
 use Rattle.instance_rows.specs.RowTables.{is_load_at}
 use Rattle.instance_rows.specs.Sound.{AreLoadsApart, AreWorkloadsApart, AreWorksApart, AreSound}
-use Rattle.instance_rows.specs.Views.{AreStandard, AreRowsOf, rows_view}
+use Rattle.instance_rows.specs.Views.{AreRowsOf, rows_view}
 use Rattle.instance_rows.proofs.FaultLaw.{interventions_clear}
 use Rattle.instance_rows.proofs.NumberedKeys.{clear_left, clear_right, where_none, IsClear, AreClear, HasNot, AreNumbered, entries_clear, entries_numbered, object_clear, known_clear, has_key-append, or_left, or_right}
 
@@ -67,9 +68,10 @@ bytes_same a b h = (bytes_eq-Decides a b).0 h
 has_no_name : (limits : Limits) (s : Spot) (earlier : List Key) (ms : Members) (n : List ℕ) → kind_of s ≡ kind.Names → keys_faults limits s earlier ms ≡ [] → has_key earlier (by_text n) ≡ true → HasNoName n (entry_list ms)
 has_no_name limits s earlier no_members n i h e = tt
 has_no_name limits s earlier (and_member at end k t ms) n i h e =
-    let new : IsNewName limits s earlier at k = is_new_name limits s earlier at k i (clear_left (key_faults limits s earlier at k) _ h) in
-    (other (bytes_eq n k) refl new.new,
-    has_no_name limits s (earlier ++ key_of (kind_of s) k) ms n i (clear_right (key_faults limits s earlier at k) _ h) (has_key-append earlier (key_of (kind_of s) k) (by_text n) ∙ or_left (has_key earlier (by_text n)) _ e))
+    let new : IsNewName limits s earlier at k = is_new_name limits s earlier at k i (clear_left (key_faults limits s earlier at k) _ h) in (
+      other (bytes_eq n k) refl new.new,
+      has_no_name limits s (earlier ++ key_of (kind_of s) k) ms n i (clear_right (key_faults limits s earlier at k) _ h) (has_key-append earlier (key_of (kind_of s) k) (by_text n) ∙ or_left (has_key earlier (by_text n)) _ e),
+    )
   where
     other : (b : Bool) → bytes_eq n k ≡ b → has_key earlier (by_text k) ≡ false → b ≡ false
     other true j f = sym e ∙ ap (λ m. has_key earlier (by_text m)) (bytes_same n k j) ∙ f
@@ -153,11 +155,12 @@ none_later t s (e ∷ es) h =
 -- the workloads of a period stand before those of the others
 apart_append : (n : ℕ) (es : List Entry) (ls : List LoadRow) → AreNumbered es → ((s : ℕ) → find (is_load_at n s) ls ≡ None) → AreLoadsApart ls → AreLoadsApart (map (load_row n) es ++ ls)
 apart_append n [] ls a b h = h
-apart_append n (e ∷ es) ls a b h =
-    (find-append (is_load_at n (number_of e.key)) (map (load_row n) es) ls
-        ∙ ap (λ o. option_or o (find (is_load_at n (number_of e.key)) ls)) (none_here n n (number_of e.key) es a.1)
-        ∙ b (number_of e.key),
-    apart_append n es ls a.2 b h)
+apart_append n (e ∷ es) ls a b h = (
+  find-append (is_load_at n (number_of e.key)) (map (load_row n) es) ls
+      ∙ ap (λ o. option_or o (find (is_load_at n (number_of e.key)) ls)) (none_here n n (number_of e.key) es a.1)
+      ∙ b (number_of e.key),
+  apart_append n es ls a.2 b h,
+)
 
 loads_apart : (limits : Limits) (es : List Entry) → AreNumbered es → AreClear limits spot.WorkloadResource es → AreLoadsApart (load_rows es)
 loads_apart limits [] a c = tt

@@ -21,7 +21,7 @@ use Rattle.instance_rows.proofs.Findings.{list_row, one_load, risk_found, load_f
 use Rattle.instance_rows.proofs.NumberedKeys.{IsClear, AreClear}
 use Rattle.instance_rows.proofs.Same.{same_tables}
 
-map-map : {A B C : Type 0} (g : B → C) (f : A → B) (xs : List A) → map g (map f xs) ≡ map (λ x. g (f x)) xs
+pub map-map : {A B C : Type 0} (g : B → C) (f : A → B) (xs : List A) → map g (map f xs) ≡ map (λ x. g (f x)) xs
 map-map g f [] = refl
 map-map g f (x ∷ xs) = ap (λ r. g (f x) ∷ r) (map-map g f xs)
 

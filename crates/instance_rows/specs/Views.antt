@@ -1,8 +1,8 @@
 -- Defines which rows Rust's rows are, and when they are those of a text.
-use Rattle.std.specs.Prelude.{◌≡◌, ℕ, ◌≤◌, List, [], map, string_bytes}
+use Rattle.std.specs.Prelude.{◌≡◌, [], map, string_bytes}
 use Rattle.decimal_json.specs.Tree.{Tree}
 use Rattle.instance_model.specs.declared.limits.Limits.{Limits}
-use Rattle.instance_model.specs.Limits.{standard_limits}
+use Rattle.instance_shape.specs.Ranges.{AreStandard}
 use Rattle.instance_shape.specs.ShapeFaults.{shape_faults}
 use Rattle.instance_rows.specs.declared.rows.Bands.{Bands}
 use Rattle.instance_rows.specs.declared.rows.Load.{Load}
@@ -45,18 +45,7 @@ rows_view r = record {
   rounded = r.rounded;
 }
 
--- no limit on what stands in an instance is above the standard one
-pub record AreStandard (limits : Limits) : Type 0 where
-  pub periods : limits.periods ≤ standard_limits.periods
-  pub resources : limits.resources ≤ standard_limits.resources
-  pub interventions : limits.interventions ≤ standard_limits.interventions
-  pub scenarios : limits.scenarios ≤ standard_limits.scenarios
-  pub seasons : limits.seasons ≤ standard_limits.seasons
-  pub exclusions : limits.exclusions ≤ standard_limits.exclusions
-  pub risk_cells : limits.risk_cells ≤ standard_limits.risk_cells
-  pub workload_entries : limits.workload_entries ≤ standard_limits.workload_entries
-
--- these are the rows of a text that has no fault of shape
+-- these are the rows of a text that has no fault of shape, under limits that are at most the standard ones
 pub record AreRowsOf (limits : Limits) (root : Tree) (rows : declared.FileRows) : Type 0 where
   pub shaped : shape_faults limits root ≡ []
   pub standard : AreStandard limits

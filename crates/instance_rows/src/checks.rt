@@ -16,7 +16,8 @@ use std::alloc::Global;
 
 /// There is one number of scenarios for each period.
 pub fn check_scenarios(rows: &FileRows) -> Result<(), RowsFault>
-    ensures { Tells (fault.scenarios_fault (rows_view rows.now)) result }
+    ensures told { Tells (fault.scenarios_fault (rows_view rows.now)) result }
+    ensures each { OnOk result (vec_len rows.now.scenarios ≡ rows.now.periods) }
 {
     if rows.scenarios.len() == rows.periods as usize {
         Ok(())

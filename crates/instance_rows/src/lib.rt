@@ -1,6 +1,7 @@
 //! From the rows that a reader keeps of a file to the instance that they define, or to the first fault across the file.
 #![tactic(auto)]
 
+mod assembly;
 mod cells;
 mod checks;
 mod exclusions;
@@ -15,6 +16,7 @@ mod rows;
 mod seasons;
 mod works;
 
+pub use assembly::assemble;
 pub use fault::{CrossFault, RowsFault};
 pub use risk_lists::{RiskList, RiskLists};
 pub use rows::{Bands, FileRows, Load, Work, Workload};
