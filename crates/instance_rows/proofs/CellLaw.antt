@@ -1,5 +1,5 @@
 -- The load cells that are kept, in order, are those of the table.
-use Rattle.std.proofs.Common.{◌≡◌, ◌≢◌, ℕ, zero, suc, ◌+◌, ◌<◌, ◌≤◌, ◌==◌, ◌&&◌, ◌⊎◌, inl, inr, Bool, true, false, cond, List, [], ◌∷◌, ◌++◌, length, get_or, Option, Some, None, refl, sym, ◌∙◌, ap, subst, arith, bytes_eq}
+use Rattle.std.proofs.Common.{◌≡◌, ◌≢◌, ℕ, zero, suc, ◌+◌, ◌<◌, ◌≤◌, ◌==◌, ◌&&◌, inl, inr, Bool, true, false, cond, List, [], ◌∷◌, length, get_or, Option, Some, None, refl, sym, ◌∙◌, ap, arith, bytes_eq}
 use Rattle.std.specs.Prelude.{find, position, AllPairs, IsPermutation, Contains}
 use Rattle.std.specs.List.Sorted.{IsSortedBy}
 use Rattle.std.proofs.lemmas.Bool.Decides.{nat_tests}
@@ -13,9 +13,9 @@ use Rattle.instance_rows.specs.Cells.{runs_in, load_cell, kept, kept_of, all_kep
 use Rattle.instance_rows.specs.FileRows.{LoadRow, WorkloadRow}
 use Rattle.instance_rows.specs.RowTables.{each_run, is_load_at, cells_at}
 use Rattle.instance_rows.specs.Sound.{AreLoadsApart, AreWorkloadsApart}
-use Rattle.instance_rows.proofs.Ascending.{Among, Rises, same_members}
+use Rattle.instance_rows.proofs.Ascending.{Among, same_members}
 use Rattle.instance_rows.proofs.CellOrder.{weight, weight-nil, weight-cons, weight-append, weight_moved, cell_asym, rises_sorted}
-use Rattle.instance_rows.proofs.CellMembers.{load_is_at, none_passes, IsCell, table_member, member_table, table_rises, kept_is_cell, cell_is_kept}
+use Rattle.instance_rows.proofs.CellMembers.{load_is_at, none_passes, table_member, member_table, table_rises, kept_is_cell, cell_is_kept}
 
 -- ---- each key once
 

@@ -1,5 +1,5 @@
 -- Which load cells are in the table of an intervention, and which are kept of its workloads: the same, each once.
-use Rattle.std.proofs.Common.{◌≡◌, ◌≢◌, ℕ, zero, suc, ℤ, ◌+◌, ◌-◌, ◌<◌, ◌≤◌, ◌==◌, ◌&&◌, ◌⊎◌, inl, inr, Bool, true, false, cond, List, [], ◌∷◌, ◌++◌, length, get_or, Option, Some, None, refl, sym, ◌∙◌, ap, subst, arith, bytes_eq, nat_lt, nat_le}
+use Rattle.std.proofs.Common.{◌≡◌, ◌≢◌, ℕ, ℤ, ◌+◌, ◌-◌, ◌<◌, ◌≤◌, ◌==◌, ◌&&◌, ◌⊎◌, inl, inr, Bool, true, false, cond, List, [], ◌∷◌, length, get_or, Option, Some, None, refl, sym, ◌∙◌, ap, subst, arith, bytes_eq, nat_lt, nat_le}
 use Rattle.std.specs.Prelude.{find, position, slice_index, AllPairs}
 use Rattle.std.specs.List.{position_or_len}
 use Rattle.std.proofs.lemmas.Bool.Decides.{nat_tests}
@@ -8,14 +8,13 @@ use Rattle.std.proofs.lemmas.List.Sums.{position_or_len_is}
 use Rattle.std.proofs.lemmas.Slice.Eq.{bytes_eq-Decides}
 use Rattle.instance_model.specs.declared.parts.LoadCell.{LoadCell}
 use Rattle.instance_model.specs.Fitting.{CellBefore}
-use Rattle.instance_model.specs.Tables.{allowed_of, is_cell_of}
+use Rattle.instance_model.specs.Tables.{allowed_of}
 use Rattle.instance_shape.specs.FileTables.{lists_below}
 use Rattle.instance_rows.specs.Cells.{runs_in, load_cell, kept, kept_of, all_kept}
 use Rattle.instance_rows.specs.FileRows.{LoadRow, WorkloadRow}
 use Rattle.instance_rows.specs.RowTables.{each_run, is_load_at, loads_of, load_at, cell_of, cells_at}
 use Rattle.instance_rows.specs.Sound.{AreLoadsApart, AreWorkloadsApart}
 use Rattle.instance_rows.proofs.Ascending.{Among, Rises, among_left, among_right, among_either, among_lists, lists_among, rises_lists, among_choice, choice_among, rises_choice}
-use Rattle.instance_rows.proofs.CellOrder.{weight, weight-nil, weight-cons, weight-append, IsOnce}
 
 both : (a b : Bool) → a && b ≡ true → (a ≡ true) × (b ≡ true)
 both true b h = (refl, h)

@@ -1,5 +1,5 @@
 -- The load cells that are kept, after one workload more.
-use Rattle.std.proofs.Common.{◌≡◌, ℕ, ◌+◌, ◌<◌, List, [], ◌∷◌, ◌++◌, Bool, Option, cond, map, length, take, get_or, refl, sym, ◌∙◌, ap, append_assoc, append-nil, bytes_eq}
+use Rattle.std.proofs.Common.{◌≡◌, ℕ, ◌+◌, ◌<◌, List, [], ◌∷◌, ◌++◌, cond, map, length, take, get_or, refl, sym, ◌∙◌, ap, append_assoc, append-nil, bytes_eq}
 use Rattle.std.specs.Prelude.{position}
 use Rattle.instance_rows.specs.Cells.{runs_in, load_cell, kept, kept_of, all_kept}
 use Rattle.instance_rows.specs.FileRows.{LoadRow, WorkloadRow}

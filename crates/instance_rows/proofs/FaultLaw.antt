@@ -1,25 +1,25 @@
 -- The first fault across a file is that of its rows.
-use Rattle.std.proofs.Common.{◌≡◌, ℕ, ◌+◌, ◌-◌, ◌&&◌, ◌==◌, Bool, true, false, cond, List, [], ◌∷◌, map, length, get_or, Option, Some, None, refl, sym, ◌∙◌, ap, arith, option_map}
-use Rattle.std.specs.Prelude.{find, slice_index, slice_index_or, nat_lt, nat_le}
+use Rattle.std.proofs.Common.{◌≡◌, ℕ, ◌+◌, ◌-◌, ◌&&◌, ◌==◌, Bool, true, false, cond, List, [], ◌∷◌, map, length, Option, Some, None, refl, sym, ◌∙◌, ap, option_map}
+use Rattle.std.specs.Prelude.{slice_index, slice_index_or, nat_lt, nat_le}
 use Rattle.std.proofs.Math.ListN.{get_or-map}
 use Rattle.std.proofs.lemmas.List.{length-map}
 use Rattle.decimal_json.specs.Tree.{Tree, tree, Node}
-use Rattle.instance_model.specs.Rules.{first_of, or_else}
+use Rattle.instance_model.specs.Rules.{or_else}
 use Rattle.instance_model.specs.Tables.{allowed_of}
 use Rattle.instance_model.specs.declared.limits.Limits.{Limits}
-use Rattle.instance_shape.specs.declared.fault.Known.{Known}
 use Rattle.instance_shape.specs.declared.fault.Known.TheVariants as is
 use Rattle.instance_shape.specs.declared.spot.Spot.TheVariants as spot
-use Rattle.instance_shape.specs.Shape.{placed}
-use Rattle.instance_shape.specs.ShapeFaults.{shape_faults, values_faults}
-use Rattle.instance_shape.specs.LookUp.{Entry, elements, entries, keys, known, whole_at, text_at, count_at, periods, scenarios, interventions, durations, risk_list, number_in, at_number}
+use Rattle.instance_shape.specs.ShapeFaults.{shape_faults}
+use Rattle.instance_shape.specs.LookUp.{Entry, elements, entries, keys, known, whole_at, text_at, count_at, periods, scenarios, interventions, durations, number_in, at_number}
 use Rattle.instance_shape.specs.CrossFaults as cross
 use Rattle.instance_shape.specs.CrossFaults.{CrossFault, band_length, no_delta, unknown, scenario_count, unless, first_in, is_among, cross_fault}
-use Rattle.instance_rows.specs.FileRows.{BandRow, RiskRow, WorkRow, WorkloadRow, band_row, work_row, workload_row, risk_rows, each_value, rows_of}
-use Rattle.instance_rows.specs.RowFaults.{no_band, no_work, band_fault, is_list_at, list_fault, run_fault, runs_fault, delta_fault, workload_fault, work_fault, word_fault, exclusion_fault, bands_fault, works_fault, exclusions_fault, rows_fault}
+use Rattle.instance_rows.specs.FileRows.{band_row, work_row, workload_row, risk_rows, rows_of}
+use Rattle.instance_rows.specs.RowFaults.{no_band, no_work, band_fault, list_fault, runs_fault, delta_fault, workload_fault, work_fault, word_fault, exclusion_fault, bands_fault, works_fault, exclusions_fault, rows_fault}
 use Rattle.instance_rows.proofs.Findings.{list_row, risk_found}
 use Rattle.instance_rows.proofs.Firsts.{first_same, first_in-map, first_rows}
-use Rattle.instance_rows.proofs.NumberedKeys.{IsClear, AreClear, entries_clear, known_clear, clear_left}
+use Rattle.instance_shape.proofs.Clear.{IsClear, root_clear}
+use Rattle.instance_shape.proofs.ClearParts.{known_clear}
+use Rattle.instance_rows.proofs.NumberedKeys.{AreClear, entries_clear}
 
 -- ---- resources
 
@@ -96,8 +96,8 @@ exclusions_same root =
 -- the interventions of a text without a fault of shape have none
 pub interventions_clear : (limits : Limits) (root : Tree) → shape_faults limits root ≡ [] → AreClear limits spot.Interventions (interventions root)
 interventions_clear limits root h =
-    known_clear limits spot.Root spot.Interventions is.Interventions root (λ v. AreClear limits spot.Interventions (entries v)) refl
-    (clear_left (values_faults limits (placed spot.Root root)) _ (clear_left _ _ h)) tt (λ v k. entries_clear limits spot.Interventions v k)
+    known_clear limits spot.Root is.Interventions root (λ v. AreClear limits spot.Interventions (entries v))
+    (root_clear limits root h) tt (λ v k. entries_clear limits spot.Interventions v k)
 
 pub fault_law : (limits : Limits) (root : Tree) → shape_faults limits root ≡ [] → cross_fault root ≡ rows_fault (rows_of root)
 fault_law limits root h =

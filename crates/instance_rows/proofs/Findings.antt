@@ -1,10 +1,10 @@
 -- The first row of a period and a start is that of the value under these keys.
-use Rattle.std.proofs.Common.{◌≡◌, ℕ, ◌==◌, ◌&&◌, Bool, true, false, cond, List, [], ◌∷◌, ◌++◌, map, Option, Some, None, refl, sym, ◌∙◌, ap, subst, arith, bytes_eq, option_map}
+use Rattle.std.proofs.Common.{◌≡◌, ℕ, ◌==◌, ◌&&◌, Bool, true, false, cond, List, [], ◌∷◌, map, Option, Some, None, refl, sym, ◌∙◌, ap, subst, arith, bytes_eq, option_map}
 use Rattle.std.specs.Prelude.{find, flat_map}
 use Rattle.std.specs.Option.{option_or}
 use Rattle.std.proofs.lemmas.Bool.Decides.{nat_tests}
 use Rattle.std.proofs.lemmas.List.Folds.{find-append}
-use Rattle.decimal_json.specs.Tree.{Tree, tree, Node}
+use Rattle.decimal_json.specs.Tree.{Tree}
 use Rattle.instance_model.specs.declared.limits.Limits.{Limits}
 use Rattle.instance_shape.specs.declared.fault.Known.TheVariants as is
 use Rattle.instance_shape.specs.declared.spot.Spot.{Spot}
@@ -12,12 +12,14 @@ use Rattle.instance_shape.specs.declared.spot.Spot.TheVariants as spot
 use Rattle.instance_shape.specs.declared.spot.Kind.TheVariants as kind
 use Rattle.instance_shape.specs.Keys.{number_of, is_digits}
 use Rattle.instance_shape.specs.Shape.{kind_of, under}
-use Rattle.instance_shape.specs.LookUp.{Entry, entries, elements, first_value, at_key, at_number, number_in, known, count_at, risk_list, workload}
+use Rattle.instance_shape.specs.LookUp.{Entry, entries, elements, first_value, at_key, at_number, number_in, known, count_at, workload}
 use Rattle.instance_shape.specs.FileTables.{some_differs}
-use Rattle.instance_rows.specs.FileRows.{RiskRow, LoadRow, WorkloadRow, risk_rows, load_rows, workload_row}
+use Rattle.instance_rows.specs.FileRows.{RiskRow, LoadRow, risk_rows, load_rows, workload_row}
 use Rattle.instance_rows.specs.RowFaults.{is_list_at}
 use Rattle.instance_rows.specs.RowTables.{is_load_at, loads_of, load_at}
-use Rattle.instance_rows.proofs.NumberedKeys.{IsClear, AreClear, HasNot, AreNumbered, entries_clear, entries_numbered, found_clear, known_clear}
+use Rattle.instance_shape.proofs.Clear.{IsClear}
+use Rattle.instance_shape.proofs.ClearParts.{known_clear}
+use Rattle.instance_rows.proofs.NumberedKeys.{AreClear, HasNot, AreNumbered, entries_clear, entries_numbered, found_clear}
 
 -- a row of each value under two numbers, in file order
 abbrev pub rows_under : {A : Type 0} → (ℕ → ℕ → Tree → A) → List Entry → List A
@@ -116,7 +118,7 @@ risk_under limits v t s h =
 pub risk_found : (limits : Limits) (v : Tree) (t s : ℕ) → IsClear limits spot.Intervention v
     → find (is_list_at t s) (risk_rows (entries (known is.Risk v))) ≡ option_map (list_row t s) (number_in s (at_number t (known is.Risk v)))
 risk_found limits v t s h =
-    known_clear limits spot.Intervention spot.Risk is.Risk v (λ w. find (is_list_at t s) (risk_rows (entries w)) ≡ option_map (list_row t s) (number_in s (at_number t w))) refl h refl
+    known_clear limits spot.Intervention is.Risk v (λ w. find (is_list_at t s) (risk_rows (entries w)) ≡ option_map (list_row t s) (number_in s (at_number t w))) h refl
     (λ w k. risk_under limits w t s k)
 
 -- the rows of a resource's workloads, if the file has any
@@ -151,5 +153,5 @@ load_in limits w resource t s h = ap (find (is_load_at t s)) (loads_found resour
 pub load_found : (limits : Limits) (v : Tree) (resource : List ℕ) (t s : ℕ) → IsClear limits spot.Intervention v
     → load_at (map workload_row (entries (known is.Workload v))) resource t s ≡ option_map (one_load t s) (workload v resource t s)
 load_found limits v resource t s h =
-    known_clear limits spot.Intervention spot.Workload is.Workload v (λ w. load_at (map workload_row (entries w)) resource t s ≡ option_map (one_load t s) (number_in s (number_in t (at_key resource w)))) refl h refl
+    known_clear limits spot.Intervention is.Workload v (λ w. load_at (map workload_row (entries w)) resource t s ≡ option_map (one_load t s) (number_in s (number_in t (at_key resource w)))) h refl
     (λ w k. load_in limits w resource t s k)

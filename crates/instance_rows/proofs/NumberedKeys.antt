@@ -1,38 +1,19 @@
 -- The keys of a text without a fault of shape: of periods and starts each number comes once.
-use Rattle.std.proofs.Common.{◌≡◌, ℕ, ◌==◌, ◌&&◌, ◌||◌, Bool, true, false, cond, not, List, [], ◌∷◌, ◌++◌, Option, Some, None, refl, sym, ◌∙◌, ap, subst, arith, bytes_eq, unwrap_or, nat_eq, append_assoc}
+use Rattle.std.proofs.Common.{◌≡◌, ℕ, ◌==◌, ◌&&◌, ◌||◌, Bool, true, false, cond, not, List, [], ◌∷◌, ◌++◌, Some, refl, sym, ◌∙◌, ap, subst, arith, nat_eq}
+use Rattle.std.proofs.lemmas.Bool.{not-false}
 use Rattle.std.proofs.lemmas.Bool.Decides.{nat_tests}
-use Rattle.std.proofs.lemmas.Slice.Eq.{bytes_eq-Decides}
 use Rattle.decimal_json.specs.Tree.{Tree, tree, Node, Members, no_members, and_member}
 use Rattle.instance_model.specs.declared.limits.Limits.{Limits}
-use Rattle.instance_shape.specs.declared.fault.Fault.{Fault}
-use Rattle.instance_shape.specs.declared.fault.Flaw.{Flaw}
 use Rattle.instance_shape.specs.declared.fault.Flaw.TheVariants as flaw
-use Rattle.instance_shape.specs.declared.fault.Known.{Known}
 use Rattle.instance_shape.specs.declared.spot.Spot.{Spot}
-use Rattle.instance_shape.specs.declared.spot.Kind.{Kind}
 use Rattle.instance_shape.specs.declared.spot.Kind.TheVariants as kind
-use Rattle.instance_shape.specs.Keys.{Key, by_text, by_number, text_of, number_of, is_digits, is_name, same_key, has_key, key_of, is_double}
-use Rattle.instance_shape.specs.Shape.{Placed, placed, placed_members, kind_of, required, under}
-use Rattle.instance_shape.specs.ShapeFaults.{where_so, values_faults, value_faults, tree_faults, own_faults, inside_faults, missing, keys_of, key_faults, keys_faults, first_past, key_limit, takes_names, takes_numbers}
-use Rattle.instance_shape.specs.LookUp.{Entry, entries, entry_list, first_value, at_key, known}
+use Rattle.instance_shape.specs.Keys.{Key, by_text, by_number, number_of, is_digits, is_name, same_key, has_key, key_of, is_double}
+use Rattle.instance_shape.specs.Shape.{placed, placed_members, kind_of, under}
+use Rattle.instance_shape.specs.ShapeFaults.{where_so, values_faults, key_faults, keys_faults, first_past, key_limit, takes_names, takes_numbers}
+use Rattle.instance_shape.specs.LookUp.{Entry, entries, entry_list, first_value}
+use Rattle.instance_shape.proofs.Clear.{IsClear, clear_left, clear_right, clear_front, clear_rest, not_so, inside_clear, node_clear}
 
-pub clear_left : (xs ys : List Fault) → xs ++ ys ≡ [] → xs ≡ []
-clear_left [] ys h = refl
-clear_left (x ∷ xs) ys h = cc
-
-pub clear_right : (xs ys : List Fault) → xs ++ ys ≡ [] → ys ≡ []
-clear_right [] ys h = h
-clear_right (x ∷ xs) ys h = cc
-
-pub values_faults-append : (limits : Limits) (xs ys : List Placed) → values_faults limits (xs ++ ys) ≡ values_faults limits xs ++ values_faults limits ys
-values_faults-append limits [] ys = refl
-values_faults-append limits (x ∷ xs) ys = ap (λ r. value_faults limits x ++ r) (values_faults-append limits xs ys) ∙ sym (append_assoc (value_faults limits x) (values_faults limits xs) (values_faults limits ys))
-
--- a value at a spot and all that is in it have no fault
-abbrev pub IsClear : Limits → Spot → Tree → Type 0
-IsClear limits s t = values_faults limits (placed s t) ≡ []
-
--- the values under some keys have none
+-- the values under some keys have no fault of shape
 abbrev pub AreClear : Limits → Spot → List Entry → Type 0
 AreClear limits s [] = Unit {0}
 AreClear limits s (e ∷ es) = IsClear limits (under s e.key) e.value × AreClear limits s es
@@ -40,18 +21,15 @@ AreClear limits s (e ∷ es) = IsClear limits (under s e.key) e.value × AreClea
 members_clear : (limits : Limits) (s : Spot) (ms : Members) → values_faults limits (placed_members s ms) ≡ [] → AreClear limits s (entry_list ms)
 members_clear limits s no_members h = tt
 members_clear limits s (and_member at end k t ms) h =
-    let all : values_faults limits (placed (under s k) t) ++ values_faults limits (placed_members s ms) ≡ [] = sym (values_faults-append limits (placed (under s k) t) (placed_members s ms)) ∙ h in
-    (clear_left (values_faults limits (placed (under s k) t)) _ all, members_clear limits s ms (clear_right (values_faults limits (placed (under s k) t)) _ all))
+    (clear_front limits (placed (under s k) t) (placed_members s ms) h, members_clear limits s ms (clear_rest limits (placed (under s k) t) (placed_members s ms) h))
 
 pub entries_clear : (limits : Limits) (s : Spot) (t : Tree) → IsClear limits s t → AreClear limits s (entries t)
-entries_clear limits s (tree at end (Node.object ms)) h = members_clear limits s ms (clear_right (value_faults limits (record { spot = s; tree = tree at end (Node.object ms) })) _ h)
+entries_clear limits s (tree at end (Node.object ms)) h = members_clear limits s ms (node_clear limits s at end (Node.object ms) h)
 entries_clear limits s (tree at end _) h = tt
 
 -- the faults at the keys of an object without a fault
 pub object_clear : (limits : Limits) (s : Spot) (at end : ℕ) (ms : Members) → IsClear limits s (tree at end (Node.object ms)) → keys_faults limits s [] ms ≡ []
-object_clear limits s at end ms h =
-    clear_left (keys_faults limits s [] ms) _
-    (clear_right (own_faults limits s at (Node.object ms)) _ (clear_left (tree_faults limits s (tree at end (Node.object ms))) (values_faults limits (placed_members s ms)) h))
+object_clear limits s at end ms h = clear_left (keys_faults limits s [] ms) _ (inside_clear limits s at end (Node.object ms) h)
 
 -- ---- what is found has what all have
 
@@ -65,17 +43,6 @@ found_clear limits s q p (e ∷ es) v f a h = by (p e.key) refl h (found_clear l
         subst (λ (x : Tree). IsClear limits q x) same (subst (λ (x : Spot). IsClear limits x e.value) (f e.key i) a.0)
     by false i h r = r h
 
--- the value under a required key, or null where there is none
-pub known_clear : (limits : Limits) (s q : Spot) (k : Known) (t : Tree) (P : Tree → Type 0) → under s (text_of k) ≡ q → IsClear limits s t → P (tree 0 0 Node.null) → ((v : Tree) → IsClear limits q v → P v) → P (known k t)
-known_clear limits s q k t P u h n f = by (at_key (text_of k) t) refl
-  where
-    same : (key : List ℕ) → bytes_eq (text_of k) key ≡ true → under s key ≡ q
-    same key e = ap (under s) (sym ((bytes_eq-Decides (text_of k) key).0 e)) ∙ u
-
-    by : (o : Option Tree) → at_key (text_of k) t ≡ o → P (unwrap_or o (tree 0 0 Node.null))
-    by None e = n
-    by (Some v) e = f v (found_clear limits s q (bytes_eq (text_of k)) (entries t) v same (entries_clear limits s t h) e)
-
 -- ---- numbers
 
 -- no key has the number
@@ -88,14 +55,6 @@ abbrev pub AreNumbered : List Entry → Type 0
 AreNumbered [] = Unit {0}
 AreNumbered (e ∷ es) = (is_digits e.key ≡ true) × HasNot (number_of e.key) es × AreNumbered es
 
-pub where_none : (b : Bool) (at : ℕ) (f : Flaw) → where_so b at f ≡ [] → b ≡ false
-where_none true at f h = cc
-where_none false at f h = refl
-
-not_false : (b : Bool) → not b ≡ false → b ≡ true
-not_false true h = refl
-not_false false h = cc
-
 -- a period or start key without a fault
 record IsNew (earlier : List Key) (k : List ℕ) : Type 0 where
   digits : is_digits k ≡ true
@@ -107,9 +66,9 @@ is_new limits s earlier at k i h =
     let name = where_so (takes_names (kind_of s) && not (is_name k)) at flaw.BadName in
     let shape = where_so (takes_numbers (kind_of s) && not (is_digits k)) at flaw.Shape in
     let three = clear_left ((double ++ name) ++ shape) (first_past (key_limit limits s) _ at) h in
-    let shape_none = where_none (takes_numbers (kind_of s) && not (is_digits k)) at flaw.Shape (clear_right (double ++ name) shape three) in
-    let double_none = where_none (is_double earlier (key_of (kind_of s) k)) at flaw.Double (clear_left double name (clear_left (double ++ name) shape three)) in
-    let d : is_digits k ≡ true = not_false (is_digits k) (sym (ap (λ q. takes_numbers q && not (is_digits k)) i) ∙ shape_none) in
+    let shape_none = not_so (takes_numbers (kind_of s) && not (is_digits k)) at flaw.Shape (clear_right (double ++ name) shape three) in
+    let double_none = not_so (is_double earlier (key_of (kind_of s) k)) at flaw.Double (clear_left double name (clear_left (double ++ name) shape three)) in
+    let d : is_digits k ≡ true = not-false (is_digits k) (sym (ap (λ q. takes_numbers q && not (is_digits k)) i) ∙ shape_none) in
     record {
       digits = d;
       new = sym (ap (λ b. has_key earlier (cond b (by_number (number_of k)) (by_text k))) d) ∙ sym (ap (λ q. is_double earlier (key_of q k)) i) ∙ double_none;

@@ -1,16 +1,17 @@
 -- What the lists of an order give is what the allowed runs take.
-use Rattle.std.proofs.Common.{◌≡◌, ℕ, zero, suc, ◌+◌, ◌<◌, ℤ, Bool, true, false, cond, List, [], ◌∷◌, ◌++◌, map, length, get_or, Option, Some, None, refl, sym, ◌∙◌, ap, subst, arith, append-nil}
-use Rattle.std.specs.Prelude.{find, flat_map, slice_index, All, IsSome}
+use Rattle.std.proofs.Common.{◌≡◌, ℕ, zero, suc, ◌+◌, ◌<◌, Bool, true, false, cond, List, [], ◌∷◌, ◌++◌, map, length, get_or, Option, Some, None, refl, sym, ◌∙◌, ap, arith, append-nil}
+use Rattle.std.specs.Prelude.{flat_map, slice_index, All, IsSome}
 use Rattle.std.proofs.lemmas.Grind.{flat_map-append}
 use Rattle.std.proofs.lemmas.List.{map-append}
 use Rattle.std.proofs.lemmas.List.Concat.{flat_map_single}
-use Rattle.std.proofs.lemmas.List.Elements.{All-nil, All-cons, All-append}
+use Rattle.std.proofs.lemmas.List.Elements.{All-nil, All-cons}
 use Rattle.instance_model.specs.Tables.{allowed_of}
 use Rattle.instance_shape.specs.FileTables.{lists_below}
+use Rattle.instance_shape.proofs.ListsBelow.{all_lists, all_cond}
 use Rattle.instance_rows.specs.declared.fill.WorkTables.{WorkTables}
 use Rattle.instance_rows.specs.FileRows.{RiskRow, WorkRow}
 use Rattle.instance_rows.specs.Filled.{no_list, IsReady, AreTablesOf}
-use Rattle.instance_rows.specs.Grid.{place_of, one_or_none, runs_order, order_of}
+use Rattle.instance_rows.specs.Grid.{place_of, one_or_none, order_of}
 use Rattle.instance_rows.specs.RowFaults.{is_list_at, used_durations}
 use Rattle.instance_rows.specs.RowTables.{each_run, values_of, soft_of, risks_at, soft_at, cells_at}
 use Rattle.instance_rows.proofs.Places.{place_none, place_some, StandsAt}
@@ -68,14 +69,6 @@ soft_taken periods w r =
 
 -- ---- the numbers in an order are those of lists
 
-all_lists : {A : Type 0} (P : A → Type 0) (n : ℕ) (f : ℕ → List A) → ((k : ℕ) → All P (f k)) → All P (lists_below n f)
-all_lists P zero f h = All-nil P
-all_lists P (suc n) f h = All-append P (lists_below n f) (f n) (all_lists P n f h) (h n)
-
-all_choice : {A : Type 0} (P : A → Type 0) (b : Bool) (xs : List A) → All P xs → All P (cond b xs [])
-all_choice P true xs a = a
-all_choice P false xs a = All-nil P
-
 one_below : (rs : List RiskRow) (s t : ℕ) (o : Option ℕ) → place_of rs s t ≡ o → All (λ k. k < length rs) (one_or_none o)
 one_below rs s t None e = All-nil _
 one_below rs s t (Some k) e =
@@ -83,8 +76,9 @@ one_below rs s t (Some k) e =
     All-cons (λ k. k < length rs) k [] at.below (All-nil _)
 
 pub order_below : (periods : ℕ) (w : WorkRow) → All (λ k. k < length w.risks) (order_of periods w)
-order_below periods w = all_lists (λ k. k < length w.risks) (length (used_durations w)) _ (λ k. all_choice (λ k. k < length w.risks) (allowed_of periods (used_durations w) (k + 1)) _
-    (all_lists (λ k. k < length w.risks) (slice_index (used_durations w) k) _ (λ j. one_below w.risks (k + 1) (k + 1 + j) (place_of w.risks (k + 1) (k + 1 + j)) refl)))
+order_below periods w =
+    all_lists (λ k. k < length w.risks) (length (used_durations w)) _ (λ k l. all_cond (λ k. k < length w.risks) (allowed_of periods (used_durations w) (k + 1)) _ (λ a.
+    all_lists (λ k. k < length w.risks) (slice_index (used_durations w) k) _ (λ j m. one_below w.risks (k + 1) (k + 1 + j) (place_of w.risks (k + 1) (k + 1 + j)) refl)))
 
 -- ---- the tables after one intervention more
 

@@ -1,11 +1,11 @@
 -- What becomes of lists of risks when a list is opened, and when the last one gains a number.
-use Rattle.std.proofs.Common.{◌≡◌, ℕ, zero, suc, ◌+◌, ◌-◌, ◌<◌, ◌≤◌, ℤ, Bool, true, false, List, [], ◌∷◌, ◌++◌, length, get_or, take, drop, set, refl, sym, ◌∙◌, ap, arith, length-append, length-drop, ◌||◌}
+use Rattle.std.proofs.Common.{◌≡◌, ℕ, zero, suc, ◌+◌, ◌-◌, ◌<◌, ◌≤◌, ℤ, Bool, true, false, List, [], ◌∷◌, ◌++◌, length, get_or, take, drop, set, refl, sym, ◌∙◌, ap, arith, length-drop, ◌||◌}
 use Rattle.std.proofs.lemmas.List.{take-append-le, drop-append-le}
 use Rattle.std.proofs.lemmas.List.{take_all}
 use Rattle.std.specs.List.{slice_range}
 use Rattle.instance_rows.specs.declared.risk_lists.RiskHead.{RiskHead}
 use Rattle.instance_rows.specs.FileRows.{RiskRow}
-use Rattle.instance_rows.specs.RiskLists.{end_before, list_of, lists_of, AreHeads, longer, add_to_last, last_soft}
+use Rattle.instance_rows.specs.RiskLists.{end_before, list_of, lists_of, AreHeads, add_to_last, last_soft}
 
 pub length-lists_of : (hs : List RiskHead) (xs : List ℤ) → length (lists_of hs xs) ≡ length hs
 length-lists_of [] xs = refl

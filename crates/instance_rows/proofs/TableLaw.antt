@@ -1,24 +1,24 @@
 -- The tables of a file are those of its rows.
-use Rattle.std.proofs.Common.{◌≡◌, ℕ, zero, suc, ◌+◌, ◌-◌, ◌<◌, ℤ, Bool, true, false, cond, List, [], ◌∷◌, ◌++◌, map, length, Option, Some, None, refl, sym, ◌∙◌, ap, arith, option_map, unwrap_or}
-use Rattle.std.specs.Prelude.{find, flat_map, slice_index, slice_index_or, ◌+ℤ◌, ◌-ℤ◌}
+use Rattle.std.proofs.Common.{◌≡◌, ℕ, zero, suc, ◌+◌, ℤ, cond, List, [], ◌∷◌, ◌++◌, map, length, Option, Some, None, refl, sym, ◌∙◌, ap, option_map, unwrap_or}
+use Rattle.std.specs.Prelude.{flat_map, slice_index, slice_index_or, ◌+ℤ◌, ◌-ℤ◌}
 use Rattle.std.proofs.Math.ListN.{get_or-map}
 use Rattle.decimal_json.specs.Tree.{Tree, tree, Node}
-use Rattle.instance_model.specs.declared.parts.LoadCell.{LoadCell}
 use Rattle.instance_model.specs.declared.parts.Exclusion.{Exclusion}
 use Rattle.instance_model.specs.declared.limits.Limits.{Limits}
-use Rattle.instance_model.specs.Tables.{Tables, allowed_of}
+use Rattle.instance_model.specs.Tables.{allowed_of}
 use Rattle.instance_shape.specs.declared.fault.Known.TheVariants as is
 use Rattle.instance_shape.specs.declared.spot.Spot.TheVariants as spot
 use Rattle.instance_shape.specs.ShapeFaults.{shape_faults}
-use Rattle.instance_shape.specs.LookUp.{Entry, elements, entries, keys, known, whole_at, text_at, count_at, periods, interventions, durations, risk_list, number_in, at_number, workload}
+use Rattle.instance_shape.specs.LookUp.{Entry, elements, entries, keys, known, whole_at, text_at, count_at, periods, interventions, durations, number_in, at_number, workload}
 use Rattle.instance_shape.specs.FileTables as file
 use Rattle.instance_shape.specs.FileTables.{lists_below, all_below, number_among, tables, some_differs}
 use Rattle.instance_rows.specs.FileRows.{BandRow, WorkRow, band_row, work_row, workload_row, risk_rows, rows_of}
-use Rattle.instance_rows.specs.RowFaults.{used_durations, is_list_at}
-use Rattle.instance_rows.specs.RowTables.{each_run, values_of, soft_of, risks_at, soft_at, load_at, cell_of, cells_at, in_season, exclusion_of, rows_tables}
+use Rattle.instance_rows.specs.RowFaults.{used_durations}
+use Rattle.instance_rows.specs.RowTables.{each_run, values_of, soft_of, risks_at, soft_at, cell_of, cells_at, in_season, exclusion_of, rows_tables}
 use Rattle.instance_rows.proofs.FaultLaw.{interventions_clear}
 use Rattle.instance_rows.proofs.Findings.{list_row, one_load, risk_found, load_found}
-use Rattle.instance_rows.proofs.NumberedKeys.{IsClear, AreClear}
+use Rattle.instance_shape.proofs.Clear.{IsClear}
+use Rattle.instance_rows.proofs.NumberedKeys.{AreClear}
 use Rattle.instance_rows.proofs.Same.{same_tables}
 
 pub map-map : {A B C : Type 0} (g : B → C) (f : A → B) (xs : List A) → map g (map f xs) ≡ map (λ x. g (f x)) xs

@@ -1,13 +1,13 @@
 -- What is told of a whole by what is told of its parts.
-use Rattle.std.proofs.Common.{◌≡◌, ℕ, ◌+◌, ◌<◌, List, [], ◌∷◌, ◌++◌, map, length, get_or, Option, Some, None, sym, ◌∙◌, ap, subst}
+use Rattle.std.proofs.Common.{◌≡◌, ℕ, ◌<◌, List, map, length, get_or, Option, Some, None, sym, ◌∙◌, ap}
 use Rattle.std.specs.Prelude.{slice_index_or}
 use Rattle.std.proofs.lemmas.List.{get_or-map}
-use Rattle.instance_model.specs.Rules.{first_of, or_else}
-use Rattle.instance_shape.specs.CrossFaults.{CrossFault, first_in}
+use Rattle.instance_model.specs.Rules.{first_of}
+use Rattle.instance_shape.specs.CrossFaults.{CrossFault}
 use Rattle.instance_rows.specs.declared.fault.RowsFault.{RowsFault}
 use Rattle.instance_rows.specs.declared.fault.RowsFault.TheVariants.{Across, Memory}
 use Rattle.instance_rows.specs.Answers.{TellsFault, fault_view}
-use Rattle.instance_rows.proofs.Firsts.{first_found, or_else_none, or_else_some}
+use Rattle.instance_rows.proofs.Firsts.{first_found}
 
 -- the fault of a part is that of the whole
 pub told_on : (part whole : Option CrossFault) (e : RowsFault) → TellsFault part e → ((f : CrossFault) → part ≡ Some f → whole ≡ Some f) → TellsFault whole e

@@ -1,10 +1,9 @@
 -- One turn of a loop over a list.
-use Rattle.std.proofs.Common.{◌≡◌, ℕ, suc, ◌+◌, ◌<◌, List, [], ◌∷◌, ◌++◌, map, length, take, drop, get_or, Option, Some, None, refl, sym, ◌∙◌, ap, subst, add-one, append_assoc, append-nil}
+use Rattle.std.proofs.Common.{◌≡◌, ℕ, suc, ◌+◌, ◌<◌, List, [], ◌∷◌, ◌++◌, map, length, take, drop, get_or, Option, None, sym, ◌∙◌, ap, add-one, append-nil}
 use Rattle.std.specs.Prelude.{flat_map}
 use Rattle.std.proofs.lemmas.List.{take-append-drop, map-append}
 use Rattle.std.proofs.lemmas.Grind.{flat_map-append}
 use Rattle.std.proofs.Math.Seq.{drop-cons, take-suc}
-use Rattle.instance_model.specs.Rules.{or_else}
 use Rattle.instance_shape.specs.CrossFaults.{CrossFault, first_in}
 use Rattle.instance_shape.specs.FileTables.{lists_below}
 use Rattle.instance_rows.specs.declared.fault.RowsFault.{RowsFault}

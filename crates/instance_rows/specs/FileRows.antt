@@ -1,10 +1,10 @@
 -- Defines the rows of a file: what it has of an instance, in its own words and order, before anything is looked up.
-use Rattle.std.specs.Prelude.{ℕ, ℤ, Bool, List, [], ◌∷◌, map, flat_map}
+use Rattle.std.specs.Prelude.{ℕ, ℤ, Bool, List, map, flat_map}
 use Rattle.decimal_json.specs.Tree.{Tree}
 use Rattle.instance_shape.specs.declared.fault.Known.TheVariants as is
 use Rattle.instance_shape.specs.declared.spot.Spot.TheVariants as spot
 use Rattle.instance_shape.specs.Keys.{number_of}
-use Rattle.instance_shape.specs.LookUp.{Entry, elements, entries, keys, known, whole_at, text_at, count_at, part_at, periods, scenarios, interventions}
+use Rattle.instance_shape.specs.LookUp.{Entry, elements, entries, keys, known, whole_at, text_at, count_at, part_at, periods, scenarios}
 use Rattle.instance_shape.specs.Shape.{placed}
 use Rattle.instance_shape.specs.FileTables.{some_differs, rounded}
 

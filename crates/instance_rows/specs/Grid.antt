@@ -1,5 +1,5 @@
 -- Defines the grid of an intervention's lists of risks, and which of them its allowed runs take.
-use Rattle.std.specs.Prelude.{◌≡◌, ℕ, ◌+◌, ◌*◌, ◌<◌, ◌≤◌, List, [], ◌∷◌, Option, Some, None, length, slice_index, slice_index_or}
+use Rattle.std.specs.Prelude.{◌≡◌, ℕ, ◌+◌, ◌*◌, ◌<◌, ◌≤◌, List, [], ◌∷◌, Option, Some, None, length, slice_index_or}
 use Rattle.std.specs.List.{position_from}
 use Rattle.instance_shape.specs.FileTables.{lists_below}
 use Rattle.instance_rows.specs.declared.grid.Grid.{Grid}

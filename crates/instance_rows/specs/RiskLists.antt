@@ -1,5 +1,5 @@
 -- Defines the lists of risks that heads and the numbers behind them stand for.
-use Rattle.std.specs.Prelude.{◌≡◌, ℕ, ◌≤◌, ℤ, Bool, true, ◌||◌, List, [], ◌∷◌, ◌++◌, length}
+use Rattle.std.specs.Prelude.{ℕ, ◌≤◌, ℤ, Bool, true, ◌||◌, List, [], ◌∷◌, ◌++◌, length}
 use Rattle.std.specs.List.{slice_range}
 use Rattle.instance_rows.specs.declared.risk_lists.RiskHead.{RiskHead}
 use Rattle.instance_rows.specs.declared.risk_lists.RiskList.{RiskList}

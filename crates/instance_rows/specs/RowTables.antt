@@ -1,10 +1,10 @@
 -- Defines the tables of the instance of a file by its rows.
-use Rattle.std.specs.Prelude.{ℕ, ◌+◌, ◌-◌, ℤ, pos, ◌+ℤ◌, ◌-ℤ◌, Bool, false, ◌&&◌, ◌==◌, List, [], ◌∷◌, Option, Some, None, cond, find, map, flat_map, length, is_some, position, bytes_eq, slice_index, slice_index_or}
+use Rattle.std.specs.Prelude.{ℕ, ◌+◌, ℤ, ◌+ℤ◌, ◌-ℤ◌, Bool, false, ◌&&◌, ◌==◌, List, [], ◌∷◌, Option, Some, None, cond, find, map, flat_map, length, is_some, position, bytes_eq, slice_index, slice_index_or}
 use Rattle.instance_model.specs.declared.parts.LoadCell.{LoadCell}
 use Rattle.instance_model.specs.declared.parts.Exclusion.{Exclusion}
 use Rattle.instance_model.specs.Tables.{Tables, allowed_of}
 use Rattle.instance_shape.specs.FileTables.{lists_below, number_among}
-use Rattle.instance_rows.specs.FileRows.{BandRow, LoadRow, WorkloadRow, RiskRow, WorkRow, FileRows}
+use Rattle.instance_rows.specs.FileRows.{LoadRow, WorkloadRow, RiskRow, FileRows}
 use Rattle.instance_rows.specs.RowFaults.{used_durations, is_list_at}
 
 -- something for each allowed start and period of its run, in this order

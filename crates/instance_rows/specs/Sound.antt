@@ -1,5 +1,5 @@
 -- Defines what is known of the rows of a text without a fault of shape.
-use Rattle.std.specs.Prelude.{◌≡◌, ◌≢◌, ℕ, ◌≤◌, List, [], ◌∷◌, None, find, length, AllPairs, bytes_eq}
+use Rattle.std.specs.Prelude.{◌≡◌, ◌≢◌, ◌≤◌, List, [], ◌∷◌, None, find, length, AllPairs, bytes_eq}
 use Rattle.instance_model.specs.Limits.{standard_limits}
 use Rattle.instance_rows.specs.FileRows.{LoadRow, WorkloadRow, WorkRow, FileRows}
 use Rattle.instance_rows.specs.RowTables.{is_load_at}

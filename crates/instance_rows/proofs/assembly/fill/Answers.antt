@@ -1,6 +1,5 @@
-use Rattle.std.proofs.Common.{◌≡◌, ℕ, List, String, Vec, Global, map, refl, sym, ◌∙◌, ap, string_bytes}
+use Rattle.std.proofs.Common.{ℕ, String, Vec, Global, map, refl, sym, ◌∙◌, ap, string_bytes}
 use Rattle.std.specs.Prelude.{flat_map, ◌+ℤ◌, ◌-ℤ◌}
-use Rattle.instance_model.specs.View.{tables_of}
 use Rattle.instance_shape.specs.FileTables.{lists_below}
 use Rattle.instance_rows.specs.FileRows.{BandRow}
 use Rattle.instance_rows.specs.RowFaults.{scenarios_fault, bands_fault, works_fault}

@@ -1,6 +1,6 @@
-use Rattle.std.proofs.Common.{◌≡◌, ◌+◌, ◌++◌, ◌∷◌, [], List, Vec, Global, Bool, cond, true, false, map, take, sym, ◌∙◌, ap, append_assoc, append-nil, arith}
+use Rattle.std.proofs.Common.{◌≡◌, ◌++◌, ◌∷◌, [], List, Vec, Global, Bool, cond, true, false, map, take, sym, ◌∙◌, ap, append_assoc, append-nil}
 use Rattle.instance_model.specs.declared.parts.LoadCell.{LoadCell}
-use Rattle.instance_rows.specs.Cells.{runs_in, load_cell, kept}
+use Rattle.instance_rows.specs.Cells.{load_cell, kept}
 use Rattle.instance_rows.specs.Views.{load_view}
 use Rattle.instance_rows.proofs.CellTurns.{kept_more}
 use Rattle.instance_rows.proofs.cells.add_cells.Goals as goal

@@ -1,4 +1,4 @@
-use Rattle.std.proofs.Common.{◌≡◌, ◌+◌, ◌++◌, [], ℕ, List, String, Vec, Global, Option, Some, None, map, take, position, string_bytes, bytes_eq, sym, ◌∙◌, ap, append-nil}
+use Rattle.std.proofs.Common.{◌≡◌, ◌++◌, ℕ, List, Vec, Global, map, take, position, string_bytes, bytes_eq, sym, ◌∙◌, ap, append-nil}
 use Rattle.instance_model.specs.declared.parts.LoadCell.{LoadCell}
 use Rattle.instance_model.proofs.NameLemmas.{position-map}
 use Rattle.instance_rows.specs.Cells.{kept, kept_of, all_kept}

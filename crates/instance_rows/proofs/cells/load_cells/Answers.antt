@@ -1,4 +1,4 @@
-use Rattle.std.proofs.Common.{◌≡◌, List, map, string_bytes, subst}
+use Rattle.std.proofs.Common.{List, map, string_bytes, subst}
 use Rattle.std.specs.Prelude.{IsPermutation}
 use Rattle.instance_model.specs.declared.parts.LoadCell.{LoadCell}
 use Rattle.instance_rows.specs.Views.{workload_view}

@@ -1,4 +1,4 @@
-use Rattle.std.proofs.Common.{◌≡◌, ◌+◌, get_or, sym, ◌∙◌, rules}
+use Rattle.std.proofs.Common.{◌+◌, get_or, ◌∙◌, rules}
 use Rattle.std.proofs.lemmas.List.Sorted.{answers_always}
 use Rattle.instance_rows.proofs.CellOrder.{precedes_is}
 use Rattle.instance_rows.proofs.cells.sort_cells.Goals as goal

@@ -1,4 +1,4 @@
-use Rattle.std.proofs.Common.{◌≡◌, List, ℕ, None, map, string_bytes, sym, ◌∙◌, ap, subst, arith}
+use Rattle.std.proofs.Common.{List, ℕ, map, string_bytes, sym, ◌∙◌, ap, subst}
 use Rattle.std.proofs.lemmas.Result.{err_from_is_err_and}
 use Rattle.instance_shape.specs.CrossFaults.{unless, unknown, is_among}
 use Rattle.instance_rows.specs.Answers.{TellsFault}

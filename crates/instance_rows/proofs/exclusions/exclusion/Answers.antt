@@ -1,9 +1,7 @@
-use Rattle.std.proofs.Common.{◌≡◌, ℕ, ◌<◌, List, Option, None, cond, map, refl, sym, ◌∙◌, ap, arith, string_bytes}
-use Rattle.std.specs.Prelude.{nat_lt}
+use Rattle.std.proofs.Common.{◌≡◌, ℕ, List, Option, None, map, refl, sym, ◌∙◌, ap, arith, string_bytes}
 use Rattle.std.proofs.lemmas.Result.{err_from_is_err_and}
 use Rattle.instance_model.specs.Rules.{first_of}
 use Rattle.instance_shape.specs.CrossFaults.{CrossFault, unless, unknown, is_among}
-use Rattle.instance_rows.specs.FileRows.{FileRows}
 use Rattle.instance_rows.specs.RowFaults.{word_fault}
 use Rattle.instance_rows.specs.Views.{rows_view}
 use Rattle.instance_rows.proofs.Firsts.{first_more}

@@ -1,4 +1,4 @@
-use Rattle.std.proofs.Common.{◌≡◌, ◌<◌, ◌++◌, ◌∷◌, [], ℕ, ℤ, Bool, List, Vec, Global, map, length, get_or, string_bytes, sym, ◌∙◌, ap, subst}
+use Rattle.std.proofs.Common.{◌<◌, ◌++◌, ◌∷◌, [], ℕ, List, Vec, Global, map, length, string_bytes, sym, ◌∙◌, ap, subst}
 use Rattle.std.specs.Prelude.{All, flat_map, slice_index_or}
 use Rattle.std.proofs.lemmas.List.{map-append}
 use Rattle.instance_model.specs.declared.parts.LoadCell.{LoadCell}

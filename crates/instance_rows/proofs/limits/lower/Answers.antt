@@ -1,4 +1,4 @@
-use Rattle.std.proofs.Common.{◌≡◌, ◌++◌, map, take, sym, ◌∙◌, ap, arith}
+use Rattle.std.proofs.Common.{◌++◌, map, take, sym, ◌∙◌, ap, arith}
 use Rattle.std.specs.Prelude.{flat_map, ◌-ℤ◌}
 use Rattle.instance_rows.specs.FileRows.{BandRow}
 use Rattle.instance_rows.specs.Views.{band_view}

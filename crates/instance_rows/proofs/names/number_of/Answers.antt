@@ -1,4 +1,4 @@
-use Rattle.std.proofs.Common.{◌≡◌, ℕ, ◌∙◌, sym, ap, List, map, position, string_bytes, Some, None, is_some, Option, cond, unwrap_or}
+use Rattle.std.proofs.Common.{ℕ, ◌∙◌, sym, ap, List, string_bytes, Some, is_some, Option, unwrap_or}
 use Rattle.std.specs.Prelude.{bytes_eq}
 use Rattle.instance_shape.specs.CrossFaults.{unless, unknown}
 use Rattle.instance_model.proofs.NameLemmas.{position-map}

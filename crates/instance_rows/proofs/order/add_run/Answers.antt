@@ -1,4 +1,4 @@
-use Rattle.std.proofs.Common.{◌≡◌, ℕ, ◌+◌, ◌++◌, ◌∷◌, [], List, find, refl, sym, ◌∙◌, ap, append-nil, append_assoc, arith, add-one}
+use Rattle.std.proofs.Common.{◌+◌, ◌++◌, ◌∷◌, [], find, refl, sym, ◌∙◌, ap, append-nil, append_assoc}
 use Rattle.std.proofs.lemmas.Result.{err_from_is_err_and}
 use Rattle.instance_model.specs.Rules.{first_of}
 use Rattle.instance_rows.specs.Grid.{one_or_none, place_of, run_order}

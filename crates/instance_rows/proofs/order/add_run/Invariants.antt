@@ -1,5 +1,4 @@
-use Rattle.std.proofs.Common.{◌≡◌, ◌+◌, ◌++◌, None, find}
-use Rattle.instance_model.specs.Rules.{first_of}
+use Rattle.std.proofs.Common.{◌≡◌, ◌++◌, None}
 use Rattle.instance_rows.specs.Grid.{run_order}
 use Rattle.instance_rows.specs.RowFaults.{run_fault}
 use Rattle.instance_rows.proofs.order.add_run.Given as goal

@@ -1,4 +1,4 @@
-use Rattle.std.proofs.Common.{◌≡◌, ℕ, ◌+◌, [], None, cond}
+use Rattle.std.proofs.Common.{◌≡◌, ◌+◌, [], None, cond}
 use Rattle.std.specs.Prelude.{slice_index}
 use Rattle.instance_model.specs.Rules.{first_of}
 use Rattle.instance_model.specs.Tables.{allowed_of}

@@ -1,4 +1,4 @@
-use Rattle.std.proofs.Common.{◌≡◌, ◌+◌, arith, length}
+use Rattle.std.proofs.Common.{arith}
 use Rattle.instance_rows.proofs.RiskListLemmas.{last_soft-set}
 use Rattle.instance_rows.proofs.risk_lists.mark_last.Goals as goal
 

@@ -1,5 +1,4 @@
-use Rattle.std.proofs.Common.{◌≡◌, ◌++◌, ◌∷◌, [], ◌+◌, ◌≤◌, sym, ◌∙◌, ap, subst, length, arith, List, false, true, ℤ, length-append}
-use Rattle.instance_rows.specs.FileRows.{RiskRow}
+use Rattle.std.proofs.Common.{◌≡◌, ◌++◌, ◌∷◌, [], sym, ◌∙◌, ap, subst, length, arith, List, false, true, ℤ, length-append}
 use Rattle.instance_rows.specs.RiskLists.{lists_of, AreHeads, last_soft, add_to_last}
 use Rattle.instance_rows.specs.declared.risk_lists.RiskHead.{RiskHead}
 use Rattle.instance_rows.proofs.RiskListLemmas.{heads_longer, heads_soft, lists_longer, lists_soft}

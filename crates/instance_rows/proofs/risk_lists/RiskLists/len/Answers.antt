@@ -1,4 +1,4 @@
-use Rattle.std.proofs.Common.{sym, ◌∙◌, ap, length, arith}
+use Rattle.std.proofs.Common.{ap, length, arith}
 use Rattle.instance_rows.proofs.RiskListLemmas.{length-lists_of}
 use Rattle.instance_rows.proofs.risk_lists.RiskLists.len.Goals as goal
 

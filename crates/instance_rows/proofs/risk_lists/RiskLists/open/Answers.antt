@@ -1,4 +1,4 @@
-use Rattle.std.proofs.Common.{◌≡◌, ◌++◌, ◌∷◌, [], sym, ◌∙◌, ap, subst, length, arith, List, false}
+use Rattle.std.proofs.Common.{◌++◌, ◌∷◌, [], sym, ◌∙◌, ap, subst, length, arith, List, false}
 use Rattle.instance_rows.specs.FileRows.{RiskRow}
 use Rattle.instance_rows.specs.RiskLists.{lists_of, AreHeads}
 use Rattle.instance_rows.specs.declared.risk_lists.RiskHead.{RiskHead}
