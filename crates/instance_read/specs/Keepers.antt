@@ -1,0 +1,22 @@
+-- What a keeper has kept. Not part of any promise: only private functions cite it.
+use Rattle.std.specs.Prelude.{map, string_bytes}
+use Rattle.instance_rows.specs.Views.{band_view, workload_view, work_view}
+use Rattle.instance_read.specs.Keeping.{Kept}
+use Rattle.instance_read.specs.declared.keeper.Keeper.{Keeper}
+
+abbrev pub kept_of : Keeper → Kept
+kept_of k = record {
+  periods = k.rows.periods;
+  alpha = k.rows.alpha;
+  quantile = k.rows.quantile;
+  scenarios = k.rows.scenarios.items;
+  resources = map string_bytes k.rows.resources.keys;
+  bands = record { closed = map band_view k.rows.bands.items; begun = band_view k.bands; numbers = k.numbers.items };
+  seasons = map string_bytes k.rows.seasons.keys;
+  season_periods = record { closed = map (λ v. v.items) k.rows.season_periods.items; begun = k.season.items };
+  interventions = map string_bytes k.rows.interventions.keys;
+  works = record { closed = map work_view k.rows.works.items; begun = work_view k.work; workload = workload_view k.workload; period = k.period; start = k.start };
+  exclusions = map string_bytes k.rows.exclusions.keys;
+  exclusion_words = record { closed = map (λ v. map string_bytes v.items) k.rows.exclusion_words.items; begun = map string_bytes k.words.items };
+  rounded = k.rows.rounded;
+}

@@ -1,0 +1,7 @@
+pub mod Faults
+pub mod Fed
+pub mod Keepers
+pub mod Keeping
+pub mod Readers
+pub mod Reading
+pub mod Told

@@ -1,0 +1,34 @@
+-- What a reading of an instance answers.
+use Rattle.std.specs.Prelude.{◌≡◌, ◌⊎◌, ℕ, ◌≤◌, List, [], length, Result, Ok, Err, IfSome}
+use Rattle.plan_desk.specs.Desk.{Shown, Fault, ShowsSame, after_take_in}
+use Rattle.plan_desk.specs.Faults.{Rose}
+use Rattle.plan_desk.specs.Contents.{WhereToldHolds, StopsReading}
+use Rattle.instance_model.specs.declared.limits.Limits.{Limits}
+use Rattle.instance_shape.specs.FileFaults.{HasFileFault}
+use Rattle.instance_read.specs.Faults.{fault_of}
+use Rattle.instance_read.specs.declared.fault.InstanceFault.{InstanceFault}
+use Rattle.instance_read.specs.declared.fault.StreamFault.{StreamFault}
+use Rattle.instance_read.specs.declared.fault.StreamFault.TheVariants as stream
+
+-- an answer other than an instance is the fault of the bytes, or says that memory ran out
+abbrev pub TellsFault : Limits → List ℕ → InstanceFault → Type 0
+TellsFault limits bytes fault = IfSome (fault_of fault) (HasFileFault limits bytes)
+
+-- the file of this name was read, its bytes are within a limit and such; they are what it holds, where told
+pub record ReadsFile (name : List ℕ) (limit : ℕ) (old : Shown) (P : List ℕ → Type 0) : Type 0 where
+  pub bytes : List ℕ
+  pub within : length bytes ≤ limit
+  pub such : P bytes
+  pub held : WhereToldHolds old name (λ held. held ≡ bytes)
+
+-- what a reading without an instance leaves: it stopped on the way, or the file was read to its end
+abbrev pub LeavesFile : List ℕ → (old new : Shown) → Type 0
+LeavesFile name old new = StopsReading name old new ⊎ ShowsSame new (after_take_in name [] old)
+
+-- `Failed` comes only where faults rose, and the last fault, where told, is then such a one; no other answer changes it
+abbrev pub CountsStreamFault : {T : Type 0} → (old new : Shown) (Own : Fault → Type 0) → Result T StreamFault → Type 0
+CountsStreamFault old new Own (Err stream.Failed) = Rose old.faults new.faults × IfSome new.last Own
+CountsStreamFault old new Own (Err stream.TooLong) = new.last ≡ old.last
+CountsStreamFault old new Own (Err (stream.Text fault)) = new.last ≡ old.last
+CountsStreamFault old new Own (Err stream.Memory) = new.last ≡ old.last
+CountsStreamFault old new Own (Ok x) = new.last ≡ old.last

@@ -1,0 +1,16 @@
+//! Reading the instance of a file: from its bytes, or piece by piece from a device.
+#![tactic(auto)]
+
+mod build;
+mod empty;
+mod fault;
+mod follow;
+mod keeper;
+mod pieces;
+mod read;
+mod reader;
+mod stream;
+mod told;
+
+pub use fault::{InstanceFault, StreamFault};
+pub use read::{read_instance, read_instance_from};
