@@ -1,20 +1,22 @@
 -- Which statuses the words and the files allow.
-use Rattle.std.proofs.Common.{◌≡◌, ℕ, ◌^◌, ◌<◌, ◌≤◌, ◌⊎◌, inl, inr, List, [], ◌∷◌, length, Option, Some, None, refl, sym, ◌∙◌, ap, subst, arith}
+use Rattle.std.proofs.Common.{◌≡◌, ℕ, pos, ◌^◌, ◌<◌, ◌⊎◌, inl, inr, List, [], ◌∷◌, length, Option, Some, None, refl, sym, ◌∙◌, ap, subst, arith}
 use Rattle.plan_desk.specs.Desk.{Shown}
-use Rattle.plan_desk.specs.Faults.{Rose}
 use Rattle.plan_desk.specs.Contents.{Says, TellsSuch, WhereToldHolds}
 use Rattle.plan_text.specs.declared.fault.PlanFault.{PlanFault}
 use Rattle.plan_text.proofs.LawLemmas.{one_plan, not_both}
 use Rattle.instance_model.specs.Tables.{Tables}
 use Rattle.instance_model.specs.Rules.{KeepsRules}
+use Rattle.instance_model.specs.Limits.{standard_limits}
+use Rattle.instance_shape.specs.FileFaults.{FileFault}
+use Rattle.instance_shape.proofs.OneAnswer.{one_answer}
 use Rattle.planner_cli.specs.Words.{Evaluation, evaluation}
-use Rattle.planner_cli.specs.Lines.{instance_line, long_plan_line}
-use Rattle.planner_cli.specs.Answers.{Takes, IsNotTaken, Spells, HasFault, Judges, AnswersPlan, Answers}
+use Rattle.planner_cli.specs.Lines.{long_instance_line, instance_fault_line, long_plan_line}
+use Rattle.planner_cli.specs.Answers.{Takes, IsLongInstance, IsFaulty, Spells, HasFault, Judges, AnswersPlan}
 use Rattle.planner_cli.specs.Answers.Judges.{feasible, infeasible}
 use Rattle.planner_cli.specs.Answers.AnswersPlan.{long, faulty, judged}
-use Rattle.planner_cli.specs.Answers.Answers.{not_taken, taken}
-use Rattle.planner_cli.specs.Outcome.{Asks, ReadsInstance, ReadsBytes, IsDue, SaysPart, Ends, IsOneOf, TellsMissing, TellsInstance, TellsPlan, TellsNoInstance, TellsNoPlan, TellsBoth, IsRefusedPlan, IsKeptPlan, IsBrokenPlan, NoFault, WantsMemory, Answered}
-use Rattle.planner_cli.specs.Outcome.IsDue.{faulty_words, unread_instance, refused_instance, unread_plan, long_plan, answered, no_memory}
+use Rattle.planner_cli.specs.Answers.Answers.{long_instance as long_answer, faulty_instance as faulty_answer, taken}
+use Rattle.planner_cli.specs.Outcome.{Asks, ReadsInstance, ReadsFaulty, ReadsBytes, IsDue, Ends, IsOneOf, TellsMissing, TellsInstance, TellsPlan, TellsNoInstance, TellsNoPlan, TellsBoth, IsRefusedInstance, IsRefusedPlan, IsKeptPlan, IsBrokenPlan, NoFault, WantsMemory, Answered}
+use Rattle.planner_cli.specs.Outcome.IsDue.{faulty_words, unread_instance, long_instance, faulty_instance, unread_plan, long_plan, answered, no_memory}
 use Rattle.planner_cli.specs.Outcome.Ends.{said, unsaid}
 use Rattle.planner_cli.proofs.ToldLemmas.{told_both, told_missing}
 use Rattle.planner_cli.proofs.DueLemmas.{rose_before}
@@ -38,17 +40,32 @@ read_such s name bytes P reads tells =
     let both = told_both s name P (λ held. held ≡ bytes) tells reads in subst P both.2 both.1
 
 -- an instance that was read is the one that the bytes stand for
-same_instance : (s : Shown) (name : List ℕ) (inst other : Tables) → ReadsInstance name s inst → TellsSuch s name (λ held. Takes held other) → other ≡ inst
-same_instance s name inst other reads tells = reads.only other (read_such s name reads.bytes (λ held. Takes held other) reads.held tells)
+same_instance : (s : Shown) (files : Evaluation) (inst other : Tables) → ReadsInstance files s inst → TellsSuch s files.instance (λ held. Takes files.slack held other) → other ≡ inst
+same_instance s files inst other reads tells = reads.only other (read_such s files.instance reads.bytes (λ held. Takes files.slack held other) reads.held tells)
 
--- bytes that are not taken were not read as an instance
-not_read : (s : Shown) (name : List ℕ) (inst : Tables) → ReadsInstance name s inst → TellsSuch s name IsNotTaken → ⊥
-not_read s name inst reads tells = read_such s name reads.bytes IsNotTaken reads.held tells inst reads.takes
+-- bytes that stand for an instance have no fault
+sound : (slack : ℕ) (bytes : List ℕ) (inst : Tables) (fault : FileFault) → Takes slack bytes inst → IsFaulty bytes fault → ⊥
+sound slack bytes inst fault takes f = (one_answer standard_limits (pos slack) bytes).apart inst fault takes.defines f.has
+
+short : (slack : ℕ) (bytes : List ℕ) (inst : Tables) → Takes slack bytes inst → IsLongInstance bytes → ⊥
+short slack bytes inst takes l = omega (arith, takes.within, l)
+
+taken_or_refused : (slack : ℕ) (bytes : List ℕ) (inst : Tables) → Takes slack bytes inst → IsRefusedInstance bytes → ⊥
+taken_or_refused slack bytes inst takes (inl l) = short slack bytes inst takes l
+taken_or_refused slack bytes inst takes (inr (fault, f)) = sound slack bytes inst fault takes f
+
+-- bytes that are refused were not read as an instance
+not_read : (s : Shown) (files : Evaluation) (inst : Tables) → ReadsInstance files s inst → TellsSuch s files.instance IsRefusedInstance → ⊥
+not_read s files inst reads tells = taken_or_refused files.slack reads.bytes inst reads.takes (read_such s files.instance reads.bytes IsRefusedInstance reads.held tells)
 
 -- bytes that are taken are not refused
-not_refused : (s : Shown) (name : List ℕ) (inst : Tables) → WhereToldHolds s name IsNotTaken → TellsSuch s name (λ held. Takes held inst) → ⊥
-not_refused s name inst refused tells =
-    let both = told_both s name (λ held. Takes held inst) IsNotTaken tells refused in both.2 inst both.1
+not_long_instance : (s : Shown) (files : Evaluation) (inst : Tables) → WhereToldHolds s files.instance IsLongInstance → TellsSuch s files.instance (λ held. Takes files.slack held inst) → ⊥
+not_long_instance s files inst held tells =
+    let both = told_both s files.instance (λ bytes. Takes files.slack bytes inst) IsLongInstance tells held in short files.slack both.0 inst both.1 both.2
+
+not_faulty_instance : (s : Shown) (files : Evaluation) (inst : Tables) (fault : FileFault) → ReadsFaulty files.instance s fault → TellsSuch s files.instance (λ held. Takes files.slack held inst) → ⊥
+not_faulty_instance s files inst fault reads tells =
+    sound files.slack reads.bytes inst fault (read_such s files.instance reads.bytes (λ held. Takes files.slack held inst) reads.held tells) reads.faulty
 
 -- ---- the answer for a plan file
 
@@ -95,7 +112,8 @@ refused_answer inst bytes s t refused (judged plan status text spells judges) = 
 no_words_due : (words : List (List ℕ)) (old new : Shown) (s : ℕ) (t : List ℕ) → IsDue words old new s t → evaluation words ≡ None → IsOneOf (2 ∷ 8 ∷ []) s
 no_words_due words old new s t (faulty_words e) none = inl refl
 no_words_due words old new s t (unread_instance files asks fails) none = absurd (no_asking words files none asks)
-no_words_due words old new s t (refused_instance files asks held) none = absurd (no_asking words files none asks)
+no_words_due words old new s t (long_instance files asks held) none = absurd (no_asking words files none asks)
+no_words_due words old new s t (faulty_instance files fault asks reads) none = absurd (no_asking words files none asks)
 no_words_due words old new s t (unread_plan files inst asks reads fails) none = absurd (no_asking words files none asks)
 no_words_due words old new s t (long_plan files inst asks reads held) none = absurd (no_asking words files none asks)
 no_words_due words old new s t (answered files inst bytes status text asks reads held answers) none = absurd (no_asking words files none asks)
@@ -110,8 +128,10 @@ no_words_ends words old new n (unsaid part) none = inr (inl refl)
 no_instance_due : (words : List (List ℕ)) (old new : Shown) (s : ℕ) (t : List ℕ) → IsDue words old new s t → (files : Evaluation) → Asks words files → TellsMissing old files.instance → IsOneOf (7 ∷ 8 ∷ 11 ∷ []) s
 no_instance_due words old new s t (faulty_words none) files asks missing = absurd (no_asking words files none asks)
 no_instance_due words old new s t (unread_instance f a fails) files asks missing = inl refl
-no_instance_due words old new s t (refused_instance f a held) files asks missing =
-    let e = same_files words f files a asks in absurd (told_missing old files.instance IsNotTaken missing (subst (λ (x : Evaluation). WhereToldHolds old x.instance IsNotTaken) e held))
+no_instance_due words old new s t (long_instance f a held) files asks missing =
+    let e = same_files words f files a asks in absurd (told_missing old files.instance IsLongInstance missing (subst (λ (x : Evaluation). WhereToldHolds old x.instance IsLongInstance) e held))
+no_instance_due words old new s t (faulty_instance f fault a reads) files asks missing =
+    let e = same_files words f files a asks in absurd (told_missing old files.instance (λ held. held ≡ reads.bytes) missing (subst (λ (x : Evaluation). WhereToldHolds old x.instance (λ held. held ≡ reads.bytes)) e reads.held))
 no_instance_due words old new s t (unread_plan f inst a reads fails) files asks missing = inl refl
 no_instance_due words old new s t (long_plan f inst a reads held) files asks missing =
     let e = same_files words f files a asks in absurd (told_missing old files.instance (λ held. held ≡ reads.bytes) missing (subst (λ (x : Evaluation). WhereToldHolds old x.instance (λ held. held ≡ reads.bytes)) e reads.held))
@@ -123,30 +143,33 @@ pub no_instance_ends : (words : List (List ℕ)) (old new : Shown) (n : ℕ) →
 no_instance_ends words old new n (said s t due says) tells = no_instance_due words old new s t due tells.files tells.asks tells.missing
 no_instance_ends words old new n (unsaid part) tells = inr (inl refl)
 
--- ---- the instance file is not taken
+-- ---- the instance file is refused
 
-not_taken_due : (words : List (List ℕ)) (old new : Shown) (s : ℕ) (t : List ℕ) → IsDue words old new s t → (files : Evaluation) → Asks words files → TellsSuch old files.instance IsNotTaken → IsOneOf (3 ∷ 7 ∷ 8 ∷ 11 ∷ []) s
-not_taken_due words old new s t (faulty_words none) files asks tells = absurd (no_asking words files none asks)
-not_taken_due words old new s t (unread_instance f a fails) files asks tells = inr (inl refl)
-not_taken_due words old new s t (refused_instance f a held) files asks tells = inl refl
-not_taken_due words old new s t (unread_plan f inst a reads fails) files asks tells = inr (inl refl)
-not_taken_due words old new s t (long_plan f inst a reads held) files asks tells =
-    let e = same_files words f files a asks in absurd (not_read old files.instance inst (subst (λ (x : Evaluation). ReadsInstance x.instance old inst) e reads) tells)
-not_taken_due words old new s t (answered f inst bytes status text a reads held answers) files asks tells =
-    let e = same_files words f files a asks in absurd (not_read old files.instance inst (subst (λ (x : Evaluation). ReadsInstance x.instance old inst) e reads) tells)
-not_taken_due words old new s t (no_memory f a) files asks tells = inr (inr (inr (inl refl)))
+refused_instance_due : (words : List (List ℕ)) (old new : Shown) (s : ℕ) (t : List ℕ) → IsDue words old new s t → (files : Evaluation) → Asks words files → TellsSuch old files.instance IsRefusedInstance → IsOneOf (3 ∷ 7 ∷ 8 ∷ 11 ∷ []) s
+refused_instance_due words old new s t (faulty_words none) files asks tells = absurd (no_asking words files none asks)
+refused_instance_due words old new s t (unread_instance f a fails) files asks tells = inr (inl refl)
+refused_instance_due words old new s t (long_instance f a held) files asks tells = inl refl
+refused_instance_due words old new s t (faulty_instance f fault a reads) files asks tells = inl refl
+refused_instance_due words old new s t (unread_plan f inst a reads fails) files asks tells = inr (inl refl)
+refused_instance_due words old new s t (long_plan f inst a reads held) files asks tells =
+    let e = same_files words f files a asks in absurd (not_read old files inst (subst (λ (x : Evaluation). ReadsInstance x old inst) e reads) tells)
+refused_instance_due words old new s t (answered f inst bytes status text a reads held answers) files asks tells =
+    let e = same_files words f files a asks in absurd (not_read old files inst (subst (λ (x : Evaluation). ReadsInstance x old inst) e reads) tells)
+refused_instance_due words old new s t (no_memory f a) files asks tells = inr (inr (inr (inl refl)))
 
-pub not_taken_ends : (words : List (List ℕ)) (old new : Shown) (n : ℕ) → Ends words old new n → TellsInstance words old IsNotTaken → IsOneOf (3 ∷ 7 ∷ 8 ∷ 11 ∷ []) n
-not_taken_ends words old new n (said s t due says) tells = not_taken_due words old new s t due tells.files tells.asks tells.tells
-not_taken_ends words old new n (unsaid part) tells = inr (inr (inl refl))
+pub refused_instance_ends : (words : List (List ℕ)) (old new : Shown) (n : ℕ) → Ends words old new n → TellsInstance words old IsRefusedInstance → IsOneOf (3 ∷ 7 ∷ 8 ∷ 11 ∷ []) n
+refused_instance_ends words old new n (said s t due says) tells = refused_instance_due words old new s t due tells.files tells.asks tells.tells
+refused_instance_ends words old new n (unsaid part) tells = inr (inr (inl refl))
 
 -- ---- the instance file is taken, and the plan file is missing
 
 no_plan_due : (words : List (List ℕ)) (old new : Shown) (s : ℕ) (t : List ℕ) → IsDue words old new s t → TellsNoPlan words old → IsOneOf (7 ∷ 8 ∷ 11 ∷ []) s
 no_plan_due words old new s t (faulty_words none) tells = absurd (no_asking words tells.files none tells.asks)
 no_plan_due words old new s t (unread_instance f a fails) tells = inl refl
-no_plan_due words old new s t (refused_instance f a held) tells =
-    let e = same_files words f tells.files a tells.asks in absurd (not_refused old tells.files.instance tells.inst (subst (λ (x : Evaluation). WhereToldHolds old x.instance IsNotTaken) e held) tells.tells)
+no_plan_due words old new s t (long_instance f a held) tells =
+    let e = same_files words f tells.files a tells.asks in absurd (not_long_instance old tells.files tells.inst (subst (λ (x : Evaluation). WhereToldHolds old x.instance IsLongInstance) e held) tells.tells)
+no_plan_due words old new s t (faulty_instance f fault a reads) tells =
+    let e = same_files words f tells.files a tells.asks in absurd (not_faulty_instance old tells.files tells.inst fault (subst (λ (x : Evaluation). ReadsFaulty x.instance old fault) e reads) tells.tells)
 no_plan_due words old new s t (unread_plan f inst a reads fails) tells = inl refl
 no_plan_due words old new s t (long_plan f inst a reads held) tells =
     let e = same_files words f tells.files a tells.asks in absurd (told_missing old tells.files.plan (λ held. 2 ^ 24 < length held) tells.missing (subst (λ (x : Evaluation). WhereToldHolds old x.plan (λ held. 2 ^ 24 < length held)) e held))
@@ -165,8 +188,10 @@ such_due : (words : List (List ℕ)) (old new : Shown) (s : ℕ) (t : List ℕ) 
     → IsDue words old new s t → TellsPlan words old P → IsOneOf (k ∷ 7 ∷ 8 ∷ 11 ∷ []) s
 such_due words old new s t P k status_is (faulty_words none) tells = absurd (no_asking words tells.files none tells.asks)
 such_due words old new s t P k status_is (unread_instance f a fails) tells = inr (inl refl)
-such_due words old new s t P k status_is (refused_instance f a held) tells =
-    let e = same_files words f tells.files a tells.asks in absurd (not_refused old tells.files.instance tells.inst (subst (λ (x : Evaluation). WhereToldHolds old x.instance IsNotTaken) e held) tells.tells)
+such_due words old new s t P k status_is (long_instance f a held) tells =
+    let e = same_files words f tells.files a tells.asks in absurd (not_long_instance old tells.files tells.inst (subst (λ (x : Evaluation). WhereToldHolds old x.instance IsLongInstance) e held) tells.tells)
+such_due words old new s t P k status_is (faulty_instance f fault a reads) tells =
+    let e = same_files words f tells.files a tells.asks in absurd (not_faulty_instance old tells.files tells.inst fault (subst (λ (x : Evaluation). ReadsFaulty x.instance old fault) e reads) tells.tells)
 such_due words old new s t P k status_is (unread_plan f inst a reads fails) tells = inr (inl refl)
 such_due words old new s t P k status_is (long_plan f inst a reads held) tells =
     let e = same_files words f tells.files a tells.asks in
@@ -174,7 +199,7 @@ such_due words old new s t P k status_is (long_plan f inst a reads held) tells =
     inl (status_is tells.inst both.0 4 long_plan_line both.1 (long both.2))
 such_due words old new s t P k status_is (answered f inst bytes status text a reads held answers) tells =
     let e = same_files words f tells.files a tells.asks in
-    let same : tells.inst ≡ inst = same_instance old tells.files.instance inst tells.inst (subst (λ (x : Evaluation). ReadsInstance x.instance old inst) e reads) tells.tells in
+    let same : tells.inst ≡ inst = same_instance old tells.files inst tells.inst (subst (λ (x : Evaluation). ReadsInstance x old inst) e reads) tells.tells in
     let such : P tells.inst bytes = read_such old tells.files.plan bytes (P tells.inst) (subst (λ (x : Evaluation). ReadsBytes x.plan old bytes) e held) tells.tells_plan in
     inl (status_is inst bytes status text (subst (λ (i : Tables). P i bytes) same such) answers)
 such_due words old new s t P k status_is (no_memory f a) tells = inr (inr (inr (inl refl)))
@@ -196,36 +221,46 @@ kept_plan_ends words old new n ends tells = such_ends words old new n IsKeptPlan
 
 -- ---- the bytes of both files are told, and no fault rose
 
-exact_due : (words : List (List ℕ)) (old new : Shown) (s : ℕ) (t instance plan : List ℕ) → IsDue words old new s t → Says t old new → TellsBoth words old instance plan → NoFault old new
-    → Answered instance plan old new s ⊎ WantsMemory old new s
-exact_due words old new s t instance plan (faulty_words none) says tells calm = absurd (no_asking words tells.files none tells.asks)
-exact_due words old new s t instance plan (unread_instance f a fails) says tells calm = absurd (calm fails.rose)
-exact_due words old new s t instance plan (refused_instance f a held) says tells calm =
-    let e = same_files words f tells.files a tells.asks in
-    let both = told_both old tells.files.instance (λ held. held ≡ instance) IsNotTaken tells.tells (subst (λ (x : Evaluation). WhereToldHolds old x.instance IsNotTaken) e held) in
-    inl (record { text = instance_line; answers = not_taken (subst IsNotTaken both.1 both.2); says = says })
-exact_due words old new s t instance plan (unread_plan f inst a reads fails) says tells calm = absurd (calm fails.rose)
-exact_due words old new s t instance plan (long_plan f inst a reads held) says tells calm =
+-- what was taken with the slack of the words
+taken_bytes : (words : List (List ℕ)) (old : Shown) (f : Evaluation) (slack : ℕ) (instance plan : List ℕ) (inst : Tables) → Asks words f → ReadsInstance f old inst → TellsBoth words old slack instance plan → Takes slack instance inst
+taken_bytes words old f slack instance plan inst a reads tells =
     let e = same_files words f tells.files a tells.asks in
     let same : reads.bytes ≡ instance = read_such old tells.files.instance reads.bytes (λ held. held ≡ instance) (subst (λ (x : Evaluation). ReadsBytes x.instance old reads.bytes) e reads.held) tells.tells in
+    let widened : f.slack ≡ slack = ap (λ (x : Evaluation). x.slack) e ∙ tells.widens in
+    subst (λ (n : ℕ). Takes n instance inst) widened (subst (λ (b : List ℕ). Takes f.slack b inst) same reads.takes)
+
+exact_due : (words : List (List ℕ)) (old new : Shown) (s : ℕ) (t : List ℕ) (slack : ℕ) (instance plan : List ℕ) → IsDue words old new s t → Says t old new → TellsBoth words old slack instance plan → NoFault old new
+    → Answered slack instance plan old new s ⊎ WantsMemory old new s
+exact_due words old new s t slack instance plan (faulty_words none) says tells calm = absurd (no_asking words tells.files none tells.asks)
+exact_due words old new s t slack instance plan (unread_instance f a fails) says tells calm = absurd (calm fails.rose)
+exact_due words old new s t slack instance plan (long_instance f a held) says tells calm =
+    let e = same_files words f tells.files a tells.asks in
+    let both = told_both old tells.files.instance (λ held. held ≡ instance) IsLongInstance tells.tells (subst (λ (x : Evaluation). WhereToldHolds old x.instance IsLongInstance) e held) in
+    inl (record { text = long_instance_line; answers = long_answer (subst IsLongInstance both.1 both.2); says = says })
+exact_due words old new s t slack instance plan (faulty_instance f fault a reads) says tells calm =
+    let e = same_files words f tells.files a tells.asks in
+    let same : reads.bytes ≡ instance = read_such old tells.files.instance reads.bytes (λ held. held ≡ instance) (subst (λ (x : Evaluation). ReadsBytes x.instance old reads.bytes) e reads.held) tells.tells in
+    inl (record { text = instance_fault_line fault; answers = faulty_answer fault (subst (λ (b : List ℕ). IsFaulty b fault) same reads.faulty); says = says })
+exact_due words old new s t slack instance plan (unread_plan f inst a reads fails) says tells calm = absurd (calm fails.rose)
+exact_due words old new s t slack instance plan (long_plan f inst a reads held) says tells calm =
+    let e = same_files words f tells.files a tells.asks in
     let both = told_both old tells.files.plan (λ held. held ≡ plan) (λ held. 2 ^ 24 < length held) tells.tells_plan (subst (λ (x : Evaluation). WhereToldHolds old x.plan (λ held. 2 ^ 24 < length held)) e held) in
     inl (record {
       text = long_plan_line;
-      answers = taken inst 4 long_plan_line (subst (λ (b : List ℕ). Takes b inst) same reads.takes) (long (subst (λ (b : List ℕ). 2 ^ 24 < length b) both.1 both.2));
+      answers = taken inst 4 long_plan_line (taken_bytes words old f slack instance plan inst a reads tells) (long (subst (λ (b : List ℕ). 2 ^ 24 < length b) both.1 both.2));
       says = says;
     })
-exact_due words old new s t instance plan (answered f inst bytes status text a reads held answers) says tells calm =
+exact_due words old new s t slack instance plan (answered f inst bytes status text a reads held answers) says tells calm =
     let e = same_files words f tells.files a tells.asks in
-    let same : reads.bytes ≡ instance = read_such old tells.files.instance reads.bytes (λ held. held ≡ instance) (subst (λ (x : Evaluation). ReadsBytes x.instance old reads.bytes) e reads.held) tells.tells in
     let same_bytes : bytes ≡ plan = read_such old tells.files.plan bytes (λ held. held ≡ plan) (subst (λ (x : Evaluation). ReadsBytes x.plan old bytes) e held) tells.tells_plan in
     inl (record {
       text = text;
-      answers = taken inst status text (subst (λ (b : List ℕ). Takes b inst) same reads.takes) (subst (λ (b : List ℕ). AnswersPlan inst b status text) same_bytes answers);
+      answers = taken inst status text (taken_bytes words old f slack instance plan inst a reads tells) (subst (λ (b : List ℕ). AnswersPlan inst b status text) same_bytes answers);
       says = says;
     })
-exact_due words old new s t instance plan (no_memory f a) says tells calm = inr (record { status_is = refl; says = says })
+exact_due words old new s t slack instance plan (no_memory f a) says tells calm = inr (record { status_is = refl; says = says })
 
-pub exact_ends : (words : List (List ℕ)) (old new : Shown) (n : ℕ) → Ends words old new n → (instance plan : List ℕ) → TellsBoth words old instance plan → NoFault old new
-    → Answered instance plan old new n ⊎ WantsMemory old new n
-exact_ends words old new n (said s t due says) instance plan tells calm = exact_due words old new s t instance plan due says tells calm
-exact_ends words old new n (unsaid part) instance plan tells calm = absurd (calm (rose_before old.faults part.before.faults new.faults part.later part.fails.rose))
+pub exact_ends : (words : List (List ℕ)) (old new : Shown) (n : ℕ) → Ends words old new n → (slack : ℕ) (instance plan : List ℕ) → TellsBoth words old slack instance plan → NoFault old new
+    → Answered slack instance plan old new n ⊎ WantsMemory old new n
+exact_ends words old new n (said s t due says) slack instance plan tells calm = exact_due words old new s t slack instance plan due says tells calm
+exact_ends words old new n (unsaid part) slack instance plan tells calm = absurd (calm (rose_before old.faults part.before.faults new.faults part.later part.fails.rose))

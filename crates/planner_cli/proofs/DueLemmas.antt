@@ -4,16 +4,16 @@ use Rattle.std.specs.Prelude.{IfSome, option_map}
 use Rattle.plan_desk.specs.Desk.{Shown, Fault}
 use Rattle.plan_desk.specs.Faults.{Rose, IsReadFaultOf}
 use Rattle.plan_desk.specs.Contents.{Says}
-use Rattle.instance_model.specs.Tables.{Tables}
+use Rattle.instance_shape.specs.FileFaults.{FileFault}
 use Rattle.planner_cli.specs.Words.{Evaluation}
 use Rattle.planner_cli.specs.Lines.{memory_line, read_line, plan_fault_line}
 use Rattle.planner_cli.specs.Answers.AnswersPlan.{faulty, judged}
-use Rattle.planner_cli.specs.Outcome.{Asks, ReadFails, SayFails, IsDue, SaysPart, Ends}
-use Rattle.planner_cli.specs.Outcome.IsDue.{faulty_words, unread_instance, refused_instance, unread_plan, long_plan, answered, no_memory}
+use Rattle.planner_cli.specs.Outcome.{Asks, ReadFails, IsDue, Ends}
+use Rattle.planner_cli.specs.Outcome.IsDue.{faulty_words, unread_instance, long_instance, faulty_instance, unread_plan, long_plan, answered, no_memory}
 use Rattle.planner_cli.specs.Outcome.Ends.{said, unsaid}
 use Rattle.planner_cli.specs.declared.refusal.Refusal.{Refusal}
-use Rattle.planner_cli.specs.declared.refusal.Refusal.TheVariants.{Unread, NotBuilt, LongPlan, Plan, Memory}
-use Rattle.planner_cli.specs.Refusals.{status_of, line_of, IsInstanceCause, IsPlanCause, IsLaterCause, IsCause, IsVerdictOn, SaysAll, SaysSome, SaysOrFails}
+use Rattle.planner_cli.specs.declared.refusal.Refusal.TheVariants.{Unread, LongInstance, Instance, LongPlan, Plan, Memory}
+use Rattle.planner_cli.specs.Refusals.{status_of, line_of, line_or_memory, IsCause, IsVerdictOn, SaysOrFails}
 
 pub rose_later : (a b c : ℕ) → a ≤ b → b ≤ c → Rose a b → Rose a c
 rose_later a b c ab bc rose = grind (arith, rose)
@@ -30,7 +30,8 @@ fails_later name old mid new first later same fails =
 pub due_later : (words : List (List ℕ)) (old mid new : Shown) (s : ℕ) (t : List ℕ) → old.faults ≤ mid.faults → mid.faults ≤ new.faults → new.last ≡ mid.last → IsDue words old mid s t → IsDue words old new s t
 due_later words old mid new s t first later same (faulty_words none) = faulty_words none
 due_later words old mid new s t first later same (unread_instance files asks fails) = unread_instance files asks (fails_later files.instance old mid new first later same fails)
-due_later words old mid new s t first later same (refused_instance files asks held) = refused_instance files asks held
+due_later words old mid new s t first later same (long_instance files asks held) = long_instance files asks held
+due_later words old mid new s t first later same (faulty_instance files fault asks reads) = faulty_instance files fault asks reads
 due_later words old mid new s t first later same (unread_plan files inst asks reads fails) = unread_plan files inst asks reads (fails_later files.plan old mid new first later same fails)
 due_later words old mid new s t first later same (long_plan files inst asks reads held) = long_plan files inst asks reads held
 due_later words old mid new s t first later same (answered files inst bytes status text asks reads held answers) = answered files inst bytes status text asks reads held answers
@@ -40,8 +41,11 @@ due_later words old mid new s t first later same (no_memory files asks) = no_mem
 pub cause_due : (words : List (List ℕ)) (files : Evaluation) (old new : Shown) (r : Refusal) → Asks words files → IsCause files old new r → IsDue words old new (status_of r) (line_of r)
 cause_due words files old new (Unread w) asks (inl c) = subst (λ (n : ℕ). IsDue words old new 7 (read_line n)) (sym c.0) (unread_instance files asks c.1)
 cause_due words files old new (Unread w) asks (inr c) = subst (λ (n : ℕ). IsDue words old new 7 (read_line n)) (sym c.cause.0) (unread_plan files c.inst asks c.reads c.cause.1)
-cause_due words files old new NotBuilt asks (inl c) = refused_instance files asks c
-cause_due words files old new NotBuilt asks (inr c) = absurd c.cause
+cause_due words files old new LongInstance asks (inl c) = long_instance files asks c
+cause_due words files old new LongInstance asks (inr c) = absurd c.cause
+cause_due words files old new (Instance fault) asks (inl c) =
+    subst (λ (f : Option FileFault). IsDue words old new 3 (line_or_memory f)) (sym c.1) (faulty_instance files c.0 asks c.2)
+cause_due words files old new (Instance fault) asks (inr c) = absurd c.cause
 cause_due words files old new LongPlan asks (inl c) = absurd c
 cause_due words files old new LongPlan asks (inr c) = long_plan files c.inst asks c.reads c.cause
 cause_due words files old new (Plan fault) asks (inl c) = absurd c
@@ -69,6 +73,7 @@ due_ends words old mid new due text status first later same is (inr some) =
       status = due;
       text = text;
       due = is;
+      silent = same;
       part = some.part;
       within = some.within;
       says = says_before old mid new (take some.part text) same some.says;

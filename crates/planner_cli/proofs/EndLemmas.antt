@@ -1,15 +1,17 @@
 -- What stands behind each status of a run that has ended.
-use Rattle.std.proofs.Common.{◌≡◌, ℕ, ◌^◌, ◌<◌, ◌≤◌, ◌⊎◌, inl, inr, List, [], ◌∷◌, length, Option, refl, sym, subst, arith}
+use Rattle.std.proofs.Common.{◌≡◌, ℕ, pos, ◌-◌, ◌^◌, ◌<◌, ◌≤◌, ◌⊎◌, inl, inr, List, [], ◌∷◌, length, Option, refl, sym, subst, arith}
 use Rattle.plan_desk.specs.Desk.{Shown}
 use Rattle.plan_desk.specs.Contents.{Says}
 use Rattle.instance_model.specs.Tables.{Tables}
+use Rattle.instance_model.specs.Limits.{standard_limits}
+use Rattle.instance_shape.proofs.OwnReading.{own_numbers}
 use Rattle.planner_cli.specs.Words.{Evaluation}
 use Rattle.planner_cli.specs.Lines.{memory_line}
 use Rattle.planner_cli.specs.Answers.{Spells, Judges, AnswersPlan}
 use Rattle.planner_cli.specs.Answers.Judges.{feasible, infeasible}
 use Rattle.planner_cli.specs.Answers.AnswersPlan.{long, faulty, judged}
 use Rattle.planner_cli.specs.Outcome.{Asks, ReadsInstance, ReadsBytes, SayFails, IsDue, SaysPart, Ends, ReportsFeasible, ReportsBroken, RefusesWords, RefusesInstance, RefusesPlan, RefusesRead, IsOneOf}
-use Rattle.planner_cli.specs.Outcome.IsDue.{faulty_words, unread_instance, refused_instance, unread_plan, long_plan, answered, no_memory}
+use Rattle.planner_cli.specs.Outcome.IsDue.{faulty_words, unread_instance, long_instance, faulty_instance, unread_plan, long_plan, answered, no_memory}
 use Rattle.planner_cli.specs.Outcome.Ends.{said, unsaid}
 use Rattle.planner_cli.proofs.ToldLemmas.{told_map}
 use Rattle.planner_cli.proofs.DueLemmas.{rose_before}
@@ -17,7 +19,7 @@ use Rattle.planner_cli.proofs.DueLemmas.{rose_before}
 -- what was read for an answer
 record IsRead (words : List (List ℕ)) (old : Shown) (files : Evaluation) (inst : Tables) (bytes : List ℕ) : Type 0 where
   asks : Asks words files
-  reads : ReadsInstance files.instance old inst
+  reads : ReadsInstance files old inst
   reads_plan : ReadsBytes files.plan old bytes
 
 -- ---- a verdict
@@ -25,7 +27,21 @@ record IsRead (words : List (List ℕ)) (old : Shown) (files : Evaluation) (inst
 feasible_verdict : (words : List (List ℕ)) (old new : Shown) (files : Evaluation) (inst : Tables) (bytes : List ℕ) (plan : List (Option ℕ)) (s : ℕ) (t : List ℕ)
     → IsRead words old files inst bytes → Spells inst bytes plan → Judges inst plan s t → Says t old new → s ≡ 0 → ReportsFeasible words old new
 feasible_verdict words old new files inst bytes plan s t read spells (feasible keeps encloses) says e =
-    record { files = files; asks = read.asks; inst = inst; reads = read.reads; bytes = bytes; reads_plan = read.reads_plan; plan = plan; spells = spells; keeps = keeps; encloses = encloses; says = says }
+    record {
+      files = files;
+      asks = read.asks;
+      inst = inst;
+      reads = read.reads;
+      bytes = bytes;
+      reads_plan = read.reads_plan;
+      plan = plan;
+      spells = spells;
+      keeps = keeps;
+      encloses = encloses;
+      encloses_own = λ root places numbers tree enough own.
+          encloses (10 ^ (places - 12)) numbers (own_numbers standard_limits (pos files.slack) read.reads.bytes inst root places numbers read.reads.takes.defines tree enough own);
+      says = says;
+    }
 feasible_verdict words old new files inst bytes plan s t read spells (infeasible rule not_kept first) says e = absurd (omega arith)
 
 broken_verdict : (words : List (List ℕ)) (old new : Shown) (files : Evaluation) (inst : Tables) (bytes : List ℕ) (plan : List (Option ℕ)) (s : ℕ) (t : List ℕ)
@@ -99,7 +115,8 @@ feasible_due words old new s t (answered files inst bytes status text asks reads
     feasible_answer words old new files inst bytes status text (record { asks = asks; reads = reads; reads_plan = held }) answers says e
 feasible_due words old new s t (faulty_words none) says e = absurd (omega arith)
 feasible_due words old new s t (unread_instance files asks fails) says e = absurd (omega arith)
-feasible_due words old new s t (refused_instance files asks held) says e = absurd (omega arith)
+feasible_due words old new s t (long_instance files asks held) says e = absurd (omega arith)
+feasible_due words old new s t (faulty_instance files fault asks reads) says e = absurd (omega arith)
 feasible_due words old new s t (unread_plan files inst asks reads fails) says e = absurd (omega arith)
 feasible_due words old new s t (long_plan files inst asks reads held) says e = absurd (omega arith)
 feasible_due words old new s t (no_memory files asks) says e = absurd (omega arith)
@@ -109,7 +126,8 @@ broken_due words old new s t (answered files inst bytes status text asks reads h
     broken_answer words old new files inst bytes status text (record { asks = asks; reads = reads; reads_plan = held }) answers says e
 broken_due words old new s t (faulty_words none) says e = absurd (omega arith)
 broken_due words old new s t (unread_instance files asks fails) says e = absurd (omega arith)
-broken_due words old new s t (refused_instance files asks held) says e = absurd (omega arith)
+broken_due words old new s t (long_instance files asks held) says e = absurd (omega arith)
+broken_due words old new s t (faulty_instance files fault asks reads) says e = absurd (omega arith)
 broken_due words old new s t (unread_plan files inst asks reads fails) says e = absurd (omega arith)
 broken_due words old new s t (long_plan files inst asks reads held) says e = absurd (omega arith)
 broken_due words old new s t (no_memory files asks) says e = absurd (omega arith)
@@ -118,13 +136,15 @@ words_due : (words : List (List ℕ)) (old new : Shown) (s : ℕ) (t : List ℕ)
 words_due words old new s t (faulty_words none) says e = record { none = none; says = says }
 words_due words old new s t (answered files inst bytes status text asks reads held answers) says e = absurd (two_or_three inst bytes status text answers (omega arith) (omega arith))
 words_due words old new s t (unread_instance files asks fails) says e = absurd (omega arith)
-words_due words old new s t (refused_instance files asks held) says e = absurd (omega arith)
+words_due words old new s t (long_instance files asks held) says e = absurd (omega arith)
+words_due words old new s t (faulty_instance files fault asks reads) says e = absurd (omega arith)
 words_due words old new s t (unread_plan files inst asks reads fails) says e = absurd (omega arith)
 words_due words old new s t (long_plan files inst asks reads held) says e = absurd (omega arith)
 words_due words old new s t (no_memory files asks) says e = absurd (omega arith)
 
 instance_due : (words : List (List ℕ)) (old new : Shown) (s : ℕ) (t : List ℕ) → IsDue words old new s t → Says t old new → s ≡ 3 → RefusesInstance words old new
-instance_due words old new s t (refused_instance files asks held) says e = record { files = files; asks = asks; held = held; says = says }
+instance_due words old new s t (long_instance files asks held) says e = record { files = files; asks = asks; which = inl (record { held = held; says = says }) }
+instance_due words old new s t (faulty_instance files fault asks reads) says e = record { files = files; asks = asks; which = inr (record { fault = fault; reads = reads; says = says }) }
 instance_due words old new s t (answered files inst bytes status text asks reads held answers) says e = absurd (two_or_three inst bytes status text answers (omega arith) (omega arith))
 instance_due words old new s t (faulty_words none) says e = absurd (omega arith)
 instance_due words old new s t (unread_instance files asks fails) says e = absurd (omega arith)
@@ -138,7 +158,8 @@ plan_due words old new s t (answered files inst bytes status text asks reads hel
     refused_answer words old new files inst bytes status text (record { asks = asks; reads = reads; reads_plan = held }) answers says e
 plan_due words old new s t (faulty_words none) says e = absurd (omega arith)
 plan_due words old new s t (unread_instance files asks fails) says e = absurd (omega arith)
-plan_due words old new s t (refused_instance files asks held) says e = absurd (omega arith)
+plan_due words old new s t (long_instance files asks held) says e = absurd (omega arith)
+plan_due words old new s t (faulty_instance files fault asks reads) says e = absurd (omega arith)
 plan_due words old new s t (unread_plan files inst asks reads fails) says e = absurd (omega arith)
 plan_due words old new s t (no_memory files asks) says e = absurd (omega arith)
 
@@ -147,7 +168,8 @@ read_due words old new s t (unread_instance files asks fails) says e = record { 
 read_due words old new s t (unread_plan files inst asks reads fails) says e = record { files = files; asks = asks; which = inr (record { inst = inst; reads = reads; fails = fails; says = says }) }
 read_due words old new s t (answered files inst bytes status text asks reads held answers) says e = absurd (not_an_answer inst bytes status text answers (omega arith))
 read_due words old new s t (faulty_words none) says e = absurd (omega arith)
-read_due words old new s t (refused_instance files asks held) says e = absurd (omega arith)
+read_due words old new s t (long_instance files asks held) says e = absurd (omega arith)
+read_due words old new s t (faulty_instance files fault asks reads) says e = absurd (omega arith)
 read_due words old new s t (long_plan files inst asks reads held) says e = absurd (omega arith)
 read_due words old new s t (no_memory files asks) says e = absurd (omega arith)
 
@@ -155,7 +177,8 @@ nothing_due : (words : List (List ℕ)) (old new : Shown) (s : ℕ) (t : List �
 nothing_due words old new s t (answered files inst bytes status text asks reads held answers) e = not_an_answer inst bytes status text answers (omega arith)
 nothing_due words old new s t (faulty_words none) e = absurd (omega arith)
 nothing_due words old new s t (unread_instance files asks fails) e = absurd (omega arith)
-nothing_due words old new s t (refused_instance files asks held) e = absurd (omega arith)
+nothing_due words old new s t (long_instance files asks held) e = absurd (omega arith)
+nothing_due words old new s t (faulty_instance files fault asks reads) e = absurd (omega arith)
 nothing_due words old new s t (unread_plan files inst asks reads fails) e = absurd (omega arith)
 nothing_due words old new s t (long_plan files inst asks reads held) e = absurd (omega arith)
 nothing_due words old new s t (no_memory files asks) e = absurd (omega arith)
@@ -165,7 +188,8 @@ memory_due words old new s t (no_memory files asks) says e = says
 memory_due words old new s t (answered files inst bytes status text asks reads held answers) says e = absurd (not_an_answer inst bytes status text answers (omega arith))
 memory_due words old new s t (faulty_words none) says e = absurd (omega arith)
 memory_due words old new s t (unread_instance files asks fails) says e = absurd (omega arith)
-memory_due words old new s t (refused_instance files asks held) says e = absurd (omega arith)
+memory_due words old new s t (long_instance files asks held) says e = absurd (omega arith)
+memory_due words old new s t (faulty_instance files fault asks reads) says e = absurd (omega arith)
 memory_due words old new s t (unread_plan files inst asks reads fails) says e = absurd (omega arith)
 memory_due words old new s t (long_plan files inst asks reads held) says e = absurd (omega arith)
 
@@ -175,7 +199,8 @@ listed_due words old new s t (answered files inst bytes status text asks reads h
     let cases : (status ≤ 1) ⊎ (status ≡ 4) = answer_status inst bytes status text answers in grind (arith, cases)
 listed_due words old new s t (faulty_words none) = inr (inr (inl refl))
 listed_due words old new s t (unread_instance files asks fails) = inr (inr (inr (inr (inr (inl refl)))))
-listed_due words old new s t (refused_instance files asks held) = inr (inr (inr (inl refl)))
+listed_due words old new s t (long_instance files asks held) = inr (inr (inr (inl refl)))
+listed_due words old new s t (faulty_instance files fault asks reads) = inr (inr (inr (inl refl)))
 listed_due words old new s t (unread_plan files inst asks reads fails) = inr (inr (inr (inr (inr (inl refl)))))
 listed_due words old new s t (long_plan files inst asks reads held) = inr (inr (inr (inr (inl refl))))
 listed_due words old new s t (no_memory files asks) = inr (inr (inr (inr (inr (inr (inr (inl refl)))))))

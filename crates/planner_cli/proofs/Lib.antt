@@ -4,3 +4,4 @@ pub mod DueLemmas
 pub mod ReadLemmas
 pub mod EndLemmas
 pub mod AllowedLemmas
+mod AnswerLemmas

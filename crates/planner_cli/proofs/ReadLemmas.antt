@@ -1,9 +1,8 @@
 -- What was read of the two files.
-use Rattle.std.proofs.Common.{◌≡◌, ℕ, ◌^◌, ◌<◌, ◌≤◌, inr, List, [], length, Option, Some, None, true, false, sym, ◌∙◌, ap, subst, arith}
+use Rattle.std.proofs.Common.{◌≡◌, ℕ, ◌^◌, ◌<◌, ◌≤◌, inr, List, [], length, Option, Some, None, true, false, sym, ◌∙◌, ap, subst}
 use Rattle.std.specs.Prelude.{ℤ, pos, option_map, is_some}
 use Rattle.plan_desk.specs.Desk.{Shown, ShowsSame, after_take_in}
 use Rattle.plan_desk.specs.Contents.{WhereToldHolds}
-use Rattle.decimal_json.proofs.Laws.{one_tree}
 use Rattle.instance_model.specs.Limits.{standard_limits}
 use Rattle.instance_model.specs.declared.limits.Limits.{Limits}
 use Rattle.instance_model.specs.Tables.{Tables}
@@ -11,59 +10,74 @@ use Rattle.instance_model.specs.Rules.{first_rule}
 use Rattle.instance_model.specs.declared.rule.Rule.{Rule}
 use Rattle.instance_model.proofs.RuleLemmas.{KeepsRules-from, IsFeasible-from}
 use Rattle.instance_shape.specs.Defined.{Defines}
-use Rattle.instance_shape.specs.FileTables.{tables}
-use Rattle.instance_plain.specs.Reduced.{HasReducedForm}
+use Rattle.instance_shape.specs.FileFaults.{FileFault, HasFileFault}
+use Rattle.instance_shape.proofs.OneAnswer.{one_answer}
+use Rattle.instance_read.specs.Faults.{fault_of}
+use Rattle.instance_read.specs.Reading.{ReadsFile}
+use Rattle.instance_read.specs.declared.fault.InstanceFault.{InstanceFault}
 use Rattle.plan_score.specs.Values.{values_of}
 use Rattle.plan_score.specs.Verdict.{IfFeasible, IfBroken}
 use Rattle.plan_score.specs.declared.values.Values.{Values}
 use Rattle.plan_score.specs.declared.verdict.Verdict.{Verdict}
 use Rattle.plan_score.specs.declared.verdict.Verdict.TheVariants.{Feasible, Broken}
 use Rattle.planner_cli.specs.Words.{Evaluation}
-use Rattle.planner_cli.specs.Answers.{Takes, IsNotTaken, EnclosesEveryReading, Judges}
+use Rattle.planner_cli.specs.Answers.{IsLongInstance, EnclosesEveryReading, Judges}
 use Rattle.planner_cli.specs.Answers.Judges.{feasible, infeasible}
-use Rattle.planner_cli.specs.Outcome.{ReadsInstance}
+use Rattle.planner_cli.specs.Outcome.{ReadsInstance, ReadsFaulty}
 use Rattle.planner_cli.specs.Reports.{values_report, feasible_report, infeasible_report, NamesOf}
 use Rattle.planner_cli.specs.declared.refusal.Refusal.{Refusal}
 use Rattle.planner_cli.specs.declared.refusal.Refusal.TheVariants as refusal
 use Rattle.planner_cli.specs.Refusals.{IsPlanCause, IsCause}
-use Rattle.planner_cli.proofs.ToldLemmas.{told_map, told_before}
+use Rattle.planner_cli.proofs.ToldLemmas.{told_before}
 use Rattle.planner_cli.proofs.DueLemmas.{rose_before}
 use Rattle.planner_cli.proofs.RuleNames.{rule_names}
 
 -- ---- the instance
 
--- a text stands for one instance
-one_instance : (limits : Limits) (slack : ℤ) (bytes : List ℕ) (a b : Tables) → Defines limits slack bytes a → Defines limits slack bytes b → a ≡ b
-one_instance limits slack bytes a b x y =
-    x.tables ∙ ap (λ root. tables slack root) (one_tree bytes x.root y.root x.text.text y.text.text) ∙ sym y.tables
-
-pub reads_instance : (name bytes seen : List ℕ) (old : Shown) (inst : Tables) → WhereToldHolds old name (λ held. held ≡ bytes) → length bytes ≤ 2 ^ 26 → seen ≡ bytes
-    → HasReducedForm seen → Defines standard_limits (pos 0) seen inst → ReadsInstance name old inst
-reads_instance name bytes seen old inst held within same reduced defines =
-    let here : Defines standard_limits (pos 0) bytes inst = subst (λ (b : List ℕ). Defines standard_limits (pos 0) b inst) same defines in
+pub reads_instance : (files : Evaluation) (old : Shown) (limits : Limits) (slack : ℤ) (inst : Tables) → limits ≡ standard_limits → slack ≡ pos files.slack
+    → ReadsFile files.instance limits.instance_bytes old (λ bytes. Defines limits slack bytes inst) → ReadsInstance files old inst
+reads_instance files old limits slack inst standard same found =
+    let read = subst (λ (l : Limits). ReadsFile files.instance l.instance_bytes old (λ bytes. Defines l slack bytes inst)) standard found in
+    let here : Defines standard_limits (pos files.slack) read.bytes inst = subst (λ (z : ℤ). Defines standard_limits z read.bytes inst) same read.such in
     record {
-      bytes = bytes;
-      takes = record { within = within; reduced = subst (λ (b : List ℕ). HasReducedForm b) same reduced; defines = here };
-      only = λ other takes. one_instance standard_limits (pos 0) bytes other inst takes.defines here;
-      held = held;
+      bytes = read.bytes;
+      takes = record { within = read.within; defines = here };
+      only = λ other takes. (one_answer standard_limits (pos files.slack) read.bytes).instance other inst takes.defines here;
+      held = read.held;
     }
 
--- bytes that are not in the form that is built are not taken
-pub not_built : (name bytes seen : List ℕ) (old : Shown) → WhereToldHolds old name (λ held. held ≡ bytes) → seen ≡ bytes → (HasReducedForm seen → ⊥) → WhereToldHolds old name IsNotTaken
-not_built name bytes seen old held same none =
-    told_map old name (λ held. held ≡ bytes) IsNotTaken (λ b e inst takes. none (subst (λ (x : List ℕ). HasReducedForm x) (e ∙ sym same) takes.reduced)) held
+-- the fault of an instance file is the only one
+pub reads_faulty : (name : List ℕ) (old : Shown) (limits : Limits) (fault : InstanceFault) → limits ≡ standard_limits
+    → ReadsFile name limits.instance_bytes old (λ bytes. (told : FileFault) × (fault_of fault ≡ Some told) × HasFileFault limits bytes told)
+    → (told : FileFault) × (fault_of fault ≡ Some told) × ReadsFaulty name old told
+reads_faulty name old limits fault standard found =
+    let read = subst (λ (l : Limits). ReadsFile name l.instance_bytes old (λ bytes. (told : FileFault) × (fault_of fault ≡ Some told) × HasFileFault l bytes told)) standard found in (
+      read.such.0,
+      read.such.1,
+      record {
+        bytes = read.bytes;
+        faulty = record { within = read.within; has = read.such.2 };
+        only = λ other faulty. (one_answer standard_limits (pos 0) read.bytes).fault other read.such.0 faulty.has read.such.2;
+        held = read.held;
+      },
+    )
+
+-- a file that is longer than the limit
+pub reads_long : (name : List ℕ) (old : Shown) (limits : Limits) → limits ≡ standard_limits → WhereToldHolds old name (λ held. limits.instance_bytes < length held) → WhereToldHolds old name IsLongInstance
+reads_long name old limits standard long = subst (λ (l : Limits). WhereToldHolds old name (λ held. l.instance_bytes < length held)) standard long
 
 -- ---- the plan, after the instance was read
 
 pub cause_before : (name : List ℕ) (inst : Tables) (old mid new : Shown) (r : Refusal) → mid.input.unread ≡ option_map (λ _. []) old.input.unread → mid.output ≡ old.output → old.faults ≤ mid.faults
     → IsPlanCause name inst mid new r → IsPlanCause name inst old new r
 cause_before name inst old mid new (refusal.Unread w) told same later (word, fails) = (word, record { rose = rose_before old.faults mid.faults new.faults later fails.rose; own = fails.own })
-cause_before name inst old mid new refusal.NotBuilt told same later cause = absurd cause
+cause_before name inst old mid new refusal.LongInstance told same later cause = absurd cause
+cause_before name inst old mid new (refusal.Instance fault) told same later cause = absurd cause
 cause_before name inst old mid new refusal.LongPlan told same later cause = told_before old mid name (λ held. 2 ^ 24 < length held) told same cause
 cause_before name inst old mid new (refusal.Plan fault) told same later cause = (cause.0, told_before old mid name (λ held. held ≡ cause.0) told same cause.1, cause.2)
 cause_before name inst old mid new refusal.Memory told same later cause = tt
 
-pub later_cause : (files : Evaluation) (old mid new : Shown) (inst : Tables) (r : Refusal) → ReadsInstance files.instance old inst → ShowsSame mid (after_take_in files.instance [] old) → old.faults ≤ mid.faults
+pub later_cause : (files : Evaluation) (old mid new : Shown) (inst : Tables) (r : Refusal) → ReadsInstance files old inst → ShowsSame mid (after_take_in files.instance [] old) → old.faults ≤ mid.faults
     → IsPlanCause files.plan inst mid new r → IsCause files old new r
 later_cause files old mid new inst r reads shows later cause =
     inr (record { inst = inst; reads = reads; cause = cause_before files.plan inst old mid new r (ap (λ i. i.unread) shows.input) shows.output later cause })

@@ -1,5 +1,5 @@
 -- The first broken rule names what is in the instance.
-use Rattle.std.proofs.Common.{◌≡◌, ℕ, zero, suc, ◌+◌, ◌<◌, ◌≤◌, ◌⊎◌, inl, inr, ⊎_elim, List, length, Option, Some, None, Bool, true, false, refl, sym, ◌∙◌, ap, subst, arith}
+use Rattle.std.proofs.Common.{◌≡◌, ℕ, zero, suc, ◌+◌, ◌<◌, ◌⊎◌, inl, inr, ⊎_elim, List, length, Option, Some, None, Bool, true, false, subst, arith}
 use Rattle.std.specs.Prelude.{if◌then◌else◌, not, ◌&&◌, nat_le, nat_lt, int_lt}
 use Rattle.instance_model.specs.Tables.{Tables, tmax, delta_of, upper_of, lower_of}
 use Rattle.instance_model.specs.Plans.{start_of, load_sum}

@@ -1,5 +1,5 @@
 -- What is told of the files of a desk.
-use Rattle.std.proofs.Common.{◌≡◌, ℕ, List, [], Option, Some, None, sym, subst}
+use Rattle.std.proofs.Common.{◌≡◌, ℕ, List, [], Option, Some, None, subst}
 use Rattle.std.specs.Prelude.{IfSome, IsSomeAnd, option_map}
 use Rattle.plan_desk.specs.Desk.{Shown, Output}
 use Rattle.plan_desk.specs.Contents.{WhereToldHolds, TellsSuch}

@@ -1,5 +1,12 @@
 -- The lines of refusals, each with its line feed.
-use Rattle.std.specs.Prelude.{ℕ, List, ◌++◌, codes, decimal}
+use Rattle.std.specs.Prelude.{ℕ, List, [], ◌++◌, codes, decimal}
+use Rattle.instance_shape.specs.declared.fault.Which.{Which}
+use Rattle.instance_shape.specs.declared.fault.Which.TheVariants as which
+use Rattle.instance_shape.specs.declared.fault.Flaw.{Flaw}
+use Rattle.instance_shape.specs.declared.fault.Flaw.TheVariants as flaw
+use Rattle.instance_shape.specs.Keys.{text_of}
+use Rattle.instance_shape.specs.CrossFaults.{CrossFault, scenario_list, band_length, bad_tmax, no_delta, unknown, no_risk, scenario_count}
+use Rattle.instance_shape.specs.FileFaults.{FileFault, syntax, too_deep, shape, across}
 use Rattle.plan_text.specs.declared.fault.PlanFault.{PlanFault}
 use Rattle.plan_text.specs.declared.fault.PlanFault.TheVariants.{BadLine, UnknownName, Twice, Memory}
 
@@ -19,9 +26,77 @@ numbered_line words n = words ++ decimal n ++ codes "\n"
 abbrev pub read_line : ℕ → List ℕ
 read_line word = numbered_line (codes "refused read ") word
 
--- the instance file is too long, or not of the form that is built so far
-abbrev pub instance_line : List ℕ
-instance_line = codes "refused instance not built\n"
+-- the instance file has too many bytes
+abbrev pub long_instance_line : List ℕ
+long_instance_line = codes "refused instance too long\n"
+
+-- a blank, and a number
+abbrev pub then_number : ℕ → List ℕ
+then_number n = codes " " ++ decimal n
+
+-- a blank, and a text
+abbrev pub then_text : List ℕ → List ℕ
+then_text text = codes " " ++ text
+
+-- how a limit is called
+abbrev pub limit_word : Which → List ℕ
+limit_word which.Periods = codes "periods"
+limit_word which.Scenarios = codes "scenarios"
+limit_word which.Resources = codes "resources"
+limit_word which.Interventions = codes "interventions"
+limit_word which.Seasons = codes "seasons"
+limit_word which.Exclusions = codes "exclusions"
+limit_word which.RiskCells = codes "risk-cells"
+limit_word which.WorkloadEntries = codes "workload-entries"
+
+-- a fault of shape: its words, and where it is
+abbrev pub flaw_words : Flaw → List ℕ
+flaw_words flaw.Double = codes "double"
+flaw_words flaw.BadName = codes "bad name"
+flaw_words (flaw.Missing key) = codes "missing"
+flaw_words flaw.Shape = codes "shape"
+flaw_words flaw.TooLarge = codes "too large"
+flaw_words (flaw.Limit limit) = codes "limit"
+
+abbrev pub flaw_place : ℕ → Flaw → List ℕ
+flaw_place at (flaw.Missing key) = then_number at ++ then_text (text_of key)
+flaw_place at (flaw.Limit limit) = then_number at ++ then_text (limit_word limit)
+flaw_place at _ = then_number at
+
+-- a fault across the file: its words, and what it is at
+abbrev pub across_words : CrossFault → List ℕ
+across_words scenario_list = codes "scenario list"
+across_words (band_length resource) = codes "band length"
+across_words (bad_tmax intervention) = codes "bad tmax"
+across_words (no_delta intervention) = codes "no delta"
+across_words (unknown name) = codes "unknown"
+across_words (no_risk intervention period start) = codes "no risk"
+across_words (scenario_count intervention period start) = codes "scenario count"
+
+abbrev pub across_place : CrossFault → List ℕ
+across_place scenario_list = []
+across_place (band_length resource) = then_text resource
+across_place (bad_tmax intervention) = then_text intervention
+across_place (no_delta intervention) = then_text intervention
+across_place (unknown name) = then_text name
+across_place (no_risk intervention period start) = then_text intervention ++ (then_number period ++ then_number start)
+across_place (scenario_count intervention period start) = then_text intervention ++ (then_number period ++ then_number start)
+
+-- the fault of an instance file: its words, and where it is
+abbrev pub fault_words : FileFault → List ℕ
+fault_words (syntax at) = codes "syntax"
+fault_words (too_deep at) = codes "too deep"
+fault_words (shape fault) = flaw_words fault.flaw
+fault_words (across fault) = across_words fault
+
+abbrev pub fault_place : FileFault → List ℕ
+fault_place (syntax at) = then_number at
+fault_place (too_deep at) = then_number at
+fault_place (shape fault) = flaw_place fault.at fault.flaw
+fault_place (across fault) = across_place fault
+
+abbrev pub instance_fault_line : FileFault → List ℕ
+instance_fault_line fault = codes "refused instance " ++ (fault_words fault ++ (fault_place fault ++ codes "\n"))
 
 -- the plan file has too many bytes
 abbrev pub long_plan_line : List ℕ

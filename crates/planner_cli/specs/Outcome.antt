@@ -11,10 +11,11 @@ use Rattle.plan_text.specs.declared.fault.PlanFault.{PlanFault}
 use Rattle.instance_model.specs.Tables.{Tables}
 use Rattle.instance_model.specs.Rules.{first_rule, KeepsRules}
 use Rattle.instance_model.specs.declared.rule.Rule.{Rule}
+use Rattle.instance_shape.specs.FileFaults.{FileFault}
 use Rattle.planner_cli.specs.Words.{Evaluation, evaluation}
-use Rattle.planner_cli.specs.Lines.{words_line, memory_line, read_line, instance_line, long_plan_line, plan_fault_line}
+use Rattle.planner_cli.specs.Lines.{words_line, memory_line, read_line, long_instance_line, instance_fault_line, long_plan_line, plan_fault_line}
 use Rattle.planner_cli.specs.Reports.{feasible_report, infeasible_report}
-use Rattle.planner_cli.specs.Answers.{Takes, IsNotTaken, Spells, HasFault, EnclosesEveryReading, AnswersPlan, Answers}
+use Rattle.planner_cli.specs.Answers.{Takes, IsLongInstance, IsFaulty, Spells, HasFault, EnclosesEveryReading, EnclosesOwnNumbers, AnswersPlan, Answers}
 
 -- ---- the words and the files
 
@@ -22,11 +23,18 @@ use Rattle.planner_cli.specs.Answers.{Takes, IsNotTaken, Spells, HasFault, Enclo
 abbrev pub Asks : List (List ℕ) → Evaluation → Type 0
 Asks words files = evaluation words ≡ Some files
 
--- the file of this name was read, and its bytes stand for this instance and for no other; they are what it holds, where told
-pub record ReadsInstance (name : List ℕ) (old : Shown) (inst : Tables) : Type 0 where
+-- the instance file of these words was read, and its bytes stand for this instance and for no other; they are what it holds, where told
+pub record ReadsInstance (files : Evaluation) (old : Shown) (inst : Tables) : Type 0 where
   pub bytes : List ℕ
-  pub takes : Takes bytes inst
-  pub only : (other : Tables) → Takes bytes other → other ≡ inst
+  pub takes : Takes files.slack bytes inst
+  pub only : (other : Tables) → Takes files.slack bytes other → other ≡ inst
+  pub held : WhereToldHolds old files.instance (λ held. held ≡ bytes)
+
+-- the file of this name was read, and its bytes have this fault and no other; they are what it holds, where told
+pub record ReadsFaulty (name : List ℕ) (old : Shown) (fault : FileFault) : Type 0 where
+  pub bytes : List ℕ
+  pub faulty : IsFaulty bytes fault
+  pub only : (other : FileFault) → IsFaulty bytes other → other ≡ fault
   pub held : WhereToldHolds old name (λ held. held ≡ bytes)
 
 -- the bytes of the file of this name were read; they are what it holds, where told
@@ -50,22 +58,24 @@ pub record SayFails (old new : Shown) : Type 0 where
 pub data IsDue (words : List (List ℕ)) (old new : Shown) : ℕ → List ℕ → Type 0 where
   faulty_words : evaluation words ≡ None → IsDue words old new 2 words_line
   unread_instance : (files : Evaluation) → Asks words files → ReadFails files.instance old new → IsDue words old new 7 (read_line 2)
-  refused_instance : (files : Evaluation) → Asks words files → WhereToldHolds old files.instance IsNotTaken → IsDue words old new 3 instance_line
-  unread_plan : (files : Evaluation) (inst : Tables) → Asks words files → ReadsInstance files.instance old inst → ReadFails files.plan old new
+  long_instance : (files : Evaluation) → Asks words files → WhereToldHolds old files.instance IsLongInstance → IsDue words old new 3 long_instance_line
+  faulty_instance : (files : Evaluation) (fault : FileFault) → Asks words files → ReadsFaulty files.instance old fault → IsDue words old new 3 (instance_fault_line fault)
+  unread_plan : (files : Evaluation) (inst : Tables) → Asks words files → ReadsInstance files old inst → ReadFails files.plan old new
       → IsDue words old new 7 (read_line 3)
-  long_plan : (files : Evaluation) (inst : Tables) → Asks words files → ReadsInstance files.instance old inst
+  long_plan : (files : Evaluation) (inst : Tables) → Asks words files → ReadsInstance files old inst
       → WhereToldHolds old files.plan (λ held. 2 ^ 24 < length held) → IsDue words old new 4 long_plan_line
   answered : (files : Evaluation) (inst : Tables) (bytes : List ℕ) (status : ℕ) (text : List ℕ) → Asks words files
-      → ReadsInstance files.instance old inst → ReadsBytes files.plan old bytes → AnswersPlan inst bytes status text → IsDue words old new status text
+      → ReadsInstance files old inst → ReadsBytes files.plan old bytes → AnswersPlan inst bytes status text → IsDue words old new status text
   no_memory : (files : Evaluation) → Asks words files → IsDue words old new 11 memory_line
 
--- Saying what was due failed, after a first part of it was said, and nothing was said after that. `before` is what the desk showed as the
--- saying began.
+-- Saying what was due failed, after a first part of it was said, and nothing was said before or after that. `before` is what the desk showed
+-- as the saying began.
 pub record SaysPart (words : List (List ℕ)) (old new : Shown) : Type 0 where
   pub before : Shown
   pub status : ℕ
   pub text : List ℕ
   pub due : IsDue words old before status text
+  pub silent : before.said ≡ old.said
   pub part : ℕ
   pub within : part ≤ length text
   pub says : Says (take part text) old new
@@ -79,18 +89,20 @@ pub data Ends (words : List (List ℕ)) (old new : Shown) : ℕ → Type 0 where
 
 -- ---- what stands behind each status
 
--- 0: both files were read, the plan keeps the rules, and its report was said, whose values enclose the exact ones
+-- 0: both files were read, the plan keeps the rules, and its report was said, whose values enclose the exact ones, those of the file's own
+-- numbers among them
 pub record ReportsFeasible (words : List (List ℕ)) (old new : Shown) : Type 0 where
   pub files : Evaluation
   pub asks : Asks words files
   pub inst : Tables
-  pub reads : ReadsInstance files.instance old inst
+  pub reads : ReadsInstance files old inst
   pub bytes : List ℕ
   pub reads_plan : ReadsBytes files.plan old bytes
   pub plan : List (Option ℕ)
   pub spells : Spells inst bytes plan
   pub keeps : KeepsRules inst plan
   pub encloses : EnclosesEveryReading inst plan
+  pub encloses_own : EnclosesOwnNumbers reads.bytes inst plan
   pub says : Says (feasible_report inst plan) old new
 
 -- 1: both files were read, the plan does not keep the rules, and the first rule that it breaks was said
@@ -98,7 +110,7 @@ pub record ReportsBroken (words : List (List ℕ)) (old new : Shown) : Type 0 wh
   pub files : Evaluation
   pub asks : Asks words files
   pub inst : Tables
-  pub reads : ReadsInstance files.instance old inst
+  pub reads : ReadsInstance files old inst
   pub bytes : List ℕ
   pub reads_plan : ReadsBytes files.plan old bytes
   pub plan : List (Option ℕ)
@@ -113,12 +125,22 @@ pub record RefusesWords (words : List (List ℕ)) (old new : Shown) : Type 0 whe
   pub none : evaluation words ≡ None
   pub says : Says words_line old new
 
--- 3: the instance file is not taken
+-- the instance file is too long, which was said
+pub record SaysLongInstance (name : List ℕ) (old new : Shown) : Type 0 where
+  pub held : WhereToldHolds old name IsLongInstance
+  pub says : Says long_instance_line old new
+
+-- the instance file has this fault and no other, which was said
+pub record SaysInstanceFault (name : List ℕ) (old new : Shown) : Type 0 where
+  pub fault : FileFault
+  pub reads : ReadsFaulty name old fault
+  pub says : Says (instance_fault_line fault) old new
+
+-- 3: the instance file is too long, or has a fault
 pub record RefusesInstance (words : List (List ℕ)) (old new : Shown) : Type 0 where
   pub files : Evaluation
   pub asks : Asks words files
-  pub held : WhereToldHolds old files.instance IsNotTaken
-  pub says : Says instance_line old new
+  pub which : SaysLongInstance files.instance old new ⊎ SaysInstanceFault files.instance old new
 
 -- the plan file is too long, which was said
 pub record SaysLong (name : List ℕ) (old new : Shown) : Type 0 where
@@ -138,7 +160,7 @@ pub record RefusesPlan (words : List (List ℕ)) (old new : Shown) : Type 0 wher
   pub files : Evaluation
   pub asks : Asks words files
   pub inst : Tables
-  pub reads : ReadsInstance files.instance old inst
+  pub reads : ReadsInstance files old inst
   pub which : SaysLong files.plan old new ⊎ SaysFault files.plan inst old new
 
 -- the instance file could not be read
@@ -149,7 +171,7 @@ pub record ReadsNoInstance (files : Evaluation) (old new : Shown) : Type 0 where
 -- the instance was read, and the plan file could not be
 pub record ReadsNoPlan (files : Evaluation) (old new : Shown) : Type 0 where
   pub inst : Tables
-  pub reads : ReadsInstance files.instance old inst
+  pub reads : ReadsInstance files old inst
   pub fails : ReadFails files.plan old new
   pub says : Says (read_line 3) old new
 
@@ -181,8 +203,12 @@ pub record TellsPlan (words : List (List ℕ)) (old : Shown) (P : Tables → Lis
   pub files : Evaluation
   pub asks : Asks words files
   pub inst : Tables
-  pub tells : TellsSuch old files.instance (λ held. Takes held inst)
+  pub tells : TellsSuch old files.instance (λ held. Takes files.slack held inst)
   pub tells_plan : TellsSuch old files.plan (P inst)
+
+-- the bytes of an instance file are too many, or have a fault
+abbrev pub IsRefusedInstance : List ℕ → Type 0
+IsRefusedInstance bytes = IsLongInstance bytes ⊎ ((fault : FileFault) × IsFaulty bytes fault)
 
 -- the bytes of a plan file are too many, or have a fault
 abbrev pub IsRefusedPlan : Tables → List ℕ → Type 0
@@ -207,13 +233,14 @@ pub record TellsNoPlan (words : List (List ℕ)) (old : Shown) : Type 0 where
   pub files : Evaluation
   pub asks : Asks words files
   pub inst : Tables
-  pub tells : TellsSuch old files.instance (λ held. Takes held inst)
+  pub tells : TellsSuch old files.instance (λ held. Takes files.slack held inst)
   pub missing : TellsMissing old files.plan
 
--- it is told that the files of these words hold just these bytes
-pub record TellsBoth (words : List (List ℕ)) (old : Shown) (instance plan : List ℕ) : Type 0 where
+-- it is told that the files of these words hold just these bytes, and the words tell this slack
+pub record TellsBoth (words : List (List ℕ)) (old : Shown) (slack : ℕ) (instance plan : List ℕ) : Type 0 where
   pub files : Evaluation
   pub asks : Asks words files
+  pub widens : files.slack ≡ slack
   pub tells : TellsSuch old files.instance (λ held. held ≡ instance)
   pub tells_plan : TellsSuch old files.plan (λ held. held ≡ plan)
 
@@ -226,8 +253,8 @@ pub record WantsMemory (old new : Shown) (status : ℕ) : Type 0 where
   pub status_is : status ≡ 11
   pub says : Says memory_line old new
 
--- the status is that of the answer for these two files, and its text was said
-pub record Answered (instance plan : List ℕ) (old new : Shown) (status : ℕ) : Type 0 where
+-- the status is that of the answer for these two files and this slack, and its text was said
+pub record Answered (slack : ℕ) (instance plan : List ℕ) (old new : Shown) (status : ℕ) : Type 0 where
   pub text : List ℕ
-  pub answers : Answers instance plan status text
+  pub answers : Answers slack instance plan status text
   pub says : Says text old new

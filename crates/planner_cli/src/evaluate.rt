@@ -1,5 +1,5 @@
 // The evaluation of a plan: both files are read, and the plan is judged.
-ghost use Rattle.std.specs.Prelude.{◌≡◌, ◌≤◌, ℕ, List, Option, length, IfOk, IfErr, OnOk, []};
+ghost use Rattle.std.specs.Prelude.{◌≡◌, ◌≤◌, ℕ, List, Option, length, pos, IfOk, IfErr, OnOk, []};
 ghost use Rattle.plan_desk.specs.Desk.{ShowsSame, after_take_in};
 ghost use Rattle.planner_cli.specs.Words.{Evaluation};
 ghost use Rattle.planner_cli.specs.Answers.{Judges};
@@ -10,15 +10,13 @@ use crate::refusal::Refusal;
 use crate::report::{feasible_text, infeasible_text};
 use crate::text::Text;
 use crate::words::Files;
-use instance_model::Instance;
-use instance_plain::{PlainFault, read_plain};
+use fixed_num::Fixed;
+use instance_model::{Instance, Limits};
+use instance_read::{StreamFault, read_instance_from};
 use plan_desk::{Desk, ReadFault, read_all};
 use plan_score::{Verdict, judge};
 use plan_text::{Plan, PlanFault, read_plan};
 use std::alloc::{AllocError, Global};
-
-/// How many bytes an instance file may have.
-const INSTANCE_BYTES: u64 = 1 << 26;
 
 /// How many bytes a plan file may have.
 const PLAN_BYTES: u64 = 1 << 24;
@@ -32,15 +30,16 @@ pub struct Report {
 
 /// Reads the instance, then the plan, and judges it.
 pub fn evaluate<D: Desk>(alloc: Global, files: &Files<'_>, desk: &mut D) -> Result<Report, Refusal>
-    ensures ok { IfOk result (λ report. IsVerdictOn (record { instance = files.now.instance.now; plan = files.now.plan.now }) (D.shows desk.old) report.status report.text) }
-    ensures err { IfErr result (IsCause (record { instance = files.now.instance.now; plan = files.now.plan.now }) (D.shows desk.old) (D.shows desk.new)) }
+    requires small { files.now.slack ≤ 1_000_000_000 }
+    ensures ok { IfOk result (λ report. IsVerdictOn (record { instance = files.now.instance.now; plan = files.now.plan.now; slack = files.now.slack }) (D.shows desk.old) report.status report.text) }
+    ensures err { IfErr result (IsCause (record { instance = files.now.instance.now; plan = files.now.plan.now; slack = files.now.slack }) (D.shows desk.old) (D.shows desk.new)) }
 
     // No file is changed, and nothing is said.
     ensures output { (D.shows desk.new).output ≡ (D.shows desk.old).output }
     ensures said { (D.shows desk.new).said ≡ (D.shows desk.old).said }
     ensures later { (D.shows desk.old).faults ≤ (D.shows desk.new).faults }
 {
-    let inst = instance_of(alloc, files.instance, desk)?;
+    let inst = instance_of(alloc, files, desk)?;
     let plan = plan_of(alloc, &inst, files.plan, desk)?;
     match report_on(alloc, &inst, &plan) {
         Ok(report) => Ok(report),
@@ -48,25 +47,34 @@ pub fn evaluate<D: Desk>(alloc: Global, files: &Files<'_>, desk: &mut D) -> Resu
     }
 }
 
-// The instance of the file of this name.
-fn instance_of<D: Desk>(alloc: Global, name: &str, desk: &mut D) -> Result<Instance, Refusal>
-    ensures ok { IfOk result (λ inst. ReadsInstance name.now (D.shows desk.old) inst) }
-    ensures err { IfErr result (IsInstanceCause name.now (D.shows desk.old) (D.shows desk.new)) }
-    ensures read { OnOk result (ShowsSame (D.shows desk.new) (after_take_in name.now [] (D.shows desk.old))) }
+// The instance of the first file, its bands widened by the slack.
+fn instance_of<D: Desk>(alloc: Global, files: &Files<'_>, desk: &mut D) -> Result<Instance, Refusal>
+    requires small { files.now.slack ≤ 1_000_000_000 }
+    ensures ok { IfOk result (λ inst. ReadsInstance (record { instance = files.now.instance.now; plan = files.now.plan.now; slack = files.now.slack }) (D.shows desk.old) inst) }
+    ensures err { IfErr result (IsInstanceCause files.now.instance.now (D.shows desk.old) (D.shows desk.new)) }
+    ensures read { OnOk result (ShowsSame (D.shows desk.new) (after_take_in files.now.instance.now [] (D.shows desk.old))) }
     ensures output { (D.shows desk.new).output ≡ (D.shows desk.old).output }
     ensures said { (D.shows desk.new).said ≡ (D.shows desk.old).said }
     ensures later { (D.shows desk.old).faults ≤ (D.shows desk.new).faults }
 {
-    let bytes = match read_all(alloc, desk, name, INSTANCE_BYTES) {
-        Ok(bytes) => bytes,
-        Err(ReadFault::Failed) => return Err(Refusal::Unread { word: 2 }),
-        Err(ReadFault::TooLong) => return Err(Refusal::NotBuilt),
-        Err(ReadFault::Memory) => return Err(Refusal::Memory),
-    };
-    match read_plain(alloc, bytes.as_slice()) {
+    let limits = Limits::standard();
+    match read_instance_from(alloc, &limits, widening(files.slack), desk, files.instance) {
         Ok(inst) => Ok(inst),
-        Err(PlainFault::NotBuilt) => Err(Refusal::NotBuilt),
-        Err(PlainFault::Memory) => Err(Refusal::Memory),
+        Err(StreamFault::Failed) => Err(Refusal::Unread { word: 2 }),
+        Err(StreamFault::TooLong) => Err(Refusal::LongInstance),
+        Err(StreamFault::Text(fault)) => Err(Refusal::Instance(fault)),
+        Err(StreamFault::Memory) => Err(Refusal::Memory),
+    }
+}
+
+// So many counts of 10^-12.
+fn widening(count: u32) -> Fixed
+    requires small { count ≤ 1_000_000_000 }
+    ensures { result ≡ pos count }
+{
+    match Fixed::from_count(i128::from(count)) {
+        Ok(slack) => slack,
+        Err(_) => unreachable!(),
     }
 }
 

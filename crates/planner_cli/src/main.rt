@@ -4,6 +4,7 @@
 #![tactic(auto)]
 
 mod evaluate;
+mod instance_line;
 mod refusal;
 mod report;
 mod run;

@@ -3,7 +3,9 @@ ghost use Rattle.std.specs.Prelude.{◌≡◌, ◌++◌, IfOk, OnOk};
 ghost use Rattle.planner_cli.specs.Lines.{numbered_line, plan_fault_line};
 ghost use Rattle.planner_cli.specs.Refusals.{status_of, line_of};
 
+use crate::instance_line::push_instance_fault;
 use crate::text::Text;
+use instance_read::InstanceFault;
 use plan_text::PlanFault;
 use std::alloc::{AllocError, Global};
 
@@ -14,12 +16,13 @@ pub const WORDS_LINE: &str = "refused words\n";
 pub const MEMORY_LINE: &str = "refused memory\n";
 
 /// Why the files that the words name are not evaluated.
-#[derive(Clone, Copy, Debug, PartialEq, Eq)]
+#[derive(Debug, Drop)]
 pub enum Refusal {
     /// The file of this word could not be read. Words count from 1, and the command is word 1.
     Unread { word: u64 },
-    /// The instance is too long, or not of the form that is built so far.
-    NotBuilt,
+    LongInstance,
+    /// The fault of the instance; never `Memory`.
+    Instance(InstanceFault),
     LongPlan,
     /// The first fault of the plan's text.
     Plan(PlanFault),
@@ -37,11 +40,11 @@ impl From<AllocError> for Refusal {
 }
 
 impl Refusal {
-    pub fn status(self) -> u8
-        ensures { result ≡ status_of self }
+    pub fn status(&self) -> u8
+        ensures { result ≡ status_of self.now }
     {
         match self {
-            Refusal::NotBuilt => 3,
+            Refusal::LongInstance | Refusal::Instance(_) => 3,
             Refusal::LongPlan | Refusal::Plan(_) => 4,
             Refusal::Unread { .. } => 7,
             Refusal::Memory => 11,
@@ -49,15 +52,16 @@ impl Refusal {
     }
 
     /// The line that is said, with its line feed.
-    pub fn line(self, alloc: Global) -> Result<Text, AllocError>
-        ensures { IfOk result (λ line. line ≡ line_of self) }
+    pub fn line(&self, alloc: Global) -> Result<Text, AllocError>
+        ensures { IfOk result (λ line. line ≡ line_of self.now) }
     {
         let mut line = Text::new(alloc);
         match self {
-            Refusal::NotBuilt => line.push("refused instance not built\n")?,
+            Refusal::LongInstance => line.push("refused instance too long\n")?,
+            Refusal::Instance(fault) => push_instance_fault(&mut line, fault)?,
             Refusal::LongPlan => line.push("refused plan too long\n")?,
-            Refusal::Plan(fault) => push_plan_fault(&mut line, fault)?,
-            Refusal::Unread { word } => push_numbered(&mut line, "refused read ", word)?,
+            Refusal::Plan(fault) => push_plan_fault(&mut line, *fault)?,
+            Refusal::Unread { word } => push_numbered(&mut line, "refused read ", *word)?,
             Refusal::Memory => line.push(MEMORY_LINE)?,
         }
         Ok(line)

@@ -3,8 +3,8 @@ ghost use Rattle.std.specs.Prelude.{◌≡◌, ◌≢◌, ◌⊎◌, ◌≤◌, 
 ghost use Rattle.plan_desk.specs.Contents.{Says};
 ghost use Rattle.planner_cli.specs.Words.{evaluation};
 ghost use Rattle.planner_cli.specs.Lines.{memory_line};
-ghost use Rattle.planner_cli.specs.Answers.{IsNotTaken};
-ghost use Rattle.planner_cli.specs.Outcome.{Ends, ReportsFeasible, ReportsBroken, RefusesWords, RefusesInstance, RefusesPlan, RefusesRead, SaysPart, SayFails, IsOneOf, TellsInstance, TellsPlan, TellsNoInstance, TellsNoPlan, TellsBoth, IsRefusedPlan, IsKeptPlan, IsBrokenPlan, NoFault, WantsMemory, Answered};
+ghost use Rattle.planner_cli.specs.Answers.{HasOneAnswer};
+ghost use Rattle.planner_cli.specs.Outcome.{Ends, ReportsFeasible, ReportsBroken, RefusesWords, RefusesInstance, RefusesPlan, RefusesRead, SaysPart, SayFails, IsOneOf, TellsInstance, TellsPlan, TellsNoInstance, TellsNoPlan, TellsBoth, IsRefusedInstance, IsRefusedPlan, IsKeptPlan, IsBrokenPlan, NoFault, WantsMemory, Answered};
 ghost use Rattle.planner_cli.specs.Refusals.{SaysOrFails, status_of, line_of};
 
 use crate::evaluate::evaluate;
@@ -15,7 +15,7 @@ use std::alloc::Global;
 
 /// Runs the command of these words, which are those after the program's name, and answers the status.
 ///
-/// 0: the plan is feasible. 1: it breaks a rule. 2: the words are not `evaluate INSTANCE PLAN`. 3: the instance is
+/// 0: the plan is feasible. 1: it breaks a rule. 2: the words are not in the grammar. 3: the instance is
 /// refused. 4: the plan's text is refused. 7: a file could not be read. 8: what was due could not be said. 11: memory
 /// ran out. What is due is made whole before any of it is said.
 pub fn run<D: Desk>(alloc: Global, words: &[String], desk: &mut D) -> u8
@@ -36,15 +36,17 @@ pub fn run<D: Desk>(alloc: Global, words: &[String], desk: &mut D) -> u8
     // Which statuses the words and the files allow. 7 and 8 come only where a call of the desk failed.
     ensures no_words { evaluation (map string_bytes words.now) ≡ None → IsOneOf (2 ∷ 8 ∷ []) result }
     ensures no_instance { TellsNoInstance (map string_bytes words.now) (D.shows desk.old) → IsOneOf (7 ∷ 8 ∷ 11 ∷ []) result }
-    ensures not_taken { TellsInstance (map string_bytes words.now) (D.shows desk.old) IsNotTaken → IsOneOf (3 ∷ 7 ∷ 8 ∷ 11 ∷ []) result }
+    ensures refused_instance { TellsInstance (map string_bytes words.now) (D.shows desk.old) IsRefusedInstance → IsOneOf (3 ∷ 7 ∷ 8 ∷ 11 ∷ []) result }
     ensures no_plan { TellsNoPlan (map string_bytes words.now) (D.shows desk.old) → IsOneOf (7 ∷ 8 ∷ 11 ∷ []) result }
     ensures refused_plan { TellsPlan (map string_bytes words.now) (D.shows desk.old) IsRefusedPlan → IsOneOf (4 ∷ 7 ∷ 8 ∷ 11 ∷ []) result }
     ensures broken_plan { TellsPlan (map string_bytes words.now) (D.shows desk.old) IsBrokenPlan → IsOneOf (1 ∷ 7 ∷ 8 ∷ 11 ∷ []) result }
     ensures kept_plan { TellsPlan (map string_bytes words.now) (D.shows desk.old) IsKeptPlan → IsOneOf (0 ∷ 7 ∷ 8 ∷ 11 ∷ []) result }
 
-    // Without a fault, the status and what is said are the answer for the bytes of the files.
-    ensures exact { (instance plan : List ℕ) → TellsBoth (map string_bytes words.now) (D.shows desk.old) instance plan → NoFault (D.shows desk.old) (D.shows desk.new)
-        → Answered instance plan (D.shows desk.old) (D.shows desk.new) result ⊎ WantsMemory (D.shows desk.old) (D.shows desk.new) result }
+    // Without a fault, the status and what is said are the answer for the bytes of the files, which have one.
+    ensures exact { (slack : ℕ) (instance plan : List ℕ) → TellsBoth (map string_bytes words.now) (D.shows desk.old) slack instance plan → NoFault (D.shows desk.old) (D.shows desk.new)
+        → Answered slack instance plan (D.shows desk.old) (D.shows desk.new) result ⊎ WantsMemory (D.shows desk.old) (D.shows desk.new) result }
+
+    ensures one_answer { (slack : ℕ) (instance plan : List ℕ) → HasOneAnswer slack instance plan }
 
     // No file is changed.
     ensures output { (D.shows desk.new).output ≡ (D.shows desk.old).output }
@@ -64,13 +66,13 @@ fn outcome<D: Desk>(alloc: Global, words: &[String], desk: &mut D) -> u8
     };
     match evaluate(alloc, &files, desk) {
         Ok(report) => say(desk, report.status, report.text.as_slice()),
-        Err(refusal) => refuse(alloc, desk, refusal),
+        Err(refusal) => refuse(alloc, desk, &refusal),
     }
 }
 
 // Says the line of a refusal, or that memory ran out for it.
-fn refuse<D: Desk>(alloc: Global, desk: &mut D, refusal: Refusal) -> u8
-    ensures ends { SaysOrFails (status_of refusal) (line_of refusal) (D.shows desk.old) (D.shows desk.new) result
+fn refuse<D: Desk>(alloc: Global, desk: &mut D, refusal: &Refusal) -> u8
+    ensures ends { SaysOrFails (status_of refusal.now) (line_of refusal.now) (D.shows desk.old) (D.shows desk.new) result
         ⊎ SaysOrFails 11 memory_line (D.shows desk.old) (D.shows desk.new) result }
     ensures output { (D.shows desk.new).output ≡ (D.shows desk.old).output }
     ensures later { (D.shows desk.old).faults ≤ (D.shows desk.new).faults }

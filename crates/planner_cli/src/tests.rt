@@ -52,6 +52,30 @@ const BANDED: &str = r#"{"Resources":{"c":{"max":[10,10],"min":[0,0]}},"Seasons"
 "Exclusions":{},"T":2,"Scenarios_number":[2,2],
 "Quantile":0.5,"Alpha":0.5}"#;
 
+/// The same where two at once are just too much.
+const TIGHT: &str = r#"{"Resources":{"c":{"max":[11.9995,10],"min":[0,0]}},"Seasons":{},
+"Interventions":{
+"I1":{"tmax":2,"Delta":[1,1],
+"workload":{"c":{"1":{"1":6},"2":{"2":6}}},
+"risk":{"1":{"1":[1,3]},"2":{"2":[5,5]}}},
+"I2":{"tmax":2,"Delta":[1,1],
+"workload":{"c":{"1":{"1":6},"2":{"2":6}}},
+"risk":{"1":{"1":[2,2]},"2":{"2":[4,0]}}}},
+"Exclusions":{},"T":2,"Scenarios_number":[2,2],
+"Quantile":0.5,"Alpha":0.5}"#;
+
+/// The two exclude each other in the first period.
+const EXCLUDED: &str = r#"{"Resources":{},"Seasons":{"s":["1"]},
+"Interventions":{
+"I1":{"tmax":2,"Delta":[1,1],
+"workload":{},
+"risk":{"1":{"1":[1,3]},"2":{"2":[5,5]}}},
+"I2":{"tmax":2,"Delta":[1,1],
+"workload":{},
+"risk":{"1":{"1":[2,2]},"2":{"2":[4,0]}}}},
+"Exclusions":{"e":["I1","I2","s"]},"T":2,"Scenarios_number":[2,2],
+"Quantile":0.5,"Alpha":0.5}"#;
+
 /// One scenario a period.
 const SURE: &str = r#"{"Resources":{},"Seasons":{},
 "Interventions":{
@@ -76,6 +100,9 @@ const EMPTY: &str = r#"{"Resources":{},"Seasons":{},"Interventions":{},"Exclusio
 "T":1,"Scenarios_number":[1],"Quantile":1,"Alpha":1}"#;
 
 const BOTH: &str = "I1 1\nI2 2\n";
+
+/// Both in the first period.
+const TOGETHER: &str = "I1 1\nI2 1\n";
 
 const PLAIN_REPORT: &str =
     "feasible\nscore 2000000000000000000\ncost 1.000000000000 1.000000000000\nmean 2.000000000000 2.000000000000\nexcess 0.000000000000 0.000000000000\nrounded 0\n";
@@ -121,6 +148,15 @@ fn plans_are_judged(rt: HostRuntime) -> Result<(), Fail> {
     let alloc = rt.alloc();
     for (instance, plan, status, report) in [
         (PLAIN, BOTH, 0, PLAIN_REPORT),
+        (BANDED, BOTH, 0, PLAIN_REPORT),
+        (EXCLUDED, BOTH, 0, PLAIN_REPORT),
+        (
+            BANDED,
+            TOGETHER,
+            1,
+            "infeasible\nB1 c 1 12.000000000000 10.000000000000\nrounded 0\n",
+        ),
+        (EXCLUDED, TOGETHER, 1, "infeasible\nX1 e 1\nrounded 0\n"),
         (PLAIN, "I1   1  \n\nI2 2", 0, PLAIN_REPORT),
         (STEEP, BOTH, 0, STEEP_REPORT),
         (SURE, BOTH, 0, SURE_REPORT),
@@ -143,15 +179,124 @@ fn plans_are_judged(rt: HostRuntime) -> Result<(), Fail> {
 }
 
 #[test]
+fn bands_are_widened(rt: HostRuntime) -> Result<(), Fail> {
+    let alloc = rt.alloc();
+    for (slack, status, report) in [
+        (
+            "slack=0",
+            1,
+            "infeasible\nB1 c 1 12.000000000000 11.999500000000\nrounded 0\n",
+        ),
+        (
+            "slack=0.0004",
+            1,
+            "infeasible\nB1 c 1 12.000000000000 11.999900000000\nrounded 0\n",
+        ),
+        (
+            "slack=0.000499999999",
+            1,
+            "infeasible\nB1 c 1 12.000000000000 11.999999999999\nrounded 0\n",
+        ),
+        ("slack=0.0005", 0, PLAIN_REPORT),
+        ("slack=0.001", 0, PLAIN_REPORT),
+    ] {
+        let mut desk = desk(alloc, TIGHT, TOGETHER.as_bytes())?;
+        let (answer, said) = ran(alloc, &["evaluate", "I", "P", slack], &mut desk)?;
+        assert_eq!(rt; answer, status, "{slack}");
+        assert_eq!(rt; said.as_slice(), report.as_bytes(), "{slack}");
+    }
+    Ok(())
+}
+
+#[test]
+fn each_fault_of_an_instance_is_told(rt: HostRuntime) -> Result<(), Fail> {
+    let alloc = rt.alloc();
+    for (instance, line) in [
+        ("", "refused instance syntax 0\n"),
+        (r#"{"T":513"#, "refused instance syntax 8\n"),
+        ("[[[[[[[[[[[[[[[[[", "refused instance too deep 16\n"),
+        ("[]", "refused instance shape 0\n"),
+        (
+            r#"{"Resources":{},"Seasons":{},"Interventions":{},"Exclusions":{},"T":1,"T":1,"Scenarios_number":[1],"Quantile":1,"Alpha":1}"#,
+            "refused instance double 70\n",
+        ),
+        (
+            r#"{"Resources":{"c 1":{"max":[1],"min":[0]}},"Seasons":{},"Interventions":{},"Exclusions":{},"T":1,"Scenarios_number":[1],"Quantile":1,"Alpha":1}"#,
+            "refused instance bad name 14\n",
+        ),
+        (
+            r#"{"Resources":{},"Seasons":{},"Interventions":{},"Exclusions":{},"T":1,"Scenarios_number":[1],"Quantile":1}"#,
+            "refused instance missing 105 Alpha\n",
+        ),
+        (
+            r#"{"Resources":{},"Seasons":{},"Interventions":{},"Exclusions":{},"T":[],"Scenarios_number":[1],"Quantile":1,"Alpha":1}"#,
+            "refused instance shape 68\n",
+        ),
+        (
+            r#"{"Resources":{"c":{"max":[100000000],"min":[0]}},"Seasons":{},"Interventions":{},"Exclusions":{},"T":1,"Scenarios_number":[1],"Quantile":1,"Alpha":1}"#,
+            "refused instance too large 26\n",
+        ),
+        (
+            r#"{"Resources":{},"Seasons":{},"Interventions":{},"Exclusions":{},"T":513,"Scenarios_number":[1],"Quantile":1,"Alpha":1}"#,
+            "refused instance limit 68 periods\n",
+        ),
+        (
+            r#"{"Resources":{},"Seasons":{},"Interventions":{},"Exclusions":{},"T":1,"Scenarios_number":[1,1],"Quantile":1,"Alpha":1}"#,
+            "refused instance scenario list\n",
+        ),
+        (
+            r#"{"Resources":{"c":{"max":[1],"min":[]}},"Seasons":{},"Interventions":{},"Exclusions":{},"T":1,"Scenarios_number":[1],"Quantile":1,"Alpha":1}"#,
+            "refused instance band length c\n",
+        ),
+        (
+            r#"{"Resources":{},"Seasons":{},"Interventions":{"I1":{"tmax":2,"Delta":[1],"workload":{},"risk":{"1":{"1":[0]}}}},"Exclusions":{},"T":1,"Scenarios_number":[1],"Quantile":1,"Alpha":1}"#,
+            "refused instance bad tmax I1\n",
+        ),
+        (
+            r#"{"Resources":{},"Seasons":{},"Interventions":{"I1":{"tmax":1,"Delta":[],"workload":{},"risk":{"1":{"1":[0]}}}},"Exclusions":{},"T":1,"Scenarios_number":[1],"Quantile":1,"Alpha":1}"#,
+            "refused instance no delta I1\n",
+        ),
+        (
+            r#"{"Resources":{},"Seasons":{},"Interventions":{"I1":{"tmax":1,"Delta":[1],"workload":{"c":{}},"risk":{"1":{"1":[0]}}}},"Exclusions":{},"T":1,"Scenarios_number":[1],"Quantile":1,"Alpha":1}"#,
+            "refused instance unknown c\n",
+        ),
+        (
+            r#"{"Resources":{},"Seasons":{},"Interventions":{"I1":{"tmax":1,"Delta":[1],"workload":{},"risk":{}}},"Exclusions":{},"T":1,"Scenarios_number":[1],"Quantile":1,"Alpha":1}"#,
+            "refused instance no risk I1 1 1\n",
+        ),
+        (
+            r#"{"Resources":{},"Seasons":{},"Interventions":{"I1":{"tmax":1,"Delta":[1],"workload":{},"risk":{"1":{"1":[0,0]}}}},"Exclusions":{},"T":1,"Scenarios_number":[1],"Quantile":1,"Alpha":1}"#,
+            "refused instance scenario count I1 1 1\n",
+        ),
+        (
+            r#"{"Resources":{},"Seasons":{},"Interventions":{},"Exclusions":{"e":["I1","I1","s"]},"T":1,"Scenarios_number":[1],"Quantile":1,"Alpha":1}"#,
+            "refused instance unknown I1\n",
+        ),
+    ] {
+        let mut desk = desk(alloc, instance, b"")?;
+        let (answer, said) = ran(alloc, &["evaluate", "I", "P"], &mut desk)?;
+        assert_eq!(rt; answer, 3, "{line}");
+        assert_eq!(rt; said.as_slice(), line.as_bytes());
+    }
+    Ok(())
+}
+
+#[test]
 fn words_are_refused(rt: HostRuntime) -> Result<(), Fail> {
     let alloc = rt.alloc();
-    let lists: [&[&str]; 7] = [
+    let lists: [&[&str]; 13] = [
         &[],
         &["--help"],
         &["evaluate", "I"],
         &["evaluate", "", "P"],
         &["evaluate", "I", ""],
-        &["evaluate", "I", "P", "slack=0.001"],
+        &["evaluate", "I", "P", "slack=0.0011"],
+        &["evaluate", "I", "P", "slack=0."],
+        &["evaluate", "I", "P", "slack=00"],
+        &["evaluate", "I", "P", "slack=0.0000000000001"],
+        &["evaluate", "I", "P", "slack=0.00x"],
+        &["evaluate", "I", "P", "slack"],
+        &["evaluate", "slack=0", "I", "P", "P"],
         &["judge", "I", "P"],
     ];
     for words in lists {
@@ -169,9 +314,7 @@ fn files_are_refused(rt: HostRuntime) -> Result<(), Fail> {
     for (instance, plan, words, status, line) in [
         (PLAIN, BOTH, ["I0", "P"], 7, "refused read 2\n"),
         (PLAIN, BOTH, ["I", "P0"], 7, "refused read 3\n"),
-        (BANDED, BOTH, ["I", "P"], 3, "refused instance not built\n"),
-        (BANDED, BOTH, ["I", "P0"], 3, "refused instance not built\n"),
-        ("", BOTH, ["I", "P"], 3, "refused instance not built\n"),
+        ("", BOTH, ["I", "P0"], 3, "refused instance syntax 0\n"),
         (
             PLAIN,
             "I1 1\nI1 2\n",

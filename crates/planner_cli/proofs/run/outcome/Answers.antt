@@ -18,7 +18,7 @@ returns-in_default-clause-ends g c =
 pub returns-in-Ok-clause-ends : goal.returns-in-Ok-clause-ends
 returns-in-Ok-clause-ends g c =
     let words = map string_bytes c.args.words.now in
-    let files : Evaluation = record { instance = c.in-Some.files.instance.now; plan = c.in-Some.files.plan.now } in
+    let files : Evaluation = record { instance = c.in-Some.files.instance.now; plan = c.in-Some.files.plan.now; slack = c.in-Some.files.slack } in
     let old = g.D.Desk.shows c.args.desk.now in
     let mid = g.D.Desk.shows c.evaluate.new.desk in
     let new = g.D.Desk.shows c.say-in-Ok.new.desk in
@@ -29,6 +29,6 @@ returns-in-Ok-clause-ends g c =
 pub returns-in-Err-clause-ends : goal.returns-in-Err-clause-ends
 returns-in-Err-clause-ends g c =
     let words = map string_bytes c.args.words.now in
-    let files : Evaluation = record { instance = c.in-Some.files.instance.now; plan = c.in-Some.files.plan.now } in
+    let files : Evaluation = record { instance = c.in-Some.files.instance.now; plan = c.in-Some.files.plan.now; slack = c.in-Some.files.slack } in
     refusal_ends words files (g.D.Desk.shows c.args.desk.now) (g.D.Desk.shows c.evaluate.new.desk) (g.D.Desk.shows c.refuse.new.desk) c.in-Err.refusal c.refuse.result
     c.in-Err.ensures.later c.refuse.ensures.later c.in-Err.ensures.said c.in-Some.ensures.found c.in-Err.ensures.err c.refuse.ensures.ends

@@ -1,5 +1,6 @@
 use Rattle.planner_cli.proofs.EndLemmas.{feasible_ends, broken_ends, words_ends, instance_ends, plan_ends, read_ends, part_ends, say_ends, memory_ends, listed_ends}
-use Rattle.planner_cli.proofs.AllowedLemmas.{no_words_ends, no_instance_ends, not_taken_ends, no_plan_ends, refused_plan_ends, broken_plan_ends, kept_plan_ends, exact_ends}
+use Rattle.planner_cli.proofs.AllowedLemmas.{no_words_ends, no_instance_ends, refused_instance_ends, no_plan_ends, refused_plan_ends, broken_plan_ends, kept_plan_ends, exact_ends}
+use Rattle.planner_cli.proofs.AnswerLemmas.{has_one_answer}
 use Rattle.planner_cli.proofs.run.run.Goals as goal
 
 pub returns-clause-feasible : goal.returns-clause-feasible
@@ -38,8 +39,8 @@ returns-clause-no_words g c = no_words_ends _ _ _ _ c.outcome.ensures.ends
 pub returns-clause-no_instance : goal.returns-clause-no_instance
 returns-clause-no_instance g c = no_instance_ends _ _ _ _ c.outcome.ensures.ends
 
-pub returns-clause-not_taken : goal.returns-clause-not_taken
-returns-clause-not_taken g c = not_taken_ends _ _ _ _ c.outcome.ensures.ends
+pub returns-clause-refused_instance : goal.returns-clause-refused_instance
+returns-clause-refused_instance g c = refused_instance_ends _ _ _ _ c.outcome.ensures.ends
 
 pub returns-clause-no_plan : goal.returns-clause-no_plan
 returns-clause-no_plan g c = no_plan_ends _ _ _ _ c.outcome.ensures.ends
@@ -55,3 +56,6 @@ returns-clause-kept_plan g c = kept_plan_ends _ _ _ _ c.outcome.ensures.ends
 
 pub returns-clause-exact : goal.returns-clause-exact
 returns-clause-exact g c = exact_ends _ _ _ _ c.outcome.ensures.ends
+
+pub returns-clause-one_answer : goal.returns-clause-one_answer
+returns-clause-one_answer g c slack instance plan = has_one_answer slack instance plan
