@@ -1,4 +1,4 @@
-ghost use Rattle.std.specs.Prelude.{◌≡◌, ℕ, ℤ, List, length, IfOk};
+ghost use Rattle.std.specs.Prelude.{◌≡◌, ℕ, ℤ, List, length, None, Some, IfOk, OnErr};
 ghost use Rattle.instance_model.specs.Exact.{IsReading, EnclosesReading};
 ghost use Rattle.instance_model.specs.Rules.{first_rule};
 ghost use Rattle.plan_score.specs.Values.{values_of};
@@ -36,8 +36,8 @@ fn broken_rule(inst: &Instance, plan: &[Option<u32>]) -> Option<Rule>
 
 /// The verdict on a plan, from scratch: one of the two, so each comes exactly where its clause says.
 ///
-/// Reads each load and each risk of the plan's runs once, and none of other starts. Takes memory for the scenario sums
-/// of one period.
+/// Reads the loads and risks of the plan's runs alone. Takes memory for the scenario sums of one period, and none where
+/// a rule is broken.
 pub fn judge(alloc: Global, inst: &Instance, plan: &[Option<u32>]) -> Result<Verdict, AllocError>
     requires { length plan.now ≡ length inst.now.names }
     ensures broken { IfOk result (λ verdict. IfBroken verdict (λ rule.
@@ -51,6 +51,7 @@ pub fn judge(alloc: Global, inst: &Instance, plan: &[Option<u32>]) -> Result<Ver
     ensures encloses { IfOk result (λ verdict. IfFeasible verdict (λ values.
         (f : ℕ) (numbers : List ℤ) → IsReading inst.now f numbers →
         EnclosesReading inst.now plan.now f numbers)) }
+    ensures memory { OnErr result (first_rule inst.now plan.now ≡ None) }
 {
     if let Some(rule) = broken_rule(inst, plan) {
         return Ok(Verdict::Broken(rule));
