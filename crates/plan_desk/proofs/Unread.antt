@@ -1,8 +1,14 @@
 -- A file that is read piece by piece.
 use Rattle.std.proofs.Common.{◌≡◌, ℕ, zero, suc, ◌+◌, List, [], ◌∷◌, ◌++◌, length, take, drop, refl, sym, ◌∙◌, ap, arith, append_assoc, length-drop, subst, take-append-drop, ◌≤◌}
 use Rattle.std.proofs.lemmas.List.{append-nil}
-use Rattle.std.specs.Prelude.{Option, Some, None, option_map, IfSome}
+use Rattle.std.specs.Prelude.{Option, Some, None, option_map, IfSome, IfErr, Result, Ok, Err}
+use Rattle.plan_desk.specs.declared.read_fault.ReadFault.{ReadFault}
 use Rattle.plan_desk.specs.Desk.{Shown, Input, ShowsSame, after_read, all_read, input_after_read}
+
+-- what is true of a fault is true of the one that was answered
+pub at_fault : {T : Type 0} (r : Result T ReadFault) (fault : ReadFault) (P : ReadFault → Type 0) → IfErr r (λ e. e ≡ fault) → P fault → IfErr r P
+at_fault (Ok x) fault P is p = tt
+at_fault (Err e) fault P is p = subst P (sym is) p
 
 pub take-plus : (i k : ℕ) (xs : List ℕ) → take (i + k) xs ≡ take i xs ++ take k (drop i xs)
 take-plus zero k xs = let e : zero + k ≡ k = omega arith in rw e refl

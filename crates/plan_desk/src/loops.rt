@@ -1,8 +1,8 @@
 // Loops over a desk, until a file is read or a piece is taken whole.
-ghost use Rattle.std.specs.Prelude.{◌≡◌, ℕ, ◌+◌, ◌<◌, ◌≤◌, List, [], ◌++◌, length, take, drop, vec_len, IfOk, OnOk, OnErr, IfSome, IsErrOf, IsTrue};
+ghost use Rattle.std.specs.Prelude.{◌≡◌, ℕ, ◌+◌, ◌<◌, ◌≤◌, List, [], ◌++◌, length, take, drop, vec_len, IfOk, OnOk, OnErr, IfErr, IfSome, IsErrOf, IsTrue};
 ghost use Rattle.plan_desk.specs.Desk.{ShowsSame, after_take_in, after_read, all_read, after_write, after_say};
 ghost use Rattle.plan_desk.specs.Faults.{CountsFault, CountsReadFault, IsFaultOf, IsReadFaultOf};
-ghost use Rattle.plan_desk.specs.Contents.{WhereToldHolds, StopsReading};
+ghost use Rattle.plan_desk.specs.Contents.{WhereToldHolds, StopsReading, StopsAt, IsCountAt};
 ghost use Rattle.plan_desk.specs.declared.call.DeskCall.{DeskCall};
 
 use crate::{Bytes, Desk, Failed, ReadFault};
@@ -25,8 +25,9 @@ pub fn read_all<D: Desk>(
     ensures bytes { IfOk result (λ bytes. WhereToldHolds (D.shows desk.old) name.now (λ held. held ≡ bytes)) }
     ensures within { IfOk result (λ bytes. length bytes ≤ limit) }
 
-    // A failure changes no file and says nothing.
+    // A failure changes no file and says nothing, and no read was made once the limit was passed.
     ensures err { OnErr result (StopsReading name.now (D.shows desk.old) (D.shows desk.new)) }
+    ensures stops { IfErr result (StopsAt name.now limit (D.shows desk.old) (D.shows desk.new)) }
 
     // `TooLong` comes only for a longer file, and `Failed` only where faults rose.
     ensures too_long { IsErrOf result ReadFault.TooLong → WhereToldHolds (D.shows desk.old) name.now (λ held. limit < length held) }
@@ -44,8 +45,8 @@ pub fn write_all<D: Desk>(desk: &mut D, piece: &[u8]) -> Result<(), Failed>
     requires opened { IsTrue (D.shows desk.old).output.opened }
     ensures ok { OnOk result (ShowsSame (D.shows desk.new) (after_write piece.now (D.shows desk.old))) }
 
-    // A first part of the piece was written, and the file is still open.
-    ensures err { OnErr result ((n : ℕ) × (n ≤ length piece.now)
+    // A first part of the piece was written, not all of it, and the file is still open.
+    ensures err { OnErr result ((n : ℕ) × (n < length piece.now)
         × ShowsSame (D.shows desk.new) (after_write (take n piece.now) (D.shows desk.old))) }
     ensures faults { CountsFault (D.shows desk.old) (D.shows desk.new) (IsFaultOf DeskCall.Write (D.shows desk.old).output.name) result }
 {
@@ -60,8 +61,8 @@ pub fn write_all<D: Desk>(desk: &mut D, piece: &[u8]) -> Result<(), Failed>
 pub fn say_all<D: Desk>(desk: &mut D, piece: &[u8]) -> Result<(), Failed>
     ensures ok { OnOk result (ShowsSame (D.shows desk.new) (after_say piece.now (D.shows desk.old))) }
 
-    // A first part of the piece was said.
-    ensures err { OnErr result ((n : ℕ) × (n ≤ length piece.now)
+    // A first part of the piece was said, not all of it.
+    ensures err { OnErr result ((n : ℕ) × (n < length piece.now)
         × ShowsSame (D.shows desk.new) (after_say (take n piece.now) (D.shows desk.old))) }
     ensures faults { CountsFault (D.shows desk.old) (D.shows desk.new) (IsFaultOf DeskCall.Say (Some [])) result }
 {
@@ -80,7 +81,8 @@ fn read_rest<D: Desk>(desk: &mut D, bytes: &mut Vec<u8>, limit: u64) -> Result<(
     ensures within { vec_len bytes.new ≤ limit }
     ensures too_long { IsErrOf result ReadFault.TooLong → IfSome (D.shows desk.old).input.unread (λ rest. limit < vec_len bytes.old + length rest) }
     ensures end { OnOk result (ShowsSame (D.shows desk.new) (all_read (D.shows desk.old))) }
-    ensures some_read { (n : ℕ) × ShowsSame (D.shows desk.new) (after_read n (D.shows desk.old)) }
+    ensures stops { IfErr result (λ fault. (n : ℕ) × IsCountAt limit fault (vec_len bytes.old + n)
+        × ShowsSame (D.shows desk.new) (after_read n (D.shows desk.old))) }
     ensures later { (D.shows desk.old).faults ≤ (D.shows desk.new).faults }
     ensures faults { CountsReadFault (D.shows desk.old) (D.shows desk.new) (IsFaultOf DeskCall.Read (D.shows desk.old).input.name) result }
 {

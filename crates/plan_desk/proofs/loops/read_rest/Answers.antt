@@ -1,7 +1,9 @@
 use Rattle.std.proofs.Common.{rules, ◌≡◌, ◌+◌, ◌-◌, ◌++◌, take, length, ◌≤◌, ℕ, vec_len, subst}
 use Rattle.std.specs.Prelude.{IfSome}
 use Rattle.plan_desk.specs.Desk.{ShowsSame, after_read}
-use Rattle.plan_desk.proofs.Unread.{read_more, end_of, read_on, read_all_of}
+use Rattle.plan_desk.specs.Contents.{IsCountAt}
+use Rattle.plan_desk.specs.declared.read_fault.ReadFault.TheVariants.{Memory}
+use Rattle.plan_desk.proofs.Unread.{read_more, end_of, read_on, read_all_of, at_fault}
 use Rattle.plan_desk.proofs.loops.read_rest.Goals as goal
 
 pub returns-then-n-eq0-clause-ok : goal.returns-then-n-eq0-clause-ok
@@ -15,11 +17,6 @@ returns-then-n-eq0-clause-end g c =
     let d = g.D.Desk in
     read_all_of (d.shows c.args.desk.now) (d.shows c.pieces.desk) (d.shows c.read.new.self) (vec_len c.pieces.bytes - vec_len c.args.bytes.now)
     c.pieces.invariant.shows (subst (λ (n : ℕ). ShowsSame (d.shows c.read.new.self) (after_read n (d.shows c.pieces.desk))) c.if-n-eq0.true c.in_ok-n.ensures.ok) (c.in_ok-n.ensures.end (search rules) c.if-n-eq0.true)
-
-pub returns-then-limit-len-clause-some_read : goal.returns-then-limit-len-clause-some_read
-returns-then-limit-len-clause-some_read g c =
-    let d = g.D.Desk in
-    (_, read_more (d.shows c.args.desk.now) (d.shows c.pieces.desk) (d.shows c.read.new.self) (vec_len c.pieces.bytes - vec_len c.args.bytes.now) c.in_ok-n.n c.pieces.invariant.shows c.in_ok-n.ensures.ok)
 
 pub pieces-preserved : goal.pieces-preserved
 pieces-preserved g c =
@@ -40,7 +37,15 @@ pieces-preserved g c =
       same = search rules;
     }
 
-pub returns-in_err-extend_from_slice-clause-some_read : goal.returns-in_err-extend_from_slice-clause-some_read
-returns-in_err-extend_from_slice-clause-some_read g c =
+pub returns-then-limit-len-clause-stops : goal.returns-then-limit-len-clause-stops
+returns-then-limit-len-clause-stops g c =
     let d = g.D.Desk in
-    (_, read_more (d.shows c.args.desk.now) (d.shows c.pieces.desk) (d.shows c.read.new.self) (vec_len c.pieces.bytes - vec_len c.args.bytes.now) c.in_ok-n.n c.pieces.invariant.shows c.in_ok-n.ensures.ok)
+    let k : ℕ = vec_len c.pieces.bytes - vec_len c.args.bytes.now in
+    (k + c.in_ok-n.n, (search rules, search rules), read_more (d.shows c.args.desk.now) (d.shows c.pieces.desk) (d.shows c.read.new.self) k c.in_ok-n.n c.pieces.invariant.shows c.in_ok-n.ensures.ok)
+
+pub returns-in_err-extend_from_slice-clause-stops : goal.returns-in_err-extend_from_slice-clause-stops
+returns-in_err-extend_from_slice-clause-stops g c =
+    let d = g.D.Desk in
+    let k : ℕ = vec_len c.pieces.bytes - vec_len c.args.bytes.now in
+    at_fault c.from_residual-in_err-extend_from_slice.result Memory (λ fault. (n : ℕ) × IsCountAt c.args.limit fault (vec_len c.args.bytes.now + n) × ShowsSame (d.shows c.read.new.self) (after_read n (d.shows c.args.desk.now))) (search rules)
+    (k + c.in_ok-n.n, search rules, read_more (d.shows c.args.desk.now) (d.shows c.pieces.desk) (d.shows c.read.new.self) k c.in_ok-n.n c.pieces.invariant.shows c.in_ok-n.ensures.ok)
