@@ -1,6 +1,6 @@
 -- What a desk shows: the file that is read, the files that are written, what was said, and what has failed;
 -- and what it shows after each of its calls.
-use Rattle.std.specs.Prelude.{◌≡◌, ℕ, Bool, true, false, List, [], ◌++◌, drop, Option, Some, None, option_map, if◌then◌else◌, ◌&&◌, bytes_eq}
+use Rattle.std.specs.Prelude.{◌≡◌, ◌⊎◌, ℕ, Bool, true, false, List, [], ◌++◌, drop, Option, Some, None, IsSome, option_map, if◌then◌else◌, ◌&&◌, bytes_eq}
 use Rattle.plan_desk.specs.declared.call.DeskCall.{DeskCall}
 
 -- a call that failed, and the name of its file, which is empty for `say`
@@ -32,6 +32,14 @@ pub record Shown : Type 0 where
   pub said : Option (List ℕ)
   pub faults : ℕ
   pub last : Option Fault
+
+-- what is unread, what files hold, what was written to them or the last fault is told
+abbrev pub TellsFiles : Shown → Type 0
+TellsFiles s = IsSome s.input.unread ⊎ (IsSome s.output.holds ⊎ (IsSome s.output.written ⊎ IsSome s.last))
+
+-- a desk that tells any of these tells the names of the file that is taken in and of the one that is open
+abbrev pub TellsNames : Shown → Type 0
+TellsNames s = TellsFiles s → IsSome s.input.name × IsSome s.output.name
 
 -- the files, what is read and what was said are the same
 pub record ShowsSame (new expected : Shown) : Type 0 where

@@ -5,3 +5,4 @@ pub mod Calls
 pub mod Stored
 pub mod Mem
 pub mod Real
+pub mod Names

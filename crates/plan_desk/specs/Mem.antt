@@ -1,5 +1,5 @@
 -- Files in memory: what a desk of them is, what it shows, and which of its calls fail.
-use Rattle.std.specs.Prelude.{◌≡◌, ℕ, zero, suc, ◌+◌, ◌-◌, ◌^◌, ◌<◌, ◌≤◌, Bool, true, false, ◌==◌, ◌&&◌, List, [], ◌∷◌, length, drop, slice_index, slice_set, min, Option, Some, None, option_map, is_some, Result, is_err, if◌then◌else◌, bytes_eq, string_bytes, ⊤}
+use Rattle.std.specs.Prelude.{◌≡◌, ℕ, zero, suc, ◌+◌, ◌-◌, ◌^◌, ◌<◌, ◌≤◌, Bool, true, false, ◌==◌, ◌&&◌, List, [], ◌∷◌, length, drop, slice_index, slice_set, min, Option, Some, None, option_map, is_some, Result, is_err, if◌then◌else◌, bytes_eq, ⊤}
 use Rattle.std.specs.List.{list_any}
 use Rattle.plan_desk.specs.declared.files.Place.{Place}
 use Rattle.plan_desk.specs.declared.files.Listed.{Listed}
@@ -107,7 +107,7 @@ mem_shows d = record {
 
 -- the fault that was kept, whose name may be that of a file
 abbrev pub fault_of : List Stored → LastFault → Fault
-fault_of files (Named call name) = record { call = call; name = string_bytes name }
+fault_of files (Named call name) = record { call = call; name = name.bytes }
 fault_of files (OfFile call i) = record { call = call; name = (file_at files i).name }
 fault_of files Said = record { call = Say; name = [] }
 

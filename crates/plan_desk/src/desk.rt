@@ -1,6 +1,6 @@
 // What reads files, writes files and speaks.
 ghost use Rattle.std.specs.Prelude.{IsTrue};
-ghost use Rattle.plan_desk.specs.Desk.{Shown};
+ghost use Rattle.plan_desk.specs.Desk.{Shown, TellsNames};
 ghost use Rattle.plan_desk.specs.Calls.{TakesIn, Reads, PutsOut, Writes, FinishesOut, Speaks};
 
 use crate::Failed;
@@ -8,8 +8,9 @@ use crate::Failed;
 /// A device: one file at a time is read, one is written, and bytes are said.
 ///
 /// A desk tells what it shows or leaves parts of it untold; what is told stays told. A desk that tells its last fault,
-/// or what files hold, tells the names of its files too. Each call answers `Failed` only where the count of faults rose
-/// in it, and makes itself the last fault. No call changes a file but the one that is open for writing.
+/// or what files hold, tells the names of its files too, so that what is written to one is told. Each call answers
+/// `Failed` only where the count of faults rose in it, and makes itself the last fault. No call changes a file but the
+/// one that is open for writing.
 pub trait Desk {
     /// Its files, what was said, and its faults.
     ghost shows: { Self → Shown };
@@ -44,4 +45,7 @@ pub trait Desk {
     /// nothing was said.
     fn say(&mut self, piece: &[u8]) -> Result<usize, Failed>
         ensures { Speaks piece.now (shows self.old) (shows self.new) result };
+
+    // The names of its files are told, where anything of them is.
+    ghost names: { (desk : Self) → TellsNames (shows desk) };
 }

@@ -1,5 +1,5 @@
 // How faults are counted and kept.
-ghost use Rattle.std.specs.Prelude.{◌≡◌, ◌≤◌, List, IfSome, true};
+ghost use Rattle.std.specs.Prelude.{◌≡◌, ◌≤◌, ◌↔◌, List, length, IfSome, IsSome, true};
 ghost use Rattle.plan_desk.specs.Desk.{Fault};
 ghost use Rattle.plan_desk.specs.Faults.{Rose, count_after};
 ghost use Rattle.plan_desk.specs.Mem.{fault_of, IsLastAt};
@@ -7,7 +7,7 @@ ghost use Rattle.plan_desk.specs.Stored.{Stored};
 
 use crate::files::LastFault;
 use crate::{DeskCall, Failed};
-use std::alloc::Global;
+use arrayvec::ArrayString;
 
 /// Counts a fault.
 pub fn count_fault(faults: &mut u64) -> Failed
@@ -30,12 +30,13 @@ pub fn fail(faults: &mut u64, last: &mut Option<LastFault>, fault: Option<LastFa
     count_fault(faults)
 }
 
-/// What is kept of a fault at this name, where there is memory for the name.
-pub fn named(alloc: Global, call: DeskCall, name: &str) -> Option<LastFault>
+/// What is kept of a fault at this name: nothing, where the name is too long. It takes no memory.
+pub fn named(call: DeskCall, name: &str) -> Option<LastFault>
+    ensures told { IsSome result ↔ (length name.now ≤ 255) }
     ensures fault { IfSome result (λ l. (files : List Stored) → fault_of files l ≡ record { call = call; name = name.now }) }
     ensures kept { (files : List Stored) → IsLastAt files result }
 {
-    match String::from_str(alloc, name) {
+    match ArrayString::from(name) {
         Ok(name) => Some(LastFault::Named(call, name)),
         Err(_) => None,
     }

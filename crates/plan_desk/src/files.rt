@@ -1,6 +1,7 @@
 // Files in memory, and what a desk of them keeps beside.
 
 use crate::DeskCall;
+use arrayvec::ArrayString;
 use std::marker::Model;
 
 /// A file.
@@ -28,10 +29,13 @@ pub struct Place {
     pub from: usize,
 }
 
-/// A call that failed. Where its file is there, it is kept by its place, which takes no memory.
+/// The longest name of a file that is told of a fault.
+pub const NAME: usize = 255;
+
+/// A call that failed. The file that is read or written is kept by its place.
 #[derive(Drop)]
 pub enum LastFault {
-    Named(DeskCall, String),
+    Named(DeskCall, ArrayString<NAME>),
     OfFile(DeskCall, usize),
     Said,
 }

@@ -1,5 +1,5 @@
 // The file of a name, and changes to it.
-ghost use Rattle.std.specs.Prelude.{◌≡◌, ◌+◌, ◌-◌, ◌^◌, ◌<◌, ◌≤◌, take, drop, length, min, MatchOption, OnOk, OnErr, IfOk, None, bytes_eq, vec_len, ◌++◌, [], List, ◌∷◌, slice_set, option_copied};
+ghost use Rattle.std.specs.Prelude.{◌≡◌, ◌+◌, ◌-◌, ◌^◌, ◌<◌, ◌≤◌, take, drop, length, min, MatchOption, OnOk, OnErr, IfOk, IsOk, IsSome, None, bytes_eq, vec_len, ◌++◌, [], List, ◌∷◌, slice_set, option_copied};
 ghost use Rattle.plan_desk.specs.Mem.{held_by, IsAt, IsPut, file_at};
 
 use crate::files::MemFile;
@@ -33,6 +33,7 @@ pub fn copy_part(files: &[MemFile], at: usize, from: usize, most: usize, buf: &m
     requires from_in { from ≤ length (file_at files.now at).bytes }
     ensures count { result ≡ min most (min (length (file_at files.now at).bytes - from) (length buf.new)) }
     ensures bytes { take result buf.new ≡ take result (drop from (file_at files.now at).bytes) }
+    ensures behind { drop result buf.new ≡ drop result buf.old }
     ensures fits { from + result < 2 ^ 64 }
 {
     copy_bytes(bytes_of(files, at), from, most, buf)
@@ -61,6 +62,7 @@ pub fn put(
 ) -> Result<usize, AllocError>
     ensures ok { IfOk result (λ at. IsPut files.old.items files.new.items at (record { name = name.now; bytes = bytes.items; put_out = put_out })) }
     ensures err { OnErr result (files.new.items ≡ files.old.items) }
+    ensures there { IsSome (held_by files.old.items name.now) → IsOk result }
 {
     match find(files, name) {
         Some(at) => {
@@ -123,6 +125,7 @@ fn copy_bytes(bytes: &[u8], from: usize, most: usize, buf: &mut [u8]) -> usize
     requires from_in { from ≤ length bytes.now }
     ensures count { result ≡ min most (min (length bytes.now - from) (length buf.new)) }
     ensures bytes { take result buf.new ≡ take result (drop from bytes.now) }
+    ensures behind { drop result buf.new ≡ drop result buf.old }
     ensures fits { from + result < 2 ^ 64 }
 {
     let rest = &bytes[from..];

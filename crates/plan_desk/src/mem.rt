@@ -1,5 +1,5 @@
 // Files in memory.
-ghost use Rattle.std.specs.Prelude.{◌≡◌, ◌<◌, ◌-◌, ◌++◌, ◌∷◌, [], ◌||◌, length, min, not, is_some, is_err, IfOk, OnOk, OnErr, IsErr, IsSome, IsTrue, option_copied};
+ghost use Rattle.std.specs.Prelude.{◌≡◌, ◌<◌, ◌≤◌, ◌↔◌, ◌-◌, ◌++◌, ◌∷◌, [], ◌||◌, drop, length, min, not, is_some, is_err, IfOk, OnOk, OnErr, IsErr, IsSome, IsTrue, option_copied};
 ghost use Rattle.plan_desk.specs.Calls.{TakesIn, Reads, PutsOut, Writes, FinishesOut, Speaks};
 ghost use Rattle.plan_desk.specs.declared.call.DeskCall.{DeskCall};
 
@@ -11,7 +11,7 @@ use crate::{Desk, DeskCall, Failed};
 use std::alloc::{AllocError, Global};
 use std::marker::Model;
 
-/// Files in memory. It tells everything, but a last fault of `take_in` or `put_out` whose name found no memory.
+/// Files in memory. It tells everything, but a last fault of `take_in` or `put_out` whose name has more than 255 bytes.
 #[derive(Drop)]
 pub struct MemDesk {
     alloc: Global,
@@ -116,12 +116,16 @@ impl MemDesk {
 
 impl Desk for MemDesk {
     ghost use Rattle.plan_desk.specs.Mem.{mem_shows, is_due, held_by, unread_of, CountsCall};
+    ghost use Rattle.plan_desk.specs.Names.{mem_names};
 
     ghost shows = { mem_shows };
+
+    ghost names = { mem_names };
 
     fn take_in(&mut self, name: &str) -> Result<(), Failed>
         ensures call { TakesIn name.now (mem_shows self.old) (mem_shows self.new) result }
         ensures exact { is_err result ≡ (is_due self.old DeskCall.TakeIn || not (is_some (held_by self.old.files name.now))) }
+        ensures told { OnErr result (IsSome self.new.last ↔ (length name.now ≤ 255)) }
         ensures count { CountsCall DeskCall.TakeIn self.old self.new result }
     {
         if !is_listed(&mut self.made, &self.listed, DeskCall::TakeIn) {
@@ -131,7 +135,7 @@ impl Desk for MemDesk {
             }
         }
         self.taken = None;
-        let fault = named(self.alloc, DeskCall::TakeIn, name);
+        let fault = named(DeskCall::TakeIn, name);
         Err(fail(&mut self.faults, &mut self.last, fault))
     }
 
@@ -140,6 +144,8 @@ impl Desk for MemDesk {
         ensures call { Reads buf.new (mem_shows self.old) (mem_shows self.new) result }
         ensures exact { is_err result ≡ is_due self.old DeskCall.Read }
         ensures piece { IfOk result (λ n. n ≡ min self.old.most (min (length (unread_of self.old.files self.old.taken)) (length buf.new))) }
+        ensures behind { IfOk result (λ n. drop n buf.new ≡ drop n buf.old) }
+        ensures kept { OnErr result (buf.new ≡ buf.old) }
         ensures told { OnErr result (IsSome self.new.last) }
         ensures count { CountsCall DeskCall.Read self.old self.new result }
     {
@@ -161,12 +167,14 @@ impl Desk for MemDesk {
     fn put_out(&mut self, name: &str) -> Result<(), Failed>
         ensures call { PutsOut name.now (mem_shows self.old) (mem_shows self.new) result }
         ensures listed { IsTrue (is_due self.old DeskCall.PutOut) → IsErr result }
+        ensures there { IsSome (held_by self.old.files name.now) → is_err result ≡ is_due self.old DeskCall.PutOut }
+        ensures told { OnErr result (IsSome self.new.last ↔ (length name.now ≤ 255)) }
         ensures count { CountsCall DeskCall.PutOut self.old self.new result }
     {
         self.taken = None;
         self.writing = None;
         if is_listed(&mut self.made, &self.listed, DeskCall::PutOut) {
-            let fault = named(self.alloc, DeskCall::PutOut, name);
+            let fault = named(DeskCall::PutOut, name);
             return Err(fail(&mut self.faults, &mut self.last, fault));
         }
         match put(
@@ -181,7 +189,7 @@ impl Desk for MemDesk {
                 Ok(())
             }
             Err(_) => {
-                let fault = named(self.alloc, DeskCall::PutOut, name);
+                let fault = named(DeskCall::PutOut, name);
                 Err(fail(&mut self.faults, &mut self.last, fault))
             }
         }

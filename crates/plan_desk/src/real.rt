@@ -50,8 +50,11 @@ impl<R: Files + Print + Drop> RealDesk<R> {
 
 impl<R: Files + Print + Drop> Desk for RealDesk<R> {
     ghost use Rattle.plan_desk.specs.Real.{real_shows};
+    ghost use Rattle.plan_desk.specs.Names.{real_names};
 
     ghost shows = { real_shows };
+
+    ghost names = { real_names };
 
     fn take_in(&mut self, name: &str) -> Result<(), Failed>
         ensures call { TakesIn name.now (real_shows self.old) (real_shows self.new) result }
