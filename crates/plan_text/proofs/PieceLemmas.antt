@@ -20,7 +20,7 @@ part_more a b old mid new e (n, l, s) =
 -- a part of a piece is a part of what begins with it
 pub part_longer : (a b : List ℕ) (old new : Shown) → WritesPart a old new → WritesPart (a ++ b) old new
 part_longer a b old new (n, l, s) =
-    (n, omega (arith, length-append a b), subst (λ xs. ShowsSame new (after_write xs old)) (sym (take-append-le n a b l)) s)
+    (n, omega (arith, length-append a b), subst (λ xs. ShowsSame new (after_write xs old)) (sym (take-append-le n a b (omega (arith, l)))) s)
 
 -- no start is written for no start
 plan_text-none : (names : List (List ℕ)) → plan_text names [] ≡ []

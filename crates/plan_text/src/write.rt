@@ -17,7 +17,7 @@ pub fn write_plan<D: Desk>(inst: &Instance, starts: &[u32], desk: &mut D) -> Res
     requires small { All (λ start. start < 10 ^ 9) starts.now }
     ensures ok { OnOk result (ShowsSame (D.shows desk.new) (after_write (plan_text inst.now.names starts.now) (D.shows desk.old))) }
 
-    // A first part of the text was written, and the file is still open.
+    // A first part of the text was written, not all of it, and the file is still open.
     ensures err { OnErr result (WritesPart (plan_text inst.now.names starts.now) (D.shows desk.old) (D.shows desk.new)) }
     ensures faults { CountsFault (D.shows desk.old) (D.shows desk.new) (IsFaultOf DeskCall.Write (D.shows desk.old).output.name) result }
 
