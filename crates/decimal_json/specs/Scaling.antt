@@ -1,5 +1,5 @@
 -- Rounding behind the last digit that is kept. Not part of any promise: only private functions cite it.
-use Rattle.std.specs.Prelude.{◌≡◌, ℕ, ◌+◌, ◌*◌, ◌^◌, ◌≤◌, ◌<◌, List, length, get_or, Bool, cond, not, ◌==◌, ◌&&◌, ◌||◌, nat_le, ℤ, Option, Some, None, MatchOption}
+use Rattle.std.specs.Prelude.{◌≡◌, ℕ, ◌+◌, ◌*◌, ◌^◌, ◌≤◌, ◌<◌, List, [], length, get_or, Bool, cond, not, ◌==◌, ◌&&◌, ◌||◌, nat_le, ℤ, Option, Some, None, MatchOption}
 use Rattle.decimal_json.specs.Decimal.{signed}
 use Rattle.decimal_json.specs.Grammar.{IsDigit, Parts}
 
@@ -27,6 +27,12 @@ pub record HasDigits (p : Parts) : Type 0 where
   pub whole : AreAllDigits p.whole
   pub fraction : AreAllDigits p.fraction
   pub exponent : AreAllDigits p.exponent
+
+-- without an exponent, and 10^places times the number is a whole one of at most 19 digits
+pub record IsShort (p : Parts) (places : ℕ) : Type 0 where
+  pub plain : p.exponent ≡ []
+  pub exact : length p.fraction ≤ places
+  pub fits : length p.whole + places ≤ 19
 
 -- a size with its sign, and whether it was rounded; none where there is no size
 abbrev pub counted_size : Bool → Option ℕ → Bool → Option (ℤ × Bool)

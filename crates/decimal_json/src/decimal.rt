@@ -166,8 +166,14 @@ mod tests {
 
     #[test]
     fn counts_are_the_nearest(rt: HostRuntime) {
-        let table: [(&[u8], Option<(i128, bool)>); 16] = [
+        let table: [(&[u8], Option<(i128, bool)>); 18] = [
             (b"1.5", Some((1_500_000_000_000, false))),
+            (b"-0.25", Some((-250_000_000_000, false))),
+            // the largest one whose count fits one word
+            (
+                b"9999999.999999999999",
+                Some((9_999_999_999_999_999_999, false)),
+            ),
             (b"-2e3", Some((-2_000_000_000_000_000, false))),
             (b"0.0000000000005", Some((1, true))),
             (b"-0.0000000000005", Some((-1, true))),

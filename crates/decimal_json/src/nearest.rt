@@ -5,6 +5,7 @@ ghost use Rattle.decimal_json.specs.Scaling.{HasDigits, Rounds};
 ghost use Rattle.decimal_json.specs.Split.{parts_view};
 
 use crate::digits::capped_number_of;
+use crate::short::{is_short, short_size};
 use crate::tally::{Rounded, Tally};
 use crate::token::Parts;
 
@@ -14,6 +15,13 @@ pub(crate) fn rounded(parts: Parts<'_>, places: u32) -> Rounded
     requires { HasDigits (parts_view parts) }
     ensures { Rounds (numerator (parts_view parts.entry) places) (denominator (parts_view parts.entry)) result.size result.differs }
 {
+    if is_short(&parts, places) {
+        let size = short_size(&parts, places);
+        return Rounded {
+            size: Some(size as u128),
+            differs: false,
+        };
+    }
     let exponent = capped_number_of(parts.exponent);
     let point = parts.whole.len() as u128 + places as u128;
     if !parts.shrinks {

@@ -3,7 +3,11 @@ use Rattle.decimal_json.specs.Decimal.{number}
 use Rattle.decimal_json.specs.Split.{parts_view}
 use Rattle.decimal_json.specs.Tallies.{IsTally}
 use Rattle.decimal_json.proofs.Capped.{not_shrunk, shrunk, vanishes, fewer}
+use Rattle.decimal_json.proofs.OneWord.{short_rounds}
 use Rattle.decimal_json.proofs.nearest.rounded.Goals as goal
+
+pub returns-then-is_short : goal.returns-then-is_short
+returns-then-is_short c = short_rounds (parts_view c.args.parts) c.args.places c.short_size-size.result (c.is_short.ensures c.if-is_short.true) c.short_size-size.ensures.size c.short_size-size.ensures.small
 
 pub returns-then-not-parts : goal.returns-then-not-parts
 returns-then-not-parts c =
