@@ -1,0 +1,4 @@
+pub mod BagLemmas
+pub mod HeightLemmas
+pub mod OrderLemmas
+pub mod RankLemmas
