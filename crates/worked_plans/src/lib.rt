@@ -5,6 +5,8 @@
 
 mod kept;
 #[cfg(test)]
+mod readers;
+#[cfg(test)]
 mod sketch;
 #[cfg(test)]
 mod tests;
