@@ -1,6 +1,7 @@
 // What no clause says: that calls succeed where memory is ample, and what the system does with real files.
 
-ghost use Rattle.std.specs.Prelude.{◌<◌};
+ghost use Rattle.std.specs.Prelude.{◌<◌, OnOk};
+ghost use Rattle.plan_desk.specs.Contents.{HoldsBytes};
 
 use crate::{
     Bytes, Desk, DeskCall, Failed, MemDesk, ReadFault, RealDesk, read_all, say_all, write_all,
@@ -58,11 +59,18 @@ fn three_calls(alloc: Global, call: DeskCall, failing: u32) -> Result<[bool; 3],
     Ok([first, second, third])
 }
 
+// Writes a file of one piece, which it then holds, where that is told.
+fn write_once<D: Desk>(desk: &mut D, name: &str, piece: &[u8]) -> Result<(), Failed>
+    ensures { OnOk result (HoldsBytes (D.shows desk.new) name.now piece.now) }
+{
+    desk.put_out(name)?;
+    write_all(desk, piece)?;
+    desk.finish_out()
+}
+
 // Writes a file, and then puts it out again and writes another piece.
 fn write_twice<D: Desk>(desk: &mut D, name: &str) -> Result<(), Failed> {
-    desk.put_out(name)?;
-    write_all(desk, &HELD)?;
-    desk.finish_out()?;
+    write_once(desk, name, &HELD)?;
     desk.put_out(name)?;
     write_all(desk, &HELD[..2])?;
     write_all(desk, &HELD[1..2])?;
