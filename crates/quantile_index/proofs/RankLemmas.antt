@@ -1,5 +1,6 @@
 -- The entry at a place in order has the sum of that rank.
-use Rattle.std.proofs.Common.{◌≡◌, ℕ, suc, ◌+◌, ◌-◌, ◌<◌, ◌≤◌, ℤ, Bool, true, false, cond, int_le, int_lt, List, [], ◌∷◌, length, count_by, refl, sym, ap, subst, ◌∙◌, inl, inr, arith}
+use Rattle.std.proofs.Common.{◌≡◌, ℕ, suc, ◌+◌, ◌-◌, ◌<◌, ◌≤◌, ℤ, Bool, true, false, cond, int_le, int_lt, List, [], ◌∷◌, length, count_by, refl}
+use Rattle.std.proofs.Common.{sym, ap, subst, ◌∙◌, inl, inr, arith}
 use Rattle.std.proofs.lemmas.Bool.{cases_Bool}
 use Rattle.std.proofs.lemmas.Int.{ints}
 use Rattle.std.proofs.lemmas.List.Elements.{Contains-get_or, Contains-append_right}
@@ -23,7 +24,8 @@ count-numbered p n (s ∷ sums) =
       | inr q ↦ count_no (λ x. p x.sum) first (numbered (n + 1) sums) q ∙ rest ∙ sym (count_no p s sums q)
     ]
 
-count_all : (p : Entry → Bool) (P : Entry → Type 0) → ((x : Entry) → P x → p x ≡ true) → (xs : List Entry) → AllEntries P xs → count_by p xs ≡ length xs
+count_all : (p : Entry → Bool) (P : Entry → Type 0) → ((x : Entry) → P x → p x ≡ true) → (xs : List Entry) → AllEntries P xs →
+    count_by p xs ≡ length xs
 count_all p P f [] a = refl
 count_all p P f (x ∷ xs) a = count_yes p x xs (f x a.0) ∙ ap suc (count_all p P f xs a.1)
 
@@ -46,7 +48,8 @@ contains_counted q (s ∷ sums) h =
       | inr e ↦ Contains-append_right (s ∷ []) sums q (contains_counted q sums (let c = count_no p s sums e in omega arith))
     ]
 
-pub kth_at : (entries : List Entry) (sums : List ℤ) (m : ℕ) (q : ℤ) → IsRanking entries sums → 1 ≤ m → HasSumAt entries (m - 1) q → IsMthSmallest m sums q
+pub kth_at : (entries : List Entry) (sums : List ℤ) (m : ℕ) (q : ℤ) → IsRanking entries sums → 1 ≤ m → HasSumAt entries (m - 1) q →
+    IsMthSmallest m sums q
 kth_at entries sums m q r h p =
     let s = subst IsOrdered p.is r.ordered in
     let below = below_middle p.front p.entry p.back s in
@@ -57,7 +60,8 @@ kth_at entries sums m q r h p =
           let self : eq p.entry ≡ true = rw (p.sum_is, int_le_self q) refl in
           let bag = r.bag.counts eq in
           let l = count-numbered (λ s. cond (int_le s q) (int_le q s) false) 1 sums in
-          contains_counted q sums (omega (arith, ap (count_by eq) p.is, count-append eq p.front (p.entry ∷ p.back), count_yes eq p.entry p.back self));
+          let parts = ap (count_by eq) p.is ∙ count-append eq p.front (p.entry ∷ p.back) in
+          contains_counted q sums (omega (arith, parts, count_yes eq p.entry p.back self));
       below =
           let lt : Entry → Bool = λ x. int_lt x.sum q in
           let a = count-append lt p.front (p.entry ∷ p.back) in

@@ -1,4 +1,5 @@
-ghost use Rattle.std.specs.Prelude.{◌≡◌, ◌≢◌, ◌+◌, ◌-◌, ◌<◌, ◌≤◌, take, drop, length, IfOk, slice_set, slice_index_or, count_by, vec_len, vec_capacity};
+ghost use Rattle.std.specs.Prelude.{◌≡◌, ◌≢◌, ◌+◌, ◌-◌, ◌<◌, ◌≤◌, take, drop, length, IfOk, slice_set, slice_index_or, count_by, vec_len};
+ghost use Rattle.std.specs.Prelude.{vec_capacity};
 ghost use Rattle.quantile_index.specs.Order.{AllEntries, IsBefore, IsOrdered, Inserts};
 ghost use Rattle.quantile_index.specs.Ranking.{IsRanking, has_scenario};
 

@@ -160,7 +160,8 @@ impl Node {
     }
 
     pub fn set_sum(&mut self, sum: Sum)
-        ensures { self.new.entry ≡ record self.old.entry { sum = sum } }
+        ensures sum { self.new.entry.sum ≡ sum }
+        ensures scenario { self.new.entry.scenario ≡ self.old.entry.scenario }
     {
         self.entry.sum = sum;
     }

@@ -16,7 +16,9 @@ put_in-right-requires g t c κs within =
     let count : length (l ++ k ∷ r) ≡ length l + length r + 1 = omega (arith, length-append l (k ∷ r)) in
     let few = rw (c.into_parts-left.ensures.entries, count) at c.requires.few in
     let shorter : length r < length c.args.tree.0 = omega (arith, ap length c.into_parts-left.ensures.entries, count) in
-    (search rules, (search rules, ((ordered_back l (k ∷ r) c.into_parts-left.ensures.ordered).1, ((AllEntries-back (λ e. e ≢ c.args.node.value.entry) l (k ∷ r) a).1, omega arith))))
+    let ordered = (ordered_back l (k ∷ r) c.into_parts-left.ensures.ordered).1 in
+    let new = (AllEntries-back (λ e. e ≢ c.args.node.value.entry) l (k ∷ r) a).1 in
+    (search rules, (search rules, (ordered, (new, omega arith))))
 
 pub balanced-requires-else-is_before-clause-ordered :
     goal.balanced-requires-else-is_before-clause-ordered

@@ -1,4 +1,4 @@
-use Rattle.std.proofs.Common.{◌≡◌, ◌+◌, ap, get_or, ℤ, refl, arith}
+use Rattle.std.proofs.Common.{refl, arith}
 use Rattle.quantile_index.proofs.BagLemmas.{bag_grown, next_new}
 use Rattle.quantile_index.proofs.flat_row.ranked.Goals as goal
 
@@ -8,12 +8,12 @@ put_in-requires-clause-new g c =
 
 pub loop-i-preserved : goal.loop-i-preserved
 loop-i-preserved g c =
-    let read : record { sum = c.index-from-i.result; scenario = c.loop-i.i + 1 } ≡ record { sum = get_or c.args.from.now c.loop-i.i c.index-from-i.result; scenario = c.loop-i.i + 1 } =
-    ap (λ (s : ℤ). record { sum = s; scenario = c.loop-i.i + 1 }) c.index-from-i.is in
+    let had = c.loop-i.invariant.ranking.bag in
+    let inserted = c.put_in.ensures.inserted in
     record {
       ranking = record {
         ordered = c.put_in.ensures.ordered;
-        bag = bag_grown _ _ c.args.from.now c.loop-i.i _ c.index-from-i.result c.loop-i-test.true c.loop-i.invariant.ranking.bag read c.put_in.ensures.inserted;
+        bag = bag_grown _ _ c.args.from.now c.loop-i.i c.index-from-i.result _ c.loop-i-test.true had c.index-from-i.is refl inserted;
       };
       len = omega arith;
       room = omega arith;

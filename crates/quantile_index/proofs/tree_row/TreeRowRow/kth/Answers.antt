@@ -1,12 +1,13 @@
 use Rattle.std.proofs.Common.{length, sym, ap, arith}
 use Rattle.fixed_num.proofs.RankLemmas.{mth_smallest_is}
-use Rattle.quantile_index.proofs.BagLemmas.{length_bag, length-numbered}
+use Rattle.quantile_index.proofs.BagLemmas.{length_ranked}
 use Rattle.quantile_index.proofs.RankLemmas.{kth_at}
 use Rattle.quantile_index.proofs.tree_row.TreeRowRow.kth.Goals as goal
 
 pub sum_at-requires : goal.sum_at-requires
 sum_at-requires g c =
-    omega (arith, length_bag _ _ c.self.invariant.ranking.bag, length-numbered 1 c.self.inside.sums.items, ap length c.self.view_is, c.requires.first, c.requires.last)
+    let count = length_ranked _ c.self.inside.sums.items c.self.invariant.ranking.bag in
+    omega (arith, ap length c.self.view_is, c.requires.first, c.requires.last)
 
 pub returns-clause-kth : goal.returns-clause-kth
 returns-clause-kth g c =
