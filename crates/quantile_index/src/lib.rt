@@ -9,6 +9,8 @@ mod entry;
 mod flat_row;
 mod height;
 mod row;
+#[cfg(test)]
+mod tests;
 mod tree;
 mod tree_row;
 
