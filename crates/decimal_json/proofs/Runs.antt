@@ -7,13 +7,16 @@ use Rattle.std.specs.declared.alloc.AllocError.{AllocError}
 use Rattle.std.proofs.lemmas.Bool.Decides.{nat_tests}
 use Rattle.decimal_json.specs.Token.{digit_count}
 use Rattle.decimal_json.specs.Views.{phase_of, within_of}
-use Rattle.decimal_json.specs.Machines.{levels_of, mode_of, state_of}
+use Rattle.decimal_json.specs.Machines.{levels_of, mode_of, state_of, ModeHolds, HasEmptyToken, IsNear}
 use Rattle.decimal_json.specs.declared.phase.Phase as rust
 use Rattle.decimal_json.specs.declared.within.Within.{Within}
-use Rattle.decimal_json.specs.declared.machine.Mode.TheVariants.{Number, Str}
+use Rattle.decimal_json.specs.declared.machine.Begun.{Begun}
+use Rattle.decimal_json.specs.declared.machine.Mode as modes
+use Rattle.decimal_json.specs.declared.machine.Mode.TheVariants.{Want, First, FirstKey, NextKey, Colon, After, Literal, Number, Str}
 use Rattle.decimal_json.specs.declared.machine.Machine.{Machine}
 use Rattle.decimal_json.specs.Machine as machine
-use Rattle.decimal_json.specs.Machine.{may_close, State, st, Mode, Phase, number, string, plain, step, inside_step, go, run, run_on, run_then, phase_step, is_within_digits, is_digit, is_plain}
+use Rattle.decimal_json.proofs.Forward.{Waits, in_want, in_first, in_first_key, in_next_key, in_colon, in_after, waits}
+use Rattle.decimal_json.specs.Machine.{may_close, is_blank, State, st, Mode, Phase, number, string, plain, step, inside_step, go, run, run_on, run_then, phase_step, is_within_digits, is_digit, is_plain}
 
 -- one byte after another, where each lengthens the token
 lengthened : (test : ℕ → Bool) (mode : List ℕ → Mode) (levels : List Bool) → ((k b : ℕ) (token : List ℕ) → test b ≡ true → step k levels (mode token) b ≡ go levels (mode (token ++ b ∷ []))) → (bs : List ℕ) (k : ℕ) (token : List ℕ) → run k (st levels (mode token)) (take (prefix_len test bs) bs) ≡ Some (st levels (mode (token ++ take (prefix_len test bs) bs)), [])
@@ -80,3 +83,34 @@ string_taken old new r bytes is_key within n s p d i c t l m a =
     takes old new r bytes n
     (λ k token e. rw (s, closing (within_of within) p, e, d) (plain_taken k old.at (levels_of old.levels.items) is_key old.token.items bytes))
     i c t l m a
+
+-- blanks where they change nothing
+pub blanks_taken : {m : Mode} (k : ℕ) (levels : List Bool) (bs : List ℕ) → Waits m → run k (st levels m) (take (prefix_len is_blank bs) bs) ≡ Some (st levels m, [])
+blanks_taken {m} k levels bs w = lengthened is_blank (λ _. m) levels (λ i b token t. waits b i levels w t) bs k []
+
+-- outside tokens
+pub between : (mode : modes.Mode) (at : ℕ) (token : List ℕ) → ((b : Begun) → mode ≡ Literal b → ⊥) → ((p : rust.Phase) → mode ≡ Number p → ⊥) → ((i : Bool) (w : Within) → mode ≡ Str i w → ⊥) → Waits (mode_of mode at token)
+between Want at token l n s = in_want
+between First at token l n s = in_first
+between FirstKey at token l n s = in_first_key
+between NextKey at token l n s = in_next_key
+between Colon at token l n s = in_colon
+between After at token l n s = in_after
+between (Literal b) at token l n s = absurd (l b refl)
+between (Number p) at token l n s = absurd (n p refl)
+between (Str i w) at token l n s = absurd (s i w refl)
+
+-- a machine that is sound before a byte is sound before a later one
+near_later : (mode : modes.Mode) (k i at : ℕ) (token : List ℕ) → k ≤ i → IsNear k mode at token → IsNear i mode at token
+near_later Want k i at token h n = tt
+near_later First k i at token h n = tt
+near_later FirstKey k i at token h n = tt
+near_later NextKey k i at token h n = tt
+near_later Colon k i at token h n = tt
+near_later After k i at token h n = tt
+near_later (Literal b) k i at token h n = omega arith
+near_later (Number p) k i at token h n = omega arith
+near_later (Str j w) k i at token h n = omega arith
+
+pub still_sound : (mode : modes.Mode) (k i at : ℕ) (token : List ℕ) → k ≤ i → ModeHolds mode × HasEmptyToken mode token × IsNear k mode at token → ModeHolds mode × HasEmptyToken mode token × IsNear i mode at token
+still_sound mode k i at token h s = (s.0, s.1, near_later mode k i at token h s.2)
