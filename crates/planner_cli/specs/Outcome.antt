@@ -68,7 +68,7 @@ pub data IsDue (words : List (List ℕ)) (old new : Shown) : ℕ → List ℕ �
       → ReadsInstance files old inst → ReadsBytes files.plan old bytes → AnswersPlan inst bytes status text → IsDue words old new status text
   no_memory : (files : Evaluation) → Asks words files → IsDue words old new 11 memory_line
 
--- Saying what was due failed, after a first part of it was said, and nothing was said before or after that. `before` is what the desk showed
+-- Saying what was due failed, after a first part of it was said but not all, and nothing was said before or after that. `before` is what the desk showed
 -- as the saying began.
 pub record SaysPart (words : List (List ℕ)) (old new : Shown) : Type 0 where
   pub before : Shown
@@ -77,7 +77,7 @@ pub record SaysPart (words : List (List ℕ)) (old new : Shown) : Type 0 where
   pub due : IsDue words old before status text
   pub silent : before.said ≡ old.said
   pub part : ℕ
-  pub within : part ≤ length text
+  pub within : part < length text
   pub says : Says (take part text) old new
   pub fails : SayFails before new
   pub later : old.faults ≤ before.faults

@@ -81,11 +81,11 @@ pub record SaysAll (due : ℕ) (text : List ℕ) (old new : Shown) (status : ℕ
   pub says : Says text old new
   pub same : new.last ≡ old.last
 
--- saying the text failed after a first part of it
+-- saying the text failed after a first part of it, which is not all
 pub record SaysSome (text : List ℕ) (old new : Shown) (status : ℕ) : Type 0 where
   pub status_is : status ≡ 8
   pub part : ℕ
-  pub within : part ≤ length text
+  pub within : part < length text
   pub says : Says (take part text) old new
   pub fails : SayFails old new
 
