@@ -71,7 +71,7 @@ unfolding ending
 number_ending at [] bytes p fs h e = grind arith
 number_ending at (l ∷ levels) bytes p fs h e = cc
 
-number_stops : (k at b : ℕ) (levels : List Bool) (bytes : List ℕ) (p : Phase) (s : State) (es : List Event) → may_end p ≡ true → step k levels after b ≡ Some (s, es) → step k levels (number at bytes p) b ≡ Some (s, Event.number at bytes ∷ es)
+pub number_stops : (k at b : ℕ) (levels : List Bool) (bytes : List ℕ) (p : Phase) (s : State) (es : List Event) → may_end p ≡ true → step k levels after b ≡ Some (s, es) → step k levels (number at bytes p) b ≡ Some (s, Event.number at bytes ∷ es)
 unfolding step
 number_stops k at b levels bytes p s es h e = rw (stops p b h (stop_is b k levels (s, es) e), h, e) refl
 
@@ -111,7 +111,7 @@ exponent_digit : (b : ℕ) → IsDigit b → phase_step Phase.exponent b ≡ Som
 unfolding phase_step
 exponent_digit b h = rw (digit_is h) refl
 
-point_digit : (b : ℕ) → IsDigit b → phase_step Phase.point b ≡ Some Phase.fraction
+pub point_digit : (b : ℕ) → IsDigit b → phase_step Phase.point b ≡ Some Phase.fraction
 unfolding phase_step
 point_digit b h = rw (digit_is h) refl
 
@@ -124,7 +124,7 @@ unfolding phase_step
 whole_digit b h = rw (digit_is h) refl
 
 -- where a fraction, or an exponent, may come
-data AfterWhole : Phase → Type 0 where
+pub data AfterWhole : Phase → Type 0 where
   zero : AfterWhole Phase.lone_zero
   whole : AfterWhole Phase.whole
 
@@ -160,7 +160,7 @@ exponent_reads p bytes before (IsExp.signed {e} {s} {d} {ds} m g h hs) t r =
     (digits Phase.exponent (((bytes ++ e ∷ []) ++ s ∷ []) ++ d ∷ []) exponent_digit hs
     (λ all q. named (rw (q, t) (simp append_assoc)) (finish_number Phase.exponent refl (at_offset (omega arith) r))))))
 
-may_fraction : {p : Phase} → AfterWhole p → phase_step p 46 ≡ Some Phase.point
+pub may_fraction : {p : Phase} → AfterWhole p → phase_step p 46 ≡ Some Phase.point
 unfolding phase_step
 may_fraction AfterWhole.zero = refl
 may_fraction AfterWhole.whole = refl
@@ -177,11 +177,11 @@ fraction_reads p bytes before (IsFrac.digits {d} {ds} h hs) x t r =
     (digits Phase.fraction ((bytes ++ 46 ∷ []) ++ d ∷ []) fraction_digit hs
     (λ all q. exponent_reads Phase.fraction all BeforeExponent.fraction x (rw (t, q) (simp append_assoc)) (at_offset (omega arith) r))))
 
-minus_zero : phase_step Phase.minus 48 ≡ Some Phase.lone_zero
+pub minus_zero : phase_step Phase.minus 48 ≡ Some Phase.lone_zero
 unfolding phase_step
 minus_zero = refl
 
-minus_digit : (b : ℕ) → b ≢ 48 → IsDigit b → phase_step Phase.minus b ≡ Some Phase.whole
+pub minus_digit : (b : ℕ) → b ≢ 48 → IsDigit b → phase_step Phase.minus b ≡ Some Phase.whole
 unfolding phase_step
 minus_digit b n h = grind (arith, nat_tests, digit_is h)
 

@@ -7,13 +7,14 @@ use Rattle.decimal_json.specs.Tree.{Event}
 use Rattle.decimal_json.specs.Prefix.{IsSyntaxFault, IsDepthFault, IsShallow}
 use Rattle.decimal_json.specs.Machine.{State, step, run}
 use Rattle.decimal_json.specs.Machines.{state_of, IsSound}
+use Rattle.decimal_json.specs.NumberRuns.{TakesNumber}
 use Rattle.decimal_json.specs.Unreads.{unread_of}
 use Rattle.decimal_json.specs.Readings.{HasRead, HasTold, HasStopped, ReadsOn, IsTelling, told_events}
 use Rattle.decimal_json.specs.declared.machine.Machine.{Machine}
 use Rattle.decimal_json.specs.declared.unread.Unread.{Unread}
 use Rattle.decimal_json.specs.declared.reading.Reading.{Reading}
 use Rattle.decimal_json.specs.declared.reading.Reading.TheVariants.{Quiet, Used, One, Two, Refused, TooDeep}
-use Rattle.decimal_json.proofs.Reach.{read_next, read_run, read_refused, read_deep}
+use Rattle.decimal_json.proofs.Reach.{read_levels, read_next, read_run, read_refused, read_deep}
 
 -- the first byte of the rest
 record First (stream : List ℕ) (at b : ℕ) : Type 0 where
@@ -73,6 +74,22 @@ after_run m n u v count stream told h i r s a d =
       read = subst (λ z. HasRead stream z (state_of n) told) (sym a) (read_run stream u.at count (state_of m) (state_of n) told h.read fits quiet);
       rest = d ∙ ap (drop count) h.rest ∙ drop-drop count u.at stream ∙ ap (λ z. drop z stream) (sym a);
       sound = subst (λ z. IsSound z n) (sym a) (s u.at h.sound);
+    }
+
+-- behind a number and its comma
+pub number_told : (m n : Machine) (u v : Unread) (count : ℕ) (event : Event) (stream : List ℕ) (told : List Event) → HasTold m u stream told → TakesNumber u.at (state_of m) (unread_of u) count event (state_of n) → IsSound v.at n → v.at ≡ u.at + (count + 1) → unread_of v ≡ drop (count + 1) (unread_of u) → HasTold n v stream (told ++ event ∷ [])
+number_told m n u v count event stream told h t s a d =
+    let place = u.at + count in
+    let behind : count < length (drop u.at stream) = let w = t.within in omega (arith, ap length h.rest) in
+    let quiet : run u.at (state_of m) (take count (drop u.at stream)) ≡ Some (t.inside, []) = ap (λ z. run u.at (state_of m) (take count z)) (sym h.rest) ∙ t.runs in
+    let inside : HasRead stream place t.inside told = read_run stream u.at count (state_of m) t.inside told h.read (omega arith) quiet in
+    let byte : get_or (unread_of u) count 0 ≡ get_or stream place 0 = ap (λ z. get_or z count 0) h.rest ∙ get_or-drop u.at stream count 0 in
+    let levels : length (state_of n).levels ≤ 16 = let l = (read_levels stream u.at (state_of m) told h.read).open_levels in omega (arith, ap length t.same_levels) in
+    let next : v.at ≡ place + 1 = omega arith in
+    record {
+      read = subst (λ z. HasRead stream z (state_of n) (told ++ event ∷ [])) (sym next) (read_next stream place t.inside (state_of n) told (event ∷ []) inside (omega (arith, length-drop u.at stream)) (ap (step place t.inside.levels t.inside.mode) (sym byte) ∙ t.tells) levels);
+      rest = d ∙ ap (drop (count + 1)) h.rest ∙ drop-drop (count + 1) u.at stream ∙ ap (λ z. drop z stream) (sym a);
+      sound = s;
     }
 
 -- nothing is left

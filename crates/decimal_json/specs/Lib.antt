@@ -22,3 +22,4 @@ pub mod Readings
 pub mod PullViews
 pub mod Pulls
 pub mod Steps
+pub mod NumberRuns

@@ -7,7 +7,7 @@ ghost use Rattle.decimal_json.specs.Machines.{IsSound, answer_of};
 ghost use Rattle.decimal_json.specs.Unreads.{unread_of};
 ghost use Rattle.decimal_json.specs.Readings.{HasTold, ReadsOn, Shortens, IsTelling, told_events};
 
-use crate::machine::{Answer, Event, Machine};
+use crate::machine::{Answer, Event, Machine, TakenNumber};
 use crate::read::MOST_LEVELS;
 use crate::unread::Unread;
 use std::alloc::{AllocError, Global};
@@ -46,7 +46,7 @@ pub fn read_on(
     }
 }
 
-/// Reads the bytes that only lengthen a token, and the one behind them.
+/// Reads blanks or the bytes that only lengthen a token, and what is behind them.
 fn read_run(
     alloc: Global,
     machine: &mut Machine,
@@ -60,6 +60,26 @@ fn read_run(
 {
     let taken = machine.take_run(unread.as_slice())?;
     unread.pass(taken);
+    read_telling(alloc, machine, unread)
+}
+
+/// Reads a number with the comma behind it, or one byte.
+fn read_telling(
+    alloc: Global,
+    machine: &mut Machine,
+    unread: &mut Unread,
+) -> Result<Reading, AllocError>
+    requires { IsSound unread.old.at machine.old }
+    ensures reads { (stream : List ℕ) (told : List json.Event) → HasTold machine.old unread.old stream told →
+        ReadsOn result machine.new unread.new stream told }
+    ensures shortens { Shortens result unread.old unread.new }
+    ensures sound { result ≡ Ok Reading.Quiet → IsSound unread.new.at machine.new }
+{
+    let number = machine.take_number(alloc, unread.at(), unread.as_slice())?;
+    if let Some(TakenNumber { length, event }) = number {
+        unread.pass(length + 1);
+        return Ok(Reading::One(event));
+    }
     match unread.first() {
         None => Ok(Reading::Used),
         Some(byte) => read_byte(alloc, machine, unread, byte),
