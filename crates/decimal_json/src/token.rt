@@ -32,12 +32,14 @@ struct Exponent<'a> {
 pub(crate) fn parts_of(bytes: &[u8]) -> Option<Parts<'_>>
     ensures { option_map parts_view result ≡ token.parts_of bytes.now }
 {
-    match bytes {
-        [b'-', rest @ ..] => unsigned_parts(true, rest),
-        _ => unsigned_parts(false, bytes),
-    }
+    let (negative, unsigned) = match bytes {
+        [b'-', rest @ ..] => (true, rest),
+        _ => (false, bytes),
+    };
+    unsigned_parts(negative, unsigned)
 }
 
+#[inline]
 fn unsigned_parts(negative: bool, bytes: &[u8]) -> Option<Parts<'_>>
     ensures { option_map parts_view result ≡ token.unsigned_parts negative bytes.now }
 {
@@ -57,6 +59,7 @@ fn unsigned_parts(negative: bool, bytes: &[u8]) -> Option<Parts<'_>>
     })
 }
 
+#[inline]
 fn fraction_of(bytes: &[u8]) -> Option<Fraction<'_>>
     ensures { option_map fraction_view result ≡ token.fraction_of bytes.now }
 {
@@ -78,6 +81,7 @@ fn fraction_of(bytes: &[u8]) -> Option<Fraction<'_>>
     }
 }
 
+#[inline]
 fn exponent_of(bytes: &[u8]) -> Option<Exponent<'_>>
     ensures { option_map exponent_view result ≡ token.exponent_of bytes.now }
 {
