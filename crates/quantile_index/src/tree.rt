@@ -162,6 +162,7 @@ impl Node {
     pub fn set_sum(&mut self, sum: Sum)
         ensures sum { self.new.entry.sum ≡ sum }
         ensures scenario { self.new.entry.scenario ≡ self.old.entry.scenario }
+        ensures rest { self.new ≡ record self.old { entry = self.new.entry } }
     {
         self.entry.sum = sum;
     }
