@@ -102,7 +102,8 @@ is_in_from_count e (x ∷ xs) h =
     ]
 
 -- an entry of the one is an entry of the other
-is_in_bag : (e : Entry) (left all entries : List Entry) → Inserts e left all → count_by (is_same e) entries ≡ count_by (is_same e) all → IsIn e entries
+is_in_bag : (e : Entry) (left all entries : List Entry) → Inserts e left all → count_by (is_same e) entries ≡ count_by (is_same e) all →
+    IsIn e entries
 is_in_bag e left all entries i h =
     let c = count_inserts (is_same e) e left all i in
     let s = score_yes (is_same e) e (is_same_self e) in is_in_from_count e entries (omega arith)
