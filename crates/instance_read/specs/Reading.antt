@@ -1,8 +1,8 @@
 -- What a reading of an instance answers.
-use Rattle.std.specs.Prelude.{◌≡◌, ◌⊎◌, ℕ, ◌≤◌, List, [], length, Result, Ok, Err, IfSome}
-use Rattle.plan_desk.specs.Desk.{Shown, Fault, ShowsSame, after_take_in}
+use Rattle.std.specs.Prelude.{◌≡◌, ◌⊎◌, ℕ, ◌+◌, ◌^◌, ◌≤◌, List, [], drop, length, Result, Ok, Err, IfSome}
+use Rattle.plan_desk.specs.Desk.{Shown, Fault, ShowsSame, after_take_in, after_failed_take_in}
 use Rattle.plan_desk.specs.Faults.{Rose}
-use Rattle.plan_desk.specs.Contents.{WhereToldHolds, StopsReading}
+use Rattle.plan_desk.specs.Contents.{WhereToldHolds, HoldsBytes}
 use Rattle.instance_model.specs.declared.limits.Limits.{Limits}
 use Rattle.instance_shape.specs.FileFaults.{HasFileFault}
 use Rattle.instance_read.specs.Faults.{fault_of}
@@ -21,9 +21,12 @@ pub record ReadsFile (name : List ℕ) (limit : ℕ) (old : Shown) (P : List ℕ
   pub such : P bytes
   pub held : WhereToldHolds old name (λ held. held ≡ bytes)
 
--- what a reading without an instance leaves: it stopped on the way, or the file was read to its end
-abbrev pub LeavesFile : List ℕ → (old new : Shown) → Type 0
-LeavesFile name old new = StopsReading name old new ⊎ ShowsSame new (after_take_in name [] old)
+-- what a reading without an instance leaves: the file was not taken in, or so many first bytes of it were read, past the limit by no more
+-- than one piece of 2 ^ 16 bytes; or it was read to its end
+abbrev pub LeavesFile : List ℕ → (limit : ℕ) → (old new : Shown) → Type 0
+LeavesFile name limit old new = ShowsSame new (after_failed_take_in old)
+    ⊎ (((bytes : List ℕ) × ((count : ℕ) × ((count ≤ limit + 2 ^ 16) × (HoldsBytes old name bytes × ShowsSame new (after_take_in name (drop count bytes) old)))))
+    ⊎ ShowsSame new (after_take_in name [] old))
 
 -- `Failed` comes only where faults rose, and the last fault, where told, is then such a one; no other answer changes it
 abbrev pub CountsStreamFault : {T : Type 0} → (old new : Shown) (Own : Fault → Type 0) → Result T StreamFault → Type 0

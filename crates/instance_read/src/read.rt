@@ -83,9 +83,9 @@ pub fn read_instance_from<D: Desk>(
     ensures fault { (fault : InstanceFault) → result ≡ Err (StreamFault.Text fault) → ReadsFile name.now limits.now.instance_bytes (D.shows desk.old) (λ bytes. (told : FileFault) × (fault_of fault ≡ Some told) × HasFileFault limits.now bytes told) }
     ensures too_long { IsErrOf result StreamFault.TooLong → WhereToldHolds (D.shows desk.old) name.now (λ held. limits.now.instance_bytes < length held) }
 
-    // An instance was read to the end of its file. A failure changes no file and says nothing.
+    // An instance was read to the end of its file. A failure changes no file and says nothing, and no read was made once the limit was passed.
     ensures ok { OnOk result (ShowsSame (D.shows desk.new) (after_take_in name.now [] (D.shows desk.old))) }
-    ensures err { OnErr result (LeavesFile name.now (D.shows desk.old) (D.shows desk.new)) }
+    ensures err { OnErr result (LeavesFile name.now limits.now.instance_bytes (D.shows desk.old) (D.shows desk.new)) }
 
     // `Failed` comes only where faults rose.
     ensures later { (D.shows desk.old).faults ≤ (D.shows desk.new).faults }

@@ -1,6 +1,6 @@
 //! Reading an instance from a device.
 
-ghost use Rattle.std.specs.Prelude.{◌≡◌, ◌<◌, ◌≤◌, ℕ, List, [], length, Some, Err, IfOk, OnOk, OnErr, IfSome, IsErrOf, IsTrue};
+ghost use Rattle.std.specs.Prelude.{◌≡◌, ◌+◌, ◌^◌, ◌<◌, ◌≤◌, ℕ, List, [], length, Some, Err, IfOk, OnOk, OnErr, IfSome, IsErrOf, IsTrue};
 ghost use Rattle.decimal_json.specs.Pulls.{IsUnfinished};
 ghost use Rattle.plan_desk.specs.Desk.{ShowsSame, after_read, all_read};
 ghost use Rattle.plan_desk.specs.Faults.{CountsReadFault, IsFaultOf};
@@ -29,7 +29,7 @@ fn feed_rest<D: Desk>(desk: &mut D, reader: &mut Reader, limit: u64) -> Result<(
     ensures read { OnOk result (HasRest (D.shows desk.old).input.unread limit (λ bytes. (sizes : Sizes) → HasRead sizes reader.old [] → HasRead sizes reader.new bytes)) }
     ensures too_long { IsErrOf result ReadFault.TooLong → IfSome (D.shows desk.old).input.unread (λ rest. limit < length rest) }
     ensures end { OnOk result (ShowsSame (D.shows desk.new) (all_read (D.shows desk.old))) }
-    ensures some_read { (n : ℕ) × ShowsSame (D.shows desk.new) (after_read n (D.shows desk.old)) }
+    ensures some_read { (n : ℕ) × (n ≤ limit + 2 ^ 16) × ShowsSame (D.shows desk.new) (after_read n (D.shows desk.old)) }
     ensures later { (D.shows desk.old).faults ≤ (D.shows desk.new).faults }
     ensures faults { CountsReadFault (D.shows desk.old) (D.shows desk.new) (IsFaultOf DeskCall.Read (D.shows desk.old).input.name) result }
 {
@@ -67,7 +67,7 @@ pub fn read_rest<D: Desk>(
         → HasRest (D.shows desk.old).input.unread limit (λ bytes. (told : FileFault) × (fault_of fault ≡ Some told) × HasFileFault sizes bytes told) }
     ensures too_long { IsErrOf result StreamFault.TooLong → IfSome (D.shows desk.old).input.unread (λ rest. limit < length rest) }
     ensures end { OnOk result (ShowsSame (D.shows desk.new) (all_read (D.shows desk.old))) }
-    ensures some_read { (n : ℕ) × ShowsSame (D.shows desk.new) (after_read n (D.shows desk.old)) }
+    ensures some_read { (n : ℕ) × (n ≤ limit + 2 ^ 16) × ShowsSame (D.shows desk.new) (after_read n (D.shows desk.old)) }
     ensures later { (D.shows desk.old).faults ≤ (D.shows desk.new).faults }
     ensures faults { CountsStreamFault (D.shows desk.old) (D.shows desk.new) (IsFaultOf DeskCall.Read (D.shows desk.old).input.name) result }
 {

@@ -13,12 +13,12 @@ returns-then-n-eq0-clause-read g c =
 pub returns-then-limit-count-clause-some_read : goal.returns-then-limit-count-clause-some_read
 returns-then-limit-count-clause-some_read g c =
     let d = g.D.Desk in
-    (_, read_more (d.shows c.args.desk.now) (d.shows c.pieces.desk) (d.shows c.read.new.self) c.pieces.count c.in_ok-n.n c.pieces.invariant.shows c.in_ok-n.ensures.ok)
+    (_, search rules, read_more (d.shows c.args.desk.now) (d.shows c.pieces.desk) (d.shows c.read.new.self) c.pieces.count c.in_ok-n.n c.pieces.invariant.shows c.in_ok-n.ensures.ok)
 
 pub returns-in_err-feed-clause-some_read : goal.returns-in_err-feed-clause-some_read
 returns-in_err-feed-clause-some_read g c =
     let d = g.D.Desk in
-    (_, read_more (d.shows c.args.desk.now) (d.shows c.pieces.desk) (d.shows c.read.new.self) c.pieces.count c.in_ok-n.n c.pieces.invariant.shows c.in_ok-n.ensures.ok)
+    (_, search rules, read_more (d.shows c.args.desk.now) (d.shows c.pieces.desk) (d.shows c.read.new.self) c.pieces.count c.in_ok-n.n c.pieces.invariant.shows c.in_ok-n.ensures.ok)
 
 pub pieces-preserved : goal.pieces-preserved
 pieces-preserved g c =
