@@ -14,3 +14,6 @@ mod told;
 
 pub use fault::{InstanceFault, StreamFault};
 pub use read::{read_instance, read_instance_from};
+
+#[cfg(test)]
+mod tests;
