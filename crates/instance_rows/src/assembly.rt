@@ -38,8 +38,17 @@ pub fn assemble(alloc: Global, rows: FileRows, slack: Fixed) -> Result<Instance,
     ensures told { (limits : limit.Limits) (root : json.Tree) → AreRowsOf limits root rows → Tells (cross_fault root) result }
     ensures tables { (limits : limit.Limits) (root : json.Tree) → AreRowsOf limits root rows → IfOk result (λ inst. inst ≡ tables slack root) }
 {
+    Ok(Instance::from_parts(alloc, parts(alloc, rows, slack)?)?)
+}
+
+/// The tables of sound rows, or the first fault across the file.
+pub fn parts(alloc: Global, rows: FileRows, slack: Fixed) -> Result<Parts, RowsFault>
+    requires { AreSound (rows_view rows) }
+    ensures told { Tells (rows_fault (rows_view rows)) result }
+    ensures tables { IfOk result (λ parts. tables_of parts ≡ rows_tables slack (rows_view rows)) }
+{
     let checked = check(alloc, &rows)?;
-    Ok(Instance::from_parts(alloc, fill(alloc, rows, checked, slack)?)?)
+    Ok(fill(alloc, rows, checked, slack)?)
 }
 
 /// What is found of rows without a fault across the file.
