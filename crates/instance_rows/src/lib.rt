@@ -14,6 +14,8 @@ mod order;
 mod risk_lists;
 mod rows;
 mod seasons;
+#[cfg(test)]
+mod tests;
 mod works;
 
 pub use assembly::assemble;
