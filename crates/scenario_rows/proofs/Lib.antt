@@ -1,0 +1,5 @@
+pub mod Bits
+pub mod PartLemmas
+pub mod ListLemmas
+pub mod RowLemmas
+pub mod MakingLemmas

@@ -1,0 +1,16 @@
+use Rattle.std.proofs.Common.{◌≡◌, ◌∙◌, ◌+◌, sym, ap, arith, pos, ℕ, ℤ, List, Option, Some, length, map}
+use Rattle.fixed_num.specs.Sums.{list_of}
+use Rattle.scenario_rows.proofs.ListLemmas.{written_back}
+use Rattle.scenario_rows.proofs.MakingLemmas.{sums_before-none, sums_before-all, length-sums_before}
+use Rattle.scenario_rows.proofs.runs.sums_of.Goals as goal
+
+pub loop-i-init : goal.loop-i-init
+loop-i-init g c = c.in_ok-sums.ensures ∙ ap (λ (n : ℕ). list_of n (λ k. pos 0)) c.scenarios.ensures.value ∙ sums_before-none c.args.inst.now (map Some c.args.starts.now) c.args.t
+
+pub loop-i-preserved : goal.loop-i-preserved
+loop-i-preserved g c = ?
+
+pub returns : goal.returns
+returns g c =
+    let e : c.loop-i.i ≡ length c.args.inst.now.names = omega arith in
+    c.loop-i.invariant ∙ sums_before-all c.args.inst.now (map Some c.args.starts.now) c.args.t c.loop-i.i e

@@ -1,0 +1,5 @@
+pub mod RiskStates
+pub mod Bounds
+pub mod Parts
+pub mod Changes
+pub mod Making

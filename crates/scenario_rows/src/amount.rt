@@ -1,0 +1,62 @@
+//! Whole numbers that the rows keep.
+ghost use Rattle.std.specs.Prelude.{◌≡◌, ◌^◌, ◌<◌, pos, ◌+ℤ◌, ◌-ℤ◌, unsigned_abs};
+
+use std::marker::Model;
+
+/// A whole number below 10^37 in absolute value: contracts see it as that number.
+#[derive(Clone, Copy)]
+pub(crate) struct Amount {
+    number: i128,
+}
+
+impl Model for Amount {
+    ghost use Rattle.std.specs.Prelude.{ℤ, ◌<◌, ◌^◌, unsigned_abs};
+
+    ghost Value = { ℤ };
+
+    ghost view = { λ a. a.number };
+
+    ghost invariant = { λ a. unsigned_abs a.number < 10 ^ 37 };
+
+    ghost inverse = { λ z. record { number = z } };
+}
+
+impl Amount {
+    pub(crate) fn zero() -> Amount
+        ensures { result ≡ pos 0 }
+    {
+        Amount { number: 0 }
+    }
+
+    pub(crate) fn of(number: i128) -> Amount
+        requires { unsigned_abs number < 10 ^ 37 }
+        ensures { result ≡ number }
+    {
+        Amount { number }
+    }
+
+    pub(crate) fn number(self) -> i128
+        ensures value { result ≡ self }
+        ensures small { unsigned_abs result < 10 ^ 37 }
+    {
+        self.number
+    }
+
+    pub(crate) fn plus(self, other: Amount) -> Amount
+        requires { unsigned_abs (self +ℤ other) < 10 ^ 37 }
+        ensures { result ≡ self +ℤ other }
+    {
+        Amount {
+            number: self.number + other.number,
+        }
+    }
+
+    pub(crate) fn minus(self, other: Amount) -> Amount
+        requires { unsigned_abs (self -ℤ other) < 10 ^ 37 }
+        ensures { result ≡ self -ℤ other }
+    {
+        Amount {
+            number: self.number - other.number,
+        }
+    }
+}

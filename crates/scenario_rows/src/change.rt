@@ -1,0 +1,49 @@
+//! A change of sums by risks.
+ghost use Rattle.std.specs.Prelude.{◌≡◌, ◌^◌, ◌<◌, unsigned_abs};
+ghost use Rattle.instance_model.specs.Plans.{IsSmallSum};
+ghost use Rattle.scenario_rows.specs.Changes.{changed, start_after};
+
+use crate::amount::Amount;
+use fixed_num::{Fixed, Sum};
+
+/// Whether the risks of a run are added or taken away.
+#[derive(Clone, Copy)]
+pub(crate) enum Change {
+    Add,
+    Take,
+}
+
+impl Change {
+    /// A scenario sum after the change by a risk.
+    pub(crate) fn of_sum(self, sum: Sum, risk: Fixed) -> Sum
+        requires { IsSmallSum (changed self sum risk) }
+        ensures { result ≡ changed self sum risk }
+    {
+        match self {
+            Change::Add => sum.plus(risk),
+            Change::Take => sum.minus(risk),
+        }
+    }
+
+    /// A total of scenario sums after the change by a risk.
+    pub(crate) fn of_total(self, total: Amount, risk: Fixed) -> Amount
+        requires { unsigned_abs (changed self total risk) < 10 ^ 37 }
+        ensures { result ≡ changed self total risk }
+    {
+        let risk = Amount::of(risk.count());
+        match self {
+            Change::Add => total.plus(risk),
+            Change::Take => total.minus(risk),
+        }
+    }
+
+    /// What stands on board of an intervention with this start after the change.
+    pub(crate) fn start_after(self, s: u32) -> Option<u32>
+        ensures { result ≡ start_after self s }
+    {
+        match self {
+            Change::Add => Some(s),
+            Change::Take => None,
+        }
+    }
+}

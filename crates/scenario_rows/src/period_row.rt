@@ -1,0 +1,114 @@
+ghost use Rattle.std.specs.Prelude.{◌≡◌, ◌+◌, ◌*◌, ◌≤◌, length, map, Some, IfOk, IfSome};
+ghost use Rattle.instance_model.specs.Plans.{AreAllowedStarts};
+ghost use Rattle.scenario_rows.specs.RiskStates.{period_of};
+ghost use Rattle.scenario_rows.specs.Bounds.{period_bound};
+ghost use Rattle.scenario_rows.specs.Changes.{CanChange, changed_sums, changed_period};
+ghost use Rattle.scenario_rows.specs.Parts.{part_of, IsSoundPeriod};
+
+use crate::amount::Amount;
+use crate::change::Change;
+use crate::runs::sums_of;
+use crate::sum_row::SumRow;
+use fixed_num::Steps;
+use instance_model::Instance;
+use quantile_index::Row;
+use std::alloc::{AllocError, Global};
+use std::marker::Model;
+use std::sync::ledger::Ledger;
+
+/// The scenario sums of a period, and what they add to the score.
+#[derive(Drop)]
+pub(crate) struct PeriodRow<R: Row> {
+    alpha: u32,
+    rank: u32,
+    row: SumRow<R>,
+    part: Amount,
+}
+
+impl<R: Row> Model for PeriodRow<R> {
+    ghost use Rattle.scenario_rows.specs.RiskStates.{PeriodState};
+    ghost use Rattle.scenario_rows.specs.Parts.{IsWeighed};
+
+    ghost Value = { PeriodState };
+
+    ghost view = { λ p. record { alpha = p.alpha; rank = p.rank; sums = p.row } };
+
+    ghost invariant = { λ p. IsWeighed (record { alpha = p.alpha; rank = p.rank; sums = p.row }) p.part };
+}
+
+/// Changes the sums of period `t` by the risks of intervention `i` at start `s`.
+fn change_sums<R: Row, L: Ledger>(
+    row: &mut SumRow<R>,
+    inst: &Instance,
+    i: u32,
+    s: u32,
+    t: u32,
+    change: Change,
+    steps: &mut Steps<L>,
+)
+    requires { CanChange inst.now change i s t row.old }
+    ensures sums { row.new ≡ changed_sums inst.now change i s t row.old }
+    ensures cost { IfSome R.most (λ most. steps.new ≤ steps.old + length row.old * (most (length row.old) + 1)) }
+    ensures forward { steps.old ≤ steps.new }
+{
+    for k in 0..inst.scenarios(t) {
+        let risk = inst.risk_cell(i, s, t, k + 1, steps);
+        row.change(k + 1, risk, change, steps);
+    }
+}
+
+impl<R: Row> PeriodRow<R> {
+    /// Period `t` where each intervention has its start.
+    pub(crate) fn make<L: Ledger>(
+        alloc: Global,
+        inst: &Instance,
+        starts: &[u32],
+        t: u32,
+        steps: &mut Steps<L>,
+    ) -> Result<PeriodRow<R>, AllocError>
+        requires starts { AreAllowedStarts inst.now starts.now }
+        requires from { 1 ≤ t }
+        requires to { t ≤ inst.now.periods }
+        ensures { IfOk result (λ period. period ≡ period_of inst.now (map Some starts.now) t) }
+    {
+        inst.fits();
+        let alpha = inst.alpha();
+        let rank = inst.rank(t);
+        let sums = sums_of(alloc, inst, starts, t, steps)?;
+        let row = SumRow::make(alloc, sums.as_slice(), steps)?;
+        let part = row.part(alpha, rank, steps);
+        Ok(PeriodRow {
+            alpha,
+            rank,
+            row,
+            part,
+        })
+    }
+
+    /// What the period adds to the score.
+    pub(crate) fn part(&self) -> Amount
+        ensures value { result ≡ part_of self.now }
+        ensures sound { IsSoundPeriod self.now }
+    {
+        self.part
+    }
+
+    /// Changes the sums of period `t`, which this is, by the risks of intervention `i` at start `s`.
+    pub(crate) fn change<L: Ledger>(
+        &mut self,
+        inst: &Instance,
+        i: u32,
+        s: u32,
+        t: u32,
+        change: Change,
+        steps: &mut Steps<L>,
+    )
+        requires { CanChange inst.now change i s t self.old.sums }
+        ensures value { self.new ≡ changed_period inst.now change i s t self.old }
+        ensures cost { IfSome R.most (λ most. steps.new ≤ steps.old + period_bound most (length self.old.sums)) }
+        ensures forward { steps.old ≤ steps.new }
+    {
+        change_sums(&mut self.row, inst, i, s, t, change, steps);
+        self.part = self.row.part(self.alpha, self.rank, steps);
+    }
+}
