@@ -3,3 +3,4 @@ pub mod PartLemmas
 pub mod ListLemmas
 pub mod RowLemmas
 pub mod MakingLemmas
+pub mod BoardLemmas

@@ -25,6 +25,10 @@ RunsAreAllowed-starts inst starts a i h =
 
 -- ---- what one intervention adds
 
+pub risk_at-none : (inst : Tables) (t k i : ℕ) (o : Option ℕ) → o ≡ None → risk_at inst t k i o ≡ pos 0
+unfolding risk_at
+risk_at-none inst t k i o e = rw e refl
+
 pub risk_at-idle : (inst : Tables) (t k i s : ℕ) (o : Option ℕ) → o ≡ Some s → in_run inst i s t ≡ false → risk_at inst t k i o ≡ pos 0
 unfolding risk_at
 risk_at-idle inst t k i s o e h = rw (e, h) refl

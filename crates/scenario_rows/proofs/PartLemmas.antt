@@ -54,8 +54,13 @@ pub part_made : (a rank n : ℕ) (xs : List ℤ) (q s p : ℤ) → n ≡ length 
 part_made a rank n xs q s p en eq es hq hs h = h ∙ rw (back_from_abs q hq, back_from_abs s hs, en, eq, es) (sym (part_in_is a rank xs))
 
 -- the code's quotient is the part, and fits
-pub part_quotient : (a n : ℕ) (q s e w r : ℤ) → a ≤ 1_000_000 → 1 ≤ n → n ≤ 1024 → unsigned_abs e ≤ 2 * 1024 * 1024 * 10 ^ 20 → unsigned_abs w ≤ 3 * 1024 * 1024 * 10 ^ 26 → e ≡ int_max (pos 0) (pos n *ℤ q -ℤ s) → w ≡ (pos a *ℤ s) +ℤ (pos (1_000_000 - a) *ℤ by_bits e) → r ≡ floor_quotient (by_bits w) (to_z w128 n) → by_bits r ≡ floor_of ((pos a *ℤ s) +ℤ (pos (1_000_000 - a) *ℤ int_max (pos 0) (pos n *ℤ q -ℤ s))) n
-part_quotient a n q s e w r h some few se sw ee ew er =
+pub part_quotient : (a n : ℕ) (q s e w r : ℤ) → a ≤ 1_000_000 → 1 ≤ n → n ≤ 1024 → unsigned_abs q ≤ 1024 * 10 ^ 20 → unsigned_abs s ≤ 1024 * 1024 * 10 ^ 20 → unsigned_abs e ≤ 2 * 1024 * 1024 * 10 ^ 20 → unsigned_abs w ≤ 3 * 1024 * 1024 * 10 ^ 26 → e ≡ int_max (pos 0) (pos n *ℤ by_bits q -ℤ by_bits s) → w ≡ (pos a *ℤ by_bits s) +ℤ (pos (1_000_000 - a) *ℤ by_bits e) → r ≡ floor_quotient (by_bits w) (to_z w128 n) → by_bits r ≡ floor_of ((pos a *ℤ s) +ℤ (pos (1_000_000 - a) *ℤ int_max (pos 0) (pos n *ℤ q -ℤ s))) n
+part_quotient a n q s e w r h some few sq ss se sw ee ew er =
+    let bq = back_from_abs q (omega (arith, sq)) in
+    let bs = back_from_abs s (omega (arith, ss)) in
+    let be = back_from_abs e (omega (arith, se)) in
     let f = floor_is r w n (omega arith) (omega (arith, sw)) er in
     let size : unsigned_abs r < 2 ^ 127 = rw f (omega (arith, sw, floor_size w n some)) in
-    back_from_abs r size ∙ f ∙ ap (λ (x : ℤ). floor_of x n) (ew ∙ ap (λ (x : ℤ). (pos a *ℤ s) +ℤ (pos (1_000_000 - a) *ℤ x)) (back_from_abs e (omega (arith, se)) ∙ ee))
+    let ee' : e ≡ int_max (pos 0) (pos n *ℤ q -ℤ s) = ee ∙ ap (λ (x : ℤ). int_max (pos 0) (pos n *ℤ x -ℤ by_bits s)) bq ∙ ap (λ (x : ℤ). int_max (pos 0) (pos n *ℤ q -ℤ x)) bs in
+    let ew' : w ≡ (pos a *ℤ s) +ℤ (pos (1_000_000 - a) *ℤ int_max (pos 0) (pos n *ℤ q -ℤ s)) = ew ∙ ap (λ (x : ℤ). (pos a *ℤ x) +ℤ (pos (1_000_000 - a) *ℤ by_bits e)) bs ∙ ap (λ (x : ℤ). (pos a *ℤ s) +ℤ (pos (1_000_000 - a) *ℤ x)) (be ∙ ee') in
+    back_from_abs r size ∙ f ∙ ap (λ (x : ℤ). floor_of x n) ew'
