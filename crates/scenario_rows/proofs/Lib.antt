@@ -4,3 +4,4 @@ pub mod ListLemmas
 pub mod RowLemmas
 pub mod MakingLemmas
 pub mod BoardLemmas
+pub mod ScoreLemmas

@@ -26,7 +26,8 @@ loop-k-preserved g c =
     let place : k + 1 - 1 ≡ k = omega arith in
     let v = changed c.args.change (get_or old k (pos 0)) (risk_of c.args.inst.now c.args.i c.args.s c.args.t (k + 1)) in
     let w = written c.loop-k.row k c.args.change (get_or old k (pos 0)) (risk_of c.args.inst.now c.args.i c.args.s c.args.t (k + 1)) _ c.risk_cell-risk.result (c.loop-k.invariant.rest k (omega arith)) c.risk_cell-risk.ensures.value refl in
-    let e : c.change.new.self ≡ set c.loop-k.row k v = c.change.ensures.sums ∙ ap (λ (j : ℕ). set c.loop-k.row j _) place ∙ ap (set c.loop-k.row k) w in
+    let u = changed c.args.change (get_or c.loop-k.row (k + 1 - 1) (pos 0)) c.risk_cell-risk.result in
+    let e : c.change.new.self ≡ set c.loop-k.row k v = c.change.ensures.sums ∙ ap (λ (j : ℕ). set c.loop-k.row j u) place ∙ ap (set c.loop-k.row k) w in
     let within : k < length c.loop-k.row = omega (arith, c.loop-k.invariant.each) in
     record {
       each = ap length e ∙ length-set c.loop-k.row k v ∙ c.loop-k.invariant.each;
