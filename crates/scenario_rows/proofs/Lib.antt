@@ -5,3 +5,4 @@ pub mod RowLemmas
 pub mod MakingLemmas
 pub mod BoardLemmas
 pub mod ScoreLemmas
+pub mod OverLemmas
