@@ -3,3 +3,4 @@ pub mod Bounds
 pub mod Parts
 pub mod Changes
 pub mod Making
+pub mod WorkedTables

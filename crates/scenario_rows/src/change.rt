@@ -15,7 +15,7 @@ pub(crate) enum Change {
 
 impl Change {
     /// A scenario sum after the change by a risk.
-    pub(crate) fn of_sum(self, sum: Sum, risk: Fixed) -> Sum
+    pub(crate) fn sum_after(self, sum: Sum, risk: Fixed) -> Sum
         requires { IsSmallSum (changed self sum risk) }
         ensures { result ≡ changed self sum risk }
     {
@@ -26,7 +26,7 @@ impl Change {
     }
 
     /// A total of scenario sums after the change by a risk.
-    pub(crate) fn of_total(self, total: Amount, risk: Fixed) -> Amount
+    pub(crate) fn total_after(self, total: Amount, risk: Fixed) -> Amount
         requires { unsigned_abs (changed self total risk) < 10 ^ 37 }
         ensures { result ≡ changed self total risk }
     {

@@ -72,9 +72,9 @@ impl<R: Row> SumRow<R> {
         ensures cost { IfSome R.most (λ most. steps.new ≤ steps.old + most (length self.old)) }
         ensures forward { steps.old ≤ steps.new }
     {
-        let sum = change.of_sum(self.row.get(k), risk);
+        let sum = change.sum_after(self.row.get(k), risk);
         self.row.replace(k, sum, steps);
-        self.total = change.of_total(self.total, risk);
+        self.total = change.total_after(self.total, risk);
     }
 
     /// What the sums add to the score. One step reads the quantile.
