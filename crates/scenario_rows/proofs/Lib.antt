@@ -6,3 +6,4 @@ pub mod MakingLemmas
 pub mod BoardLemmas
 pub mod ScoreLemmas
 pub mod OverLemmas
+pub mod WorkedLemmas
