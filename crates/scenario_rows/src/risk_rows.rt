@@ -47,7 +47,7 @@ fn board_of(alloc: Global, starts: &[u32]) -> Result<Vec<Option<u32>>, AllocErro
 }
 
 /// The rows with all interventions on board. Steps are counted on a counter of its own.
-fn made<R: Row, L: Ledger>(
+fn rows_of<R: Row, L: Ledger>(
     alloc: Global,
     inst: &Instance,
     starts: &[u32],
@@ -83,7 +83,7 @@ impl<R: Row> RiskRows<R> {
         ensures over { IfOk result (IsOver inst.now) }
         ensures board { IfOk result (λ rows. rows.board ≡ map Some starts.now) }
     {
-        made::<R, Brand>(alloc, inst, starts, Blank::new(1))
+        rows_of::<R, Brand>(alloc, inst, starts, Blank::new(1))
     }
 
     /// The score of the runs on board.

@@ -1,4 +1,4 @@
 use Rattle.scenario_rows.proofs.risk_rows.RiskRows.make.Given as goal
 
-abbrev pub ghosts-made : goal.ghosts-made
-ghosts-made g a = record { name = a.blank.name; parts = a.blank.parts }
+abbrev pub ghosts-rows_of : goal.ghosts-rows_of
+ghosts-rows_of g a = record { name = a.blank.name; parts = a.blank.parts }

@@ -5,7 +5,7 @@ use Rattle.scenario_rows.specs.RiskStates.{PeriodState, period_of}
 use Rattle.scenario_rows.specs.Parts.{IsScored}
 use Rattle.scenario_rows.proofs.ScoreLemmas.{part_of_small, scored_small, IsScored-none, IsScored-push, exchange_small}
 use Rattle.scenario_rows.proofs.OverLemmas.{IsOver-starts, IsOver-same}
-use Rattle.scenario_rows.proofs.risk_rows.made.Goals as goal
+use Rattle.scenario_rows.proofs.risk_rows.rows_of.Goals as goal
 
 pub loop-u-init : goal.loop-u-init
 loop-u-init g c = record { made = c.in_ok-periods.ensures.items; scored = rw (c.in_ok-periods.ensures.items, c.zero-score.ensures) IsScored-none }
