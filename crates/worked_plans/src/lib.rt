@@ -5,8 +5,6 @@
 
 mod kept;
 #[cfg(test)]
-mod readers;
-#[cfg(test)]
 mod sketch;
 #[cfg(test)]
 mod tests;
