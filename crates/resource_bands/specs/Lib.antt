@@ -1,0 +1,3 @@
+pub mod BoardLoads
+pub mod Gaps
+pub mod Sample
