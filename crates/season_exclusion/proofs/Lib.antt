@@ -1,0 +1,4 @@
+pub mod CountLemmas
+pub mod BrokenLemmas
+pub mod NamedLemmas
+pub mod OverLemmas
