@@ -2,3 +2,4 @@ pub mod CountLemmas
 pub mod BrokenLemmas
 pub mod NamedLemmas
 pub mod OverLemmas
+pub mod SampleLemmas

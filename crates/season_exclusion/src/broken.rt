@@ -42,8 +42,8 @@ pub(crate) fn count_set(flags: &[bool]) -> u64
     ensures { result ≡ count_set flags.now }
 {
     let mut count = 0;
-    for e in 0..flags.len() {
-        count += u64::from(flags[e]);
+    for flag in flags {
+        count += u64::from(*flag);
     }
     count
 }
@@ -80,9 +80,8 @@ pub(crate) fn retest(
 {
     inst.fits();
     let mut count = count;
-    for k in 0..named.len() {
-        let e = named[k];
-        count = set_flag(flags, e as usize, is_broken(inst, starts, e), count);
+    for e in named {
+        count = set_flag(flags, *e as usize, is_broken(inst, starts, *e), count);
     }
     count
 }

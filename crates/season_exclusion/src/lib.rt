@@ -7,5 +7,7 @@
 mod broken;
 mod clashes;
 mod named;
+#[cfg(test)]
+mod tests;
 
 pub use clashes::Clashes;
