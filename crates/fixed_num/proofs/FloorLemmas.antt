@@ -1,5 +1,6 @@
 -- Quotients rounded down and up.
-use Rattle.std.proofs.Common.{◌*ℤ◌, ◌+ℤ◌, ◌≡◌, ℕ, zero, suc, ◌+◌, ◌*◌, ◌<◌, ◌≤◌, arith, ℤ, pos, negsuc, neg_ℤ, ◌<ℤ◌, ◌≤ℤ◌, ap, sym, subst}
+use Rattle.std.proofs.Common.{◌*ℤ◌, ◌+ℤ◌, ◌≡◌, ℕ, zero, suc, ◌+◌, ◌*◌, ◌<◌, ◌≤◌, arith, ℤ, pos, negsuc, neg_ℤ, ◌<ℤ◌, ◌≤ℤ◌, ap, sym, subst, unsigned_abs}
+use Rattle.std.proofs.Math.Nat.{div-le_self}
 use borrow.Author.Differences.{up, down, same_in, at_most_in, sum_is_lem, neg_is, product_is, lt_out, le_out}
 use Rattle.fixed_num.specs.Floors.{floor_of, ceil_of, floor_quotient, ceil_quotient, IsFloor, IsCeil}
 use Rattle.fixed_num.specs.Sums.{sum_below}
@@ -103,3 +104,8 @@ IsFloor_from a (negsuc k) q h e = absurd (omega (arith, lt_out (pos 0) (negsuc k
 pub IsCeil_from : (a b q : ℤ) → pos 0 <ℤ b → q ≡ ceil_quotient a b → IsCeil a b q
 IsCeil_from a (pos k) q h e = subst (IsCeil a (pos k)) (sym e) (IsCeil-ceil_of a k (omega (arith, lt_out (pos 0) (pos k) h)))
 IsCeil_from a (negsuc k) q h e = absurd (omega (arith, lt_out (pos 0) (negsuc k) h))
+
+-- a quotient by a natural number above 0 is no larger in absolute value
+pub floor_size : (a : ℤ) (k : ℕ) → 1 ≤ k → unsigned_abs (floor_of a k) ≤ unsigned_abs a
+floor_size (pos a) k h = div-le_self a k
+floor_size (negsuc a) k h = omega (arith, div-le_self a k)

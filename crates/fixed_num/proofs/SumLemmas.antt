@@ -1,9 +1,10 @@
 -- Sums of whole numbers.
-use Rattle.std.proofs.Common.{◌*ℤ◌, ◌+ℤ◌, ◌≡◌, ℕ, zero, suc, ◌+◌, ◌*◌, ◌<◌, ◌≤◌, refl, sym, ◌∙◌, arith, ℤ, pos, ◌≤ℤ◌, ap, unsigned_abs, List, [], ◌∷◌, ◌++◌, add-one, length, take, get_or, to_z, of_z, to_z-of_z, ◌^◌}
+use Rattle.std.proofs.Common.{◌*ℤ◌, ◌+ℤ◌, ◌-ℤ◌, ◌≡◌, ◌≢◌, ℕ, zero, suc, ◌+◌, ◌*◌, ◌<◌, ◌≤◌, refl, sym, ◌∙◌, arith, ℤ, pos, ◌≤ℤ◌, ap, unsigned_abs, List, [], ◌∷◌, ◌++◌, add-one, length, take, get_or, set, Bool, true, false, eqb, to_z, of_z, to_z-of_z, ◌^◌}
 use Rattle.std.specs.Int.{w128}
-use Rattle.std.proofs.lemmas.List.{take_more}
+use Rattle.std.proofs.lemmas.Bool.Decides.{nat_tests}
+use Rattle.std.proofs.lemmas.List.{take_more, ext_get_or, get_or-set_same, get_or-set_other}
 use Rattle.std.proofs.lemmas.Int.{fits_signed_from_abs}
-use Rattle.std.proofs.lemmas.List.FromFn.{map-range_with_len_more}
+use Rattle.std.proofs.lemmas.List.FromFn.{map-range_with_len_more, length-map-range_with_len, get_or-map-range_with_len}
 use borrow.Author.Differences.{up, down, same_in, sum_is_lem, product_is, abs_is}
 use Rattle.fixed_num.specs.Sums.{sum_below, total, list_of}
 use Rattle.fixed_num.proofs.SignedLemmas.{signed_arith, unsigned_abs-parts}
@@ -117,3 +118,52 @@ total_more xs i d h = ap total (take_more xs i d h) ∙ total_push (take i xs) (
 
 pub list_of_more : (n : ℕ) (f : ℕ → ℤ) → list_of (n + 1) f ≡ list_of n f ++ f n ∷ []
 list_of_more n f = map-range_with_len_more f 0 n n (omega arith)
+
+-- what a sum over the items of a list is after item j was set to x
+pub sum_below-set : {A : Type 0} (n j : ℕ) (xs : List A) (x d : A) (f : ℕ → A → ℤ) → j < n → n ≤ length xs → sum_below n (λ k. f k (get_or (set xs j x) k d)) ≡ sum_below n (λ k. f k (get_or xs k d)) +ℤ (f j x -ℤ f j (get_or xs j d))
+sum_below-set {A} zero j xs x d f l few = absurd (omega (arith, l))
+sum_below-set {A} (suc n) j xs x d f l few = at (eqb n j) refl (λ m. sum_below-set n j xs x d f m (omega (arith, few)))
+  where
+    old : ℕ → ℤ
+    old k = f k (get_or xs k d)
+
+    new : ℕ → ℤ
+    new k = f k (get_or (set xs j x) k d)
+
+    at : (b : Bool) → eqb n j ≡ b → (j < n → sum_below n new ≡ sum_below n old +ℤ (f j x -ℤ old j)) → sum_below (suc n) new ≡ sum_below (suc n) old +ℤ (f j x -ℤ old j)
+    at true e _ =
+        let here : n ≡ j = grind (arith, nat_tests) in
+        let before : sum_below n new ≡ sum_below n old = sum_below_same n new old (λ k m. let other : k ≢ j = omega arith in ap (f k) (get_or-set_other xs j k x d other)) in
+        let last : new n ≡ f j x = rw here (ap (f j) (get_or-set_same xs j x d (omega (arith, few)))) in
+        let was : old n ≡ old j = ap old here in
+        rw (sum_below-suc n new, sum_below-suc n old, before, last, was) (omega (arith, signed_arith))
+    at false e rest =
+        let other : n ≢ j = grind (arith, nat_tests) in
+        let ih = rest (omega (arith, l)) in
+        let last : new n ≡ old n = ap (f n) (get_or-set_other xs j n x d other) in
+        rw (sum_below-suc n new, sum_below-suc n old, ih, last) (omega (arith, signed_arith))
+
+-- one number of a list is another
+pub total-set : (xs : List ℤ) (i : ℕ) (v d : ℤ) → i < length xs → total (set xs i v) ≡ (total xs -ℤ get_or xs i d) +ℤ v
+unfolding total
+total-set [] i v d h = absurd (omega (arith, h))
+total-set (x ∷ xs) zero v d h = omega (arith, signed_arith)
+total-set (x ∷ xs) (suc i) v d h = let e = total-set xs i v d (omega (arith, h)) in omega (arith, signed_arith, e)
+
+-- ---- lists by number
+
+-- a list is f 0, .., f (n - 1) where its members are
+pub list_of-from : (n : ℕ) (f : ℕ → ℤ) (xs : List ℤ) → length xs ≡ n → ((k : ℕ) → k < n → get_or xs k (pos 0) ≡ f k) → xs ≡ list_of n f
+list_of-from n f xs each h =
+    ext_get_or (pos 0) xs (list_of n f) (each ∙ sym (length-map-range_with_len f 0 n)) (λ k l.
+    let low : k < n = omega (arith, each, l) in
+    h k low ∙ sym (get_or-map-range_with_len f 0 n k k (pos 0) low (omega arith)))
+
+pub get_or-list_of : (n : ℕ) (f : ℕ → ℤ) (k : ℕ) → k < n → get_or (list_of n f) k (pos 0) ≡ f k
+get_or-list_of n f k l = get_or-map-range_with_len f 0 n k k (pos 0) l (omega arith)
+
+pub length-list_of : (n : ℕ) (f : ℕ → ℤ) → length (list_of n f) ≡ n
+length-list_of n f = length-map-range_with_len f 0 n
+
+pub list_of_same : (n : ℕ) (f g : ℕ → ℤ) → ((k : ℕ) → k < n → f k ≡ g k) → list_of n f ≡ list_of n g
+list_of_same n f g h = list_of-from n g (list_of n f) (length-list_of n f) (λ k l. get_or-list_of n f k l ∙ h k l)
