@@ -7,6 +7,7 @@ pub mod IndexLemmas
 pub mod FirstLemmas
 pub mod RuleLemmas
 pub mod PlanLemmas
+pub mod BoardLemmas
 pub mod KeyLemmas
 pub mod DeviationLemmas
 pub mod RankLemmas

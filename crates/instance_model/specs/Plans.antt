@@ -59,6 +59,10 @@ scenario_sum inst plan t k = sum_below (length inst.names) (λ i. risk_at inst t
 unfoldable pub scenario_sums : Tables → List (Option ℕ) → ℕ → List ℤ
 scenario_sums inst plan t = list_of (scenarios_of inst t) (λ k. scenario_sum inst plan t (k + 1))
 
+-- the scenario sums of period t over the interventions before i
+unfoldable pub sums_before : Tables → List (Option ℕ) → ℕ → ℕ → List ℤ
+sums_before inst plan t i = list_of (scenarios_of inst t) (λ k. sum_below i (λ j. risk_at inst t (k + 1) j (start_of plan j)))
+
 -- a whole number is at most as large as a scenario sum of 1,024 risks can be
 pub record IsSmallSum (z : ℤ) : Type 0 where
   pub small : unsigned_abs z ≤ 1024 * 10 ^ 20

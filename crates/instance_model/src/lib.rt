@@ -13,6 +13,7 @@ mod offsets;
 mod parts;
 mod rule;
 mod starts;
+mod weighing;
 
 pub use instance::Instance;
 pub use key::Key;
@@ -20,3 +21,4 @@ pub use limits::Limits;
 pub use parts::{Exclusion, LoadCell, Parts};
 pub use rule::Rule;
 pub use starts::Starts;
+pub use weighing::{excess_above, weighted};
