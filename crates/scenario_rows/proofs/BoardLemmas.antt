@@ -1,14 +1,12 @@
 -- Scenario sums of a board on which one start changes.
-use Rattle.std.proofs.Common.{◌≡◌, ◌≢◌, ℕ, ◌+◌, ◌-◌, ◌<◌, ◌≤◌, ◌^◌, ◌*◌, refl, sym, ◌∙◌, ap, subst, arith, ℤ, pos, ◌+ℤ◌, ◌-ℤ◌, List, Option, Some, None, length, map, get_or, All, Bool, true, false, IsTrue, IfSome, inl, inr, get_or-set_same, get_or-set_other, unsigned_abs, ltb, eqb}
+use Rattle.std.proofs.Common.{◌≡◌, ℕ, ◌+◌, ◌<◌, ◌≤◌, refl, sym, ◌∙◌, ap, arith, ℤ, pos, ◌+ℤ◌, ◌-ℤ◌, List, Option, Some, None, length, true, false, IsTrue, IfSome}
 use Rattle.std.proofs.Math.ListN.{set}
-use Rattle.std.proofs.lemmas.Bool.{cases_lt}
-use Rattle.std.proofs.lemmas.Bool.Decides.{nat_tests}
-use Rattle.std.proofs.lemmas.List.{length-set}
-use Rattle.fixed_num.specs.Sums.{sum_below}
 use Rattle.fixed_num.proofs.SignedLemmas.{signed_arith}
+use Rattle.fixed_num.proofs.SumLemmas.{get_or-list_of, list_of_same}
 use Rattle.instance_model.specs.Fitting.{IsFitting}
-use Rattle.instance_model.specs.Tables.{Tables, scenarios_of, rank_of, in_run, delta_of, risk_of, is_allowed}
-use Rattle.instance_model.specs.Plans.{start_of, risk_at, scenario_sum, scenario_sums, RunsAreAllowed}
+use Rattle.instance_model.specs.Tables.{Tables, scenarios_of, rank_of, in_run, risk_of, is_allowed}
+use Rattle.instance_model.specs.Plans.{start_of, risk_at, scenario_sum, scenario_sums}
+use Rattle.instance_model.proofs.BoardLemmas.{scenario_sum-set, risk_at-none, risk_at-idle, risk_at-running}
 use Rattle.instance_model.proofs.FitLemmas.{scenarios_of_small}
 use Rattle.instance_model.proofs.PlanLemmas.{length-scenario_sums, scenario_sums_small}
 use Rattle.scenario_rows.specs.declared.change.Change.{Change}
@@ -16,8 +14,6 @@ use Rattle.scenario_rows.specs.declared.change.Change.TheVariants.{Add, Take}
 use Rattle.scenario_rows.specs.RiskStates.{PeriodState, period_of}
 use Rattle.scenario_rows.specs.Parts.{AreRowSums}
 use Rattle.scenario_rows.specs.Changes.{changed, changed_sums, changed_period, start_before, start_after}
-use Rattle.scenario_rows.proofs.ListLemmas.{sum_below-other, get_or-list_of, list_of_same}
-use Rattle.scenario_rows.proofs.MakingLemmas.{risk_at-none, risk_at-idle, risk_at-running}
 use Rattle.scenario_rows.proofs.RowLemmas.{changed_sums-from}
 
 -- the scenario sums of a period are those of a row
@@ -31,12 +27,6 @@ AreRowSums-scenario_sums inst board t f from to =
     }
 
 -- ---- one start of a board is another
-
-pub scenario_sum-set : (inst : Tables) (board : List (Option ℕ)) (i : ℕ) (o : Option ℕ) (t k : ℕ) → length board ≡ length inst.names → i < length inst.names → scenario_sum inst (set board i o) t k ≡ (scenario_sum inst board t k -ℤ risk_at inst t k i (start_of board i)) +ℤ risk_at inst t k i o
-unfolding scenario_sum
-scenario_sum-set inst board i o t k each h =
-    sum_below-other (length inst.names) i (λ j. risk_at inst t k j (start_of board j)) (λ j. risk_at inst t k j (start_of (set board i o) j)) h (λ j l ne. ap (risk_at inst t k j) (get_or-set_other board i j o None ne))
-    ∙ ap (λ (x : Option ℕ). (sum_below (length inst.names) (λ j. risk_at inst t k j (start_of board j)) -ℤ risk_at inst t k i (start_of board i)) +ℤ risk_at inst t k i x) (get_or-set_same board i o None (omega (arith, each, h)))
 
 -- the risk that an intervention adds before a change and after it, in a period of the run
 abbrev changed_before : Change → ℤ → ℤ
@@ -113,32 +103,7 @@ period_of-changed change inst board i s t each h e r = ap (at_sums inst t) (sym 
 pub period_of-idle : (change : Change) (inst : Tables) (board : List (Option ℕ)) (i s t : ℕ) → length board ≡ length inst.names → i < length inst.names → start_of board i ≡ start_before change s → in_run inst i s t ≡ false → period_of inst board t ≡ period_of inst (set board i (start_after change s)) t
 period_of-idle change inst board i s t each h e r = ap (at_sums inst t) (sym (scenario_sums-idle change inst board i s t each h e r))
 
--- ---- runs
-
-pub in_run-before : (inst : Tables) (i s t : ℕ) → t < s → in_run inst i s t ≡ false
-unfolding in_run
-in_run-before inst i s t h = grind (arith, nat_tests)
-
-pub in_run-behind : (inst : Tables) (i s t : ℕ) → s + delta_of inst i s ≤ t → in_run inst i s t ≡ false
-unfolding in_run
-in_run-behind inst i s t h = grind (arith, nat_tests)
-
-pub RunsAreAllowed-set : (inst : Tables) (board : List (Option ℕ)) (i : ℕ) (o : Option ℕ) → RunsAreAllowed inst board → IfSome o (λ s. IsTrue (is_allowed inst i s)) → RunsAreAllowed inst (set board i o)
-unfolding RunsAreAllowed
-RunsAreAllowed-set inst board i o h a j l =
-    let low : j < length board = omega (arith, l, length-set board i o) in
-    at (eqb j i) refl low
-  where
-    at : (b : Bool) → eqb j i ≡ b → j < length board → IfSome (start_of (set board i o) j) (λ s. IsTrue (is_allowed inst j s))
-    at true e low =
-        let same : j ≡ i = grind (arith, nat_tests) in
-        let w : start_of (set board i o) i ≡ o = get_or-set_same board i o None (rw same at low) in
-        rw same (subst (λ (x : Option ℕ). IfSome x (λ s. IsTrue (is_allowed inst i s))) (sym w) a)
-    at false e low =
-        let other : j ≢ i = grind (arith, nat_tests) in
-        let w : start_of (set board i o) j ≡ start_of board j = get_or-set_other board i j o None other in
-        subst (λ (x : Option ℕ). IfSome x (λ s. IsTrue (is_allowed inst j s))) (sym w) (h j low)
-
+-- what stands on board after a change is allowed
 pub allowed_after : (change : Change) (inst : Tables) (i s : ℕ) → IsTrue (is_allowed inst i s) → IfSome (start_after change s) (λ s. IsTrue (is_allowed inst i s))
 allowed_after Add inst i s h = h
 allowed_after Take inst i s h = tt

@@ -1,5 +1,5 @@
 -- Rows over an instance, as their periods change one after another.
-use Rattle.std.proofs.Common.{◌≡◌, ◌≢◌, ℕ, ◌+◌, ◌-◌, ◌*◌, ◌<◌, ◌≤◌, refl, sym, ◌∙◌, ap, subst, arith, List, [], ◌∷◌, Option, Some, None, length, map, get_or, max, fold, Bool, true, false, IsTrue, inl, inr, zero, suc, get_or-set_same, get_or-set_other}
+use Rattle.std.proofs.Common.{◌≡◌, ℕ, ◌+◌, ◌-◌, ◌*◌, ◌<◌, ◌≤◌, sym, ◌∙◌, ap, subst, arith, List, [], ◌∷◌, Option, Some, None, length, map, get_or, max, fold, true, IsTrue, inl, inr, zero, suc, get_or-set_same, get_or-set_other}
 use Rattle.std.specs.Prelude.{IfSome}
 use Rattle.std.specs.List.{range_with_len}
 use Rattle.std.proofs.Math.ListN.{set}
@@ -10,16 +10,16 @@ use Rattle.std.proofs.lemmas.List.FromFn.{length-map-range_with_len, get_or-map-
 use Rattle.std.proofs.lemmas.Nat.{mul-le}
 use Rattle.instance_model.specs.Fitting.{IsFitting}
 use Rattle.instance_model.specs.Tables.{Tables, scenarios_of, in_run, delta_of, is_allowed}
-use Rattle.instance_model.specs.Plans.{start_of, AreAllowedStarts, RunsAreAllowed}
+use Rattle.instance_model.specs.Plans.{start_of, AreAllowedStarts}
+use Rattle.instance_model.proofs.BoardLemmas.{in_run-before, in_run-behind, RunsAreAllowed-starts, RunsAreAllowed-set}
 use Rattle.instance_model.proofs.PlanLemmas.{length-scenario_sums}
 use Rattle.quantile_index.specs.Row.{Grows}
 use Rattle.scenario_rows.specs.declared.change.Change.{Change}
 use Rattle.scenario_rows.specs.RiskStates.{PeriodState, RiskState, period_of, IsOver}
 use Rattle.scenario_rows.specs.Bounds.{most_scenarios, period_bound}
 use Rattle.scenario_rows.specs.Parts.{AreRowSums, period_at}
-use Rattle.scenario_rows.specs.Changes.{changed_sums, changed_period, CanChange, AreChangedBelow, start_before, start_after}
-use Rattle.scenario_rows.proofs.BoardLemmas.{AreRowSums-scenario_sums, scenario_sums-changed, period_of-changed, period_of-idle, in_run-before, in_run-behind, RunsAreAllowed-set, allowed_after}
-use Rattle.scenario_rows.proofs.MakingLemmas.{RunsAreAllowed-starts}
+use Rattle.scenario_rows.specs.Changes.{changed_period, CanChange, AreChangedBelow, start_before, start_after}
+use Rattle.scenario_rows.proofs.BoardLemmas.{AreRowSums-scenario_sums, scenario_sums-changed, period_of-changed, period_of-idle, allowed_after}
 
 abbrev no_period : PeriodState
 no_period = record { alpha = 0; rank = 0; sums = [] }

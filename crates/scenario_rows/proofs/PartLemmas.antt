@@ -1,25 +1,20 @@
 -- What a period adds to the score, as the code has it.
-use Rattle.std.proofs.Common.{◌≡◌, ℕ, ◌+◌, ◌-◌, ◌*◌, ◌<◌, ◌≤◌, ◌^◌, ◌∙◌, refl, sym, ap, arith, ℤ, pos, negsuc, ◌+ℤ◌, ◌-ℤ◌, ◌*ℤ◌, unsigned_abs, to_z, List, length}
+use Rattle.std.proofs.Common.{◌≡◌, ℕ, ◌-◌, ◌*◌, ◌<◌, ◌≤◌, ◌^◌, ◌∙◌, refl, sym, ap, arith, ℤ, pos, ◌+ℤ◌, ◌-ℤ◌, ◌*ℤ◌, unsigned_abs, to_z, List, length}
 use Rattle.std.specs.Int.{w128, int_max}
 use Rattle.std.proofs.lemmas.Int.{to_z_pos}
-use Rattle.std.proofs.Math.Nat.{div-le_self}
 use Rattle.fixed_num.specs.Floors.{floor_of, floor_quotient}
 use Rattle.fixed_num.specs.Rank.{mth_smallest}
 use Rattle.fixed_num.specs.Sums.{total}
+use Rattle.fixed_num.proofs.Bits.{by_bits}
+use Rattle.fixed_num.proofs.FloorLemmas.{floor_size}
 use Rattle.fixed_num.proofs.SignedLemmas.{back_from_abs, signed_arith, abs-product}
 use Rattle.fixed_num.proofs.SumLemmas.{abs-sum}
 use Rattle.instance_model.specs.Values.{excess_in, numerator_in}
 use Rattle.scenario_rows.specs.Parts.{part_in}
-use Rattle.scenario_rows.proofs.Bits.{by_bits}
 
 -- a quotient, rounded down
 pub floor_is : (q v : ℤ) (n : ℕ) → n < 2 ^ 64 → unsigned_abs v ≤ 10 ^ 37 → q ≡ floor_quotient (by_bits v) (to_z w128 n) → q ≡ floor_of v n
 floor_is q v n few small e = e ∙ rw (back_from_abs v (omega (arith, small)), to_z_pos w128 n (omega (arith, few))) refl
-
--- a quotient by a natural number above 0 is no larger in absolute value
-pub floor_size : (a : ℤ) (k : ℕ) → 1 ≤ k → unsigned_abs (floor_of a k) ≤ unsigned_abs a
-floor_size (pos a) k h = div-le_self a k
-floor_size (negsuc a) k h = omega (arith, div-le_self a k)
 
 -- how large the parts of a period can be
 excess_small : (n : ℕ) (q s : ℤ) → n ≤ 1024 → unsigned_abs q ≤ 1024 * 10 ^ 20 → unsigned_abs s ≤ 1024 * 1024 * 10 ^ 20 → unsigned_abs (int_max (pos 0) (pos n *ℤ q -ℤ s)) ≤ 2 * 1024 * 1024 * 10 ^ 20

@@ -1,18 +1,19 @@
 -- Rows of sums that change.
-use Rattle.std.proofs.Common.{Option, Some, None, ◌≡◌, ℕ, ◌+◌, ◌*◌, ◌<◌, ◌≤◌, ◌^◌, refl, sym, ◌∙◌, ap, subst, arith, ℤ, pos, ◌+ℤ◌, ◌-ℤ◌, List, length, get_or, All, unsigned_abs}
+use Rattle.std.proofs.Common.{Option, Some, None, ◌≡◌, ℕ, ◌+◌, ◌*◌, ◌<◌, ◌≤◌, ◌^◌, sym, ◌∙◌, ap, subst, arith, ℤ, pos, ◌+ℤ◌, ◌-ℤ◌, List, length, get_or, unsigned_abs}
 use Rattle.std.specs.Prelude.{IfSome}
 use Rattle.std.proofs.Math.ListN.{set}
 use Rattle.std.proofs.lemmas.List.{length-set}
 use Rattle.std.proofs.lemmas.List.Elements.{All-set, All-get_or}
 use Rattle.fixed_num.specs.Sums.{total}
 use Rattle.fixed_num.proofs.SignedLemmas.{signed_arith}
+use Rattle.fixed_num.proofs.SumLemmas.{total-set, list_of-from, get_or-list_of, length-list_of}
 use Rattle.instance_model.specs.Plans.{IsSmallSum}
 use Rattle.instance_model.specs.Tables.{Tables, risk_of}
 use Rattle.scenario_rows.specs.declared.change.Change.{Change}
 use Rattle.scenario_rows.specs.declared.change.Change.TheVariants.{Add, Take}
 use Rattle.scenario_rows.specs.Changes.{changed, changed_sums}
 use Rattle.scenario_rows.specs.Parts.{AreRowSums, IsTotalled}
-use Rattle.scenario_rows.proofs.ListLemmas.{total-set, total_small, list_of-from, get_or-list_of, length-list_of}
+use Rattle.scenario_rows.proofs.ListLemmas.{total_small}
 
 -- the total changes as one sum does
 pub total_changed : (change : Change) (xs : List ℤ) (k : ℕ) (risk : ℤ) → k < length xs → total (set xs k (changed change (get_or xs k (pos 0)) risk)) ≡ changed change (total xs) risk

@@ -1,23 +1,23 @@
 -- What the periods add up to.
-use Rattle.std.proofs.Common.{◌≡◌, ℕ, zero, suc, ◌+◌, ◌-◌, ◌*◌, ◌<◌, ◌≤◌, ◌^◌, refl, sym, ◌∙◌, ap, subst, arith, ℤ, pos, ◌+ℤ◌, ◌-ℤ◌, List, [], ◌∷◌, ◌++◌, Option, length, map, get_or, All, unsigned_abs}
+use Rattle.std.proofs.Common.{◌≡◌, ℕ, ◌+◌, ◌*◌, ◌<◌, ◌≤◌, ◌^◌, refl, sym, ◌∙◌, ap, arith, ℤ, pos, ◌+ℤ◌, ◌-ℤ◌, List, [], ◌∷◌, ◌++◌, Option, length, map, get_or, unsigned_abs}
 use Rattle.std.specs.List.{AllByRecursion, range_with_len}
 use Rattle.std.proofs.Math.ListN.{set}
 use Rattle.std.proofs.lemmas.List.{length-set, length-map, length_push, map-set, map-append, get_or-map}
-use Rattle.std.proofs.lemmas.List.Elements.{recursion_from_All, All-set, All-push, All-get_or, All-contains}
+use Rattle.std.proofs.lemmas.List.Elements.{recursion_from_All, All-set, All-push, All-contains}
 use Rattle.fixed_num.specs.Floors.{floor_of}
 use Rattle.fixed_num.specs.Rank.{mth_smallest}
-use Rattle.fixed_num.specs.Sums.{sum_below, total, list_of}
+use Rattle.fixed_num.specs.Sums.{total}
 use Rattle.fixed_num.proofs.RankLemmas.{IsMthSmallest-mth_smallest}
 use Rattle.fixed_num.proofs.SignedLemmas.{signed_arith}
-use Rattle.fixed_num.proofs.SumLemmas.{abs-sum, total_push, total-none, total-list_of, sum_below_same}
-use Rattle.instance_model.specs.Tables.{Tables, scenarios_of, rank_of}
-use Rattle.instance_model.specs.Plans.{scenario_sums, IsSmallSum}
+use Rattle.fixed_num.proofs.SumLemmas.{abs-sum, total_push, total-none, total-list_of, total-set, sum_below_same}
+use Rattle.instance_model.specs.Tables.{Tables, scenarios_of}
+use Rattle.instance_model.specs.Plans.{IsSmallSum}
 use Rattle.instance_model.specs.Values.{sum_of_floors, numerator_of, score_of}
 use Rattle.instance_model.proofs.PlanLemmas.{length-scenario_sums}
 use Rattle.scenario_rows.specs.RiskStates.{PeriodState, RiskState, period_of, IsOver}
 use Rattle.scenario_rows.specs.Parts.{part_in, part_of, IsSoundPeriod, IsScored}
 use Rattle.scenario_rows.proofs.PartLemmas.{part_in_is, part_small}
-use Rattle.scenario_rows.proofs.ListLemmas.{total-set, total_small, read_at}
+use Rattle.scenario_rows.proofs.ListLemmas.{total_small}
 
 -- ---- how large the parts and the score can be
 

@@ -6,29 +6,7 @@ ghost use Rattle.instance_model.specs.Plans.{IsSmallSum};
 
 use crate::amount::Amount;
 use fixed_num::floor_div;
-
-/// How far `n` times the quantile is above the total of `n` sums, or 0.
-fn excess_above(n: u32, quantile: i128, total: i128) -> i128
-    requires few { n ≤ 1024 }
-    requires quantile { IsSmallSum quantile }
-    requires total { unsigned_abs total ≤ 1024 * 1024 * 10 ^ 20 }
-    ensures value { result ≡ int_max (pos 0) (pos n *ℤ quantile -ℤ total) }
-    ensures small { unsigned_abs result ≤ 2 * 1024 * 1024 * 10 ^ 20 }
-{
-    let above = n as i128 * quantile - total;
-    if above > 0 { above } else { 0 }
-}
-
-/// The total weighted by `alpha` in millionths, and the excess by the rest.
-fn weighted(alpha: u32, total: i128, excess: i128) -> i128
-    requires alpha { alpha ≤ 1_000_000 }
-    requires total { unsigned_abs total ≤ 1024 * 1024 * 10 ^ 20 }
-    requires excess { unsigned_abs excess ≤ 2 * 1024 * 1024 * 10 ^ 20 }
-    ensures value { result ≡ (pos alpha *ℤ total) +ℤ (pos (1_000_000 - alpha) *ℤ excess) }
-    ensures small { unsigned_abs result ≤ 3 * 1024 * 1024 * 10 ^ 26 }
-{
-    alpha as i128 * total + (1_000_000 - alpha) as i128 * excess
-}
+use instance_model::{excess_above, weighted};
 
 /// The weighted mean and excess of `n` sums with this quantile and total, rounded down.
 pub(crate) fn part(alpha: u32, n: u32, quantile: i128, total: i128) -> Amount

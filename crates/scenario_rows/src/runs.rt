@@ -1,9 +1,8 @@
 //! The scenario sums of a period, from scratch.
-ghost use Rattle.std.specs.Prelude.{◌≡◌, ℕ, ◌+◌, ◌<◌, ◌≤◌, pos, ◌+ℤ◌, Some, length, map, IfOk, IsTrue, All, slice_index, slice_index_or};
+ghost use Rattle.std.specs.Prelude.{◌≡◌, ◌+◌, ◌<◌, ◌≤◌, pos, ◌+ℤ◌, Some, length, map, IfOk, IsTrue, All, slice_index_or};
 ghost use Rattle.fixed_num.specs.Sums.{list_of};
 ghost use Rattle.instance_model.specs.Tables.{scenarios_of, risk_of, is_allowed, in_run as in_run_of};
-ghost use Rattle.instance_model.specs.Plans.{AreAllowedStarts, scenario_sums, IsSmallSum};
-ghost use Rattle.scenario_rows.specs.Making.{sums_before};
+ghost use Rattle.instance_model.specs.Plans.{AreAllowedStarts, scenario_sums, sums_before, IsSmallSum};
 
 use duration_calendar::{in_run, run};
 use fixed_num::{Steps, Sum};

@@ -1,10 +1,9 @@
-use Rattle.std.proofs.Common.{◌≡◌, ◌∙◌, ◌+◌, ◌<◌, sym, ap, subst, arith, pos, ◌+ℤ◌, ℕ, ℤ, List, Option, Some, true, false, length, map, get_or, IsTrue}
+use Rattle.std.proofs.Common.{◌≡◌, ◌∙◌, ◌+◌, sym, ap, arith, pos, ◌+ℤ◌, ℕ, ℤ, List, Option, Some, true, false, length, map, get_or}
 use Rattle.std.proofs.lemmas.List.Elements.{All-same}
 use Rattle.fixed_num.specs.Sums.{list_of}
-use Rattle.instance_model.specs.Tables.{scenarios_of, in_run, risk_of, is_allowed}
-use Rattle.instance_model.specs.Plans.{start_of, IsSmallSum}
-use Rattle.scenario_rows.specs.Making.{sums_before}
-use Rattle.scenario_rows.proofs.MakingLemmas.{start_of-starts, risk_at-idle, risk_at-running, length-sums_before, sums_before_small, sums_before_more, sums_before_idle}
+use Rattle.instance_model.specs.Tables.{scenarios_of, in_run, risk_of}
+use Rattle.instance_model.specs.Plans.{start_of, sums_before, IsSmallSum}
+use Rattle.instance_model.proofs.BoardLemmas.{start_of-starts, risk_at-idle, risk_at-running, length-sums_before, sums_before_small, sums_before_more, sums_before_idle}
 use Rattle.scenario_rows.proofs.runs.add_run.Goals as goal
 
 pub add_risks-requires-clause-each : goal.add_risks-requires-clause-each

@@ -1,5 +1,5 @@
 use Rattle.std.proofs.Common.{◌≡◌, map, Some}
-use Rattle.scenario_rows.specs.Making.{sums_before}
+use Rattle.instance_model.specs.Plans.{sums_before}
 use Rattle.scenario_rows.proofs.runs.sums_of.Given as goal
 
 abbrev pub invariant-loop-i : goal.invariant-loop-i

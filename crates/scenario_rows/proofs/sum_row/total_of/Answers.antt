@@ -2,10 +2,10 @@ use Rattle.std.proofs.Common.{◌≡◌, ◌∙◌, sym, ap, subst, arith, pos, 
 use Rattle.std.proofs.lemmas.List.{take_all}
 use Rattle.std.proofs.lemmas.List.Elements.{All-get_or}
 use Rattle.fixed_num.specs.Sums.{total}
+use Rattle.fixed_num.proofs.Bits.{by_bits}
 use Rattle.fixed_num.proofs.SignedLemmas.{back_from_abs}
 use Rattle.fixed_num.proofs.SumLemmas.{total-none, total_more, abs-sum}
 use Rattle.instance_model.specs.Plans.{IsSmallSum}
-use Rattle.scenario_rows.proofs.Bits.{by_bits}
 use Rattle.scenario_rows.proofs.ListLemmas.{read_at}
 use Rattle.scenario_rows.proofs.sum_row.total_of.Goals as goal
 
