@@ -1,11 +1,11 @@
 -- The rule that a load breaks, from the comparisons.
 use Rattle.std.proofs.Common.{◌≡◌, ℕ, ◌<◌, ◌≤◌, refl, sym, arith, ℤ, true, false, int_lt, List, Option, Some, None, unsigned_abs}
+use Rattle.fixed_num.proofs.Bits.{by_bits}
 use Rattle.fixed_num.proofs.SignedLemmas.{back_from_abs}
 use Rattle.instance_model.specs.declared.rule.Rule.TheVariants.{Over, Under}
 use Rattle.instance_model.specs.Tables.{Tables, upper_of, lower_of}
 use Rattle.instance_model.specs.Plans.{load_sum}
 use Rattle.instance_model.specs.Rules.{band_rule_at}
-use Rattle.plan_score.proofs.Bits.{by_bits}
 
 -- what the code has read: the load and the limits
 pub record AreLoadAndLimits (inst : Tables) (plan : List (Option ℕ)) (c t : ℕ) (load upper lower : ℤ) : Type 0 where

@@ -1,12 +1,12 @@
 -- Sums and quotients as the code has them, by their bits.
-use Rattle.std.proofs.Common.{◌≡◌, ℕ, ◌+◌, ◌<◌, ◌≤◌, ◌^◌, ◌∙◌, refl, arith, ℤ, pos, negsuc, neg_ℤ, ◌+ℤ◌, ◌-ℤ◌, unsigned_abs, to_z}
+use Rattle.std.proofs.Common.{◌≡◌, ℕ, ◌+◌, ◌<◌, ◌≤◌, ◌^◌, ◌∙◌, refl, arith, ℤ, pos, neg_ℤ, ◌+ℤ◌, ◌-ℤ◌, unsigned_abs, to_z}
 use Rattle.std.specs.Int.{w128, int_max}
 use Rattle.std.proofs.lemmas.Int.{to_z_pos}
-use Rattle.std.proofs.Math.Nat.{div-le_self}
 use Rattle.fixed_num.specs.Floors.{floor_of, ceil_of, floor_quotient, ceil_quotient}
+use Rattle.fixed_num.proofs.Bits.{by_bits}
+use Rattle.fixed_num.proofs.FloorLemmas.{floor_size}
 use Rattle.fixed_num.proofs.SignedLemmas.{back_from_abs, signed_arith}
 use Rattle.fixed_num.proofs.SumLemmas.{added, abs-sum}
-use Rattle.plan_score.proofs.Bits.{by_bits}
 
 -- a quotient, rounded down and up
 pub floor_is : (q v : ℤ) (n : ℕ) → n < 2 ^ 64 → unsigned_abs v ≤ 10 ^ 37 → q ≡ floor_quotient (by_bits v) (to_z w128 n) → q ≡ floor_of v n
@@ -21,11 +21,6 @@ sum_is s r h k = rw (back_from_abs s (omega (arith, h))) (added s r (10 ^ 37) (1
 
 pub sum_small : (s r : ℤ) → unsigned_abs s ≤ 10 ^ 37 → unsigned_abs r ≤ 10 ^ 33 → unsigned_abs (by_bits (by_bits s +ℤ by_bits r)) ≤ unsigned_abs s + 10 ^ 33
 sum_small s r h k = rw (sum_is s r h (omega (arith, k))) (omega (arith, abs-sum s r, k))
-
--- a quotient by a natural number above 0 is no larger in absolute value
-floor_size : (a : ℤ) (k : ℕ) → 1 ≤ k → unsigned_abs (floor_of a k) ≤ unsigned_abs a
-floor_size (pos a) k h = div-le_self a k
-floor_size (negsuc a) k h = omega (arith, div-le_self a k)
 
 pub floor_no_larger : (q a : ℤ) (k : ℕ) → 1 ≤ k → q ≡ floor_of a k → unsigned_abs q ≤ unsigned_abs a
 floor_no_larger q a k h e = rw e (floor_size a k h)

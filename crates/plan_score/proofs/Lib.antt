@@ -1,4 +1,3 @@
-pub mod Bits
 pub mod BandLemmas
 pub mod EnclosureLemmas
 pub mod ClashLemmas

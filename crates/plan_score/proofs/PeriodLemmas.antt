@@ -1,92 +1,18 @@
 -- What the calls over a period make.
-use Rattle.std.proofs.Common.{◌≡◌, ℕ, ◌+◌, ◌-◌, ◌<◌, ◌≤◌, refl, sym, ◌∙◌, ap, subst, arith, ℤ, pos, ◌+ℤ◌, ◌-ℤ◌, ◌*ℤ◌, List, Option, Some, None, length, get_or, All, unsigned_abs, to_z, of_z, Bool, true, false, cond, take, drop, ◌++◌}
+use Rattle.std.proofs.Common.{◌≡◌, ℕ, ◌-◌, ◌≤◌, refl, sym, ◌∙◌, ap, arith, ℤ, pos, ◌+ℤ◌, ◌-ℤ◌, ◌*ℤ◌, List, Option, Some, None, length, unsigned_abs, to_z, of_z, Bool, true, false, cond, take, drop, ◌++◌}
 use Rattle.std.specs.Int.{w128, int_max}
-use Rattle.std.proofs.lemmas.List.{ext_get_or}
 use Rattle.std.proofs.Math.Seq.{take-append_seam}
-use Rattle.std.proofs.lemmas.List.Elements.{All-from_get_or}
-use Rattle.std.proofs.lemmas.List.FromFn.{length-map-range_with_len, get_or-map-range_with_len}
-use Rattle.fixed_num.specs.Sums.{sum_below, total, list_of}
+use Rattle.fixed_num.specs.Sums.{total}
 use Rattle.fixed_num.specs.Rank.{mth_smallest}
-use Rattle.fixed_num.proofs.SignedLemmas.{back_from_abs, signed_arith}
-use Rattle.fixed_num.proofs.SumLemmas.{sum_below-zero, sum_below_more, sum_below-within}
-use Rattle.instance_model.specs.Fitting.{IsFitting}
-use Rattle.instance_model.specs.Tables.{Tables, scenarios_of, rank_of, in_run, risk_of, soft_of}
-use Rattle.instance_model.specs.Plans.{start_of, risk_at, soft_at, scenario_sum, scenario_sums, soft_count, IsSmallSum}
+use Rattle.fixed_num.proofs.Bits.{by_bits}
+use Rattle.fixed_num.proofs.SignedLemmas.{back_from_abs}
+use Rattle.instance_model.specs.Tables.{Tables, scenarios_of, rank_of, in_run, soft_of}
+use Rattle.instance_model.specs.Plans.{soft_at, scenario_sums, soft_count}
 use Rattle.instance_model.specs.Values.{excess_in, numerator_in, excess_of, numerator_of}
-use Rattle.instance_model.proofs.PlanLemmas.{length-scenario_sums, risk_at_small}
-use Rattle.plan_score.specs.Periods.{sums_before, IsPeriod}
-use Rattle.plan_score.proofs.Bits.{by_bits}
-
--- ---- lists by number
-
--- a list is f 0, .., f (n - 1) where its members are
-pub list_of-from : (n : ℕ) (f : ℕ → ℤ) (xs : List ℤ) → length xs ≡ n → ((k : ℕ) → k < n → get_or xs k (pos 0) ≡ f k) → xs ≡ list_of n f
-list_of-from n f xs each h =
-    ext_get_or (pos 0) xs (list_of n f) (each ∙ sym (length-map-range_with_len f 0 n)) (λ k l.
-    let low : k < n = omega (arith, each, l) in
-    h k low ∙ sym (get_or-map-range_with_len f 0 n k k (pos 0) low (omega arith)))
-
-pub get_or-list_of : (n : ℕ) (f : ℕ → ℤ) (k : ℕ) → k < n → get_or (list_of n f) k (pos 0) ≡ f k
-get_or-list_of n f k l = get_or-map-range_with_len f 0 n k k (pos 0) l (omega arith)
-
-pub length-list_of : (n : ℕ) (f : ℕ → ℤ) → length (list_of n f) ≡ n
-length-list_of n f = length-map-range_with_len f 0 n
-
-pub list_of_same : (n : ℕ) (f g : ℕ → ℤ) → ((k : ℕ) → k < n → f k ≡ g k) → list_of n f ≡ list_of n g
-list_of_same n f g h = list_of-from n g (list_of n f) (length-list_of n f) (λ k l. get_or-list_of n f k l ∙ h k l)
-
--- ---- the sums of the interventions before one
-
-pub length-sums_before : (inst : Tables) (plan : List (Option ℕ)) (t i : ℕ) → length (sums_before inst plan t i) ≡ scenarios_of inst t
-unfolding sums_before
-length-sums_before inst plan t i = length-list_of (scenarios_of inst t) (λ k. sum_below i (λ j. risk_at inst t (k + 1) j (start_of plan j)))
-
-pub sums_before_small : (inst : Tables) (plan : List (Option ℕ)) (t i : ℕ) → IsFitting inst → i ≤ length inst.names → All IsSmallSum (sums_before inst plan t i)
-unfolding sums_before
-sums_before_small inst plan t i f few =
-    All-from_get_or IsSmallSum (list_of (scenarios_of inst t) (λ k. sum_below i (λ j. risk_at inst t (k + 1) j (start_of plan j)))) (pos 0) (λ k l.
-    let low : k < scenarios_of inst t = omega (arith, l, length-list_of (scenarios_of inst t) (λ k. sum_below i (λ j. risk_at inst t (k + 1) j (start_of plan j)))) in
-    let one = sum_below-within i 100_000_000_000_000_000_000 (λ j. risk_at inst t (k + 1) j (start_of plan j)) (λ j m. risk_at_small inst t (k + 1) j (start_of plan j) f) in
-    subst IsSmallSum (sym (get_or-list_of (scenarios_of inst t) (λ k. sum_below i (λ j. risk_at inst t (k + 1) j (start_of plan j))) k low)) (record { small = omega (arith, one, few, f.names.few) }))
-
-pub sums_before-none : (inst : Tables) (plan : List (Option ℕ)) (t : ℕ) → list_of (scenarios_of inst t) (λ k. pos 0) ≡ sums_before inst plan t 0
-unfolding sums_before
-sums_before-none inst plan t = list_of_same (scenarios_of inst t) (λ k. pos 0) (λ k. sum_below 0 (λ j. risk_at inst t (k + 1) j (start_of plan j))) (λ k l. sym (sum_below-zero (λ j. risk_at inst t (k + 1) j (start_of plan j))))
-
-pub sums_before-all : (inst : Tables) (plan : List (Option ℕ)) (t i : ℕ) → i ≡ length inst.names → sums_before inst plan t i ≡ scenario_sums inst plan t
-unfolding sums_before scenario_sums scenario_sum
-sums_before-all inst plan t i e = rw e refl
-
--- one intervention more
-pub sums_before_more : (inst : Tables) (plan : List (Option ℕ)) (t i : ℕ) (f : ℕ → ℤ) → ((k : ℕ) → risk_at inst t (k + 1) i (start_of plan i) ≡ f k) → list_of (scenarios_of inst t) (λ k. get_or (sums_before inst plan t i) k (pos 0) +ℤ f k) ≡ sums_before inst plan t (i + 1)
-unfolding sums_before
-sums_before_more inst plan t i f h =
-    list_of_same (scenarios_of inst t) (λ k. get_or (list_of (scenarios_of inst t) (λ k. sum_below i (λ j. risk_at inst t (k + 1) j (start_of plan j)))) k (pos 0) +ℤ f k) (λ k. sum_below (i + 1) (λ j. risk_at inst t (k + 1) j (start_of plan j)))
-    (λ k l. ap (λ (x : ℤ). x +ℤ f k) (get_or-list_of (scenarios_of inst t) (λ k. sum_below i (λ j. risk_at inst t (k + 1) j (start_of plan j))) k l) ∙ ap (λ (x : ℤ). sum_below i (λ j. risk_at inst t (k + 1) j (start_of plan j)) +ℤ x) (sym (h k)) ∙ sym (sum_below_more i (λ j. risk_at inst t (k + 1) j (start_of plan j))))
-
--- one that is not in progress
-pub sums_before_idle : (inst : Tables) (plan : List (Option ℕ)) (t i : ℕ) → ((k : ℕ) → risk_at inst t (k + 1) i (start_of plan i) ≡ pos 0) → sums_before inst plan t i ≡ sums_before inst plan t (i + 1)
-unfolding sums_before
-sums_before_idle inst plan t i h =
-    list_of_same (scenarios_of inst t) (λ k. sum_below i (λ j. risk_at inst t (k + 1) j (start_of plan j))) (λ k. sum_below (i + 1) (λ j. risk_at inst t (k + 1) j (start_of plan j)))
-    (λ k l. sym (+ℤ-zero (sum_below i (λ j. risk_at inst t (k + 1) j (start_of plan j)))) ∙ ap (λ (x : ℤ). sum_below i (λ j. risk_at inst t (k + 1) j (start_of plan j)) +ℤ x) (sym (h k)) ∙ sym (sum_below_more i (λ j. risk_at inst t (k + 1) j (start_of plan j))))
-  where
-    +ℤ-zero : (z : ℤ) → z +ℤ pos 0 ≡ z
-    +ℤ-zero z = omega (arith, signed_arith)
+use Rattle.instance_model.proofs.PlanLemmas.{length-scenario_sums}
+use Rattle.plan_score.specs.Periods.{IsPeriod}
 
 -- ---- what one intervention adds
-
-pub risk_at-none : (inst : Tables) (t k i : ℕ) (o : Option ℕ) → o ≡ None → risk_at inst t k i o ≡ pos 0
-unfolding risk_at
-risk_at-none inst t k i o e = rw e refl
-
-pub risk_at-idle : (inst : Tables) (t k i s : ℕ) (o : Option ℕ) → o ≡ Some s → in_run inst i s t ≡ false → risk_at inst t k i o ≡ pos 0
-unfolding risk_at
-risk_at-idle inst t k i s o e h = rw (e, h) refl
-
-pub risk_at-running : (inst : Tables) (t k i s : ℕ) (o : Option ℕ) → o ≡ Some s → in_run inst i s t ≡ true → risk_at inst t k i o ≡ risk_of inst i s t k
-unfolding risk_at
-risk_at-running inst t k i s o e h = rw (e, h) refl
 
 pub soft_at-none : (inst : Tables) (t i : ℕ) (o : Option ℕ) → o ≡ None → 0 ≡ soft_at inst t i o
 unfolding soft_at

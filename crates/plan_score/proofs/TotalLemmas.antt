@@ -2,6 +2,7 @@
 use Rattle.std.proofs.Common.{◌≡◌, ℕ, ◌+◌, ◌-◌, ◌*◌, ◌≤◌, ◌^◌, refl, sym, ◌∙◌, ap, arith, ℤ, pos, ◌+ℤ◌, ◌-ℤ◌, List, Option, unsigned_abs}
 use Rattle.fixed_num.specs.Sums.{sum_below}
 use Rattle.fixed_num.specs.Floors.{floor_of, ceil_of}
+use Rattle.fixed_num.proofs.Bits.{by_bits}
 use Rattle.fixed_num.proofs.SignedLemmas.{back_from_abs, signed_arith}
 use Rattle.fixed_num.proofs.SumLemmas.{sum_below-zero, sum_below_more}
 use Rattle.instance_model.specs.Naturals.{count_sum, ceil_div_of}
@@ -12,7 +13,6 @@ use Rattle.instance_model.proofs.EntryLemmas.{count_sum-zero, count_sum_more, co
 use Rattle.plan_score.specs.declared.enclosure.Enclosure.{Enclosure}
 use Rattle.plan_score.specs.declared.values.Values.{Values}
 use Rattle.plan_score.specs.Periods.{AreSumsTo, IsSlack, floor_at, ceil_at, excess_floor_at, excess_ceil_at, half_at}
-use Rattle.plan_score.proofs.Bits.{by_bits}
 
 pub AreSumsTo-none : (f g : ℕ → ℤ) → AreSumsTo f g 0 (record { low = pos 0; high = pos 0 })
 AreSumsTo-none f g = record { low = sym (sum_below-zero f); high = sym (sum_below-zero g); low_small = omega arith; high_small = omega arith }

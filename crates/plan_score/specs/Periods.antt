@@ -2,18 +2,14 @@
 use Rattle.std.specs.Prelude.{◌≡◌, ℕ, ◌+◌, ◌-◌, ◌*◌, ◌≤◌, ◌^◌, ℤ, pos, ◌+ℤ◌, ◌-ℤ◌, List, Option, unsigned_abs}
 use Rattle.std.specs.Int.{int_max}
 use Rattle.fixed_num.specs.Floors.{floor_of, ceil_of}
-use Rattle.fixed_num.specs.Sums.{sum_below, list_of}
+use Rattle.fixed_num.specs.Sums.{sum_below}
 use Rattle.instance_model.specs.Naturals.{count_sum, ceil_div_of}
 use Rattle.instance_model.specs.Tables.{Tables, scenarios_of}
-use Rattle.instance_model.specs.Plans.{start_of, risk_at, soft_count}
+use Rattle.instance_model.specs.Plans.{soft_count}
 use Rattle.instance_model.specs.Values.{risk_total, excess_of, numerator_of}
 use Rattle.plan_score.specs.declared.period.Period.{Period}
 use Rattle.plan_score.specs.declared.enclosure.Enclosure.{Enclosure}
 use Rattle.plan_score.specs.declared.values.Totals.{Totals}
-
--- the scenario sums of period t over the interventions before i
-unfoldable pub sums_before : Tables → List (Option ℕ) → ℕ → ℕ → List ℤ
-sums_before inst plan t i = list_of (scenarios_of inst t) (λ k. sum_below i (λ j. risk_at inst t (k + 1) j (start_of plan j)))
 
 -- these are the total, the excess, the numerator and the soft starts of period t
 pub record IsPeriod (inst : Tables) (plan : List (Option ℕ)) (t : ℕ) (p : Period) : Type 0 where

@@ -1,14 +1,13 @@
-ghost use Rattle.std.specs.Prelude.{◌≡◌, ℕ, ◌+◌, ◌-◌, ◌*◌, ◌<◌, ◌≤◌, ◌^◌, ℤ, pos, ◌+ℤ◌, ◌-ℤ◌, ◌*ℤ◌, length, IfOk, OnOk, IfSome, IsTrue, unsigned_abs, All, slice_index_or};
-ghost use Rattle.std.specs.Int.{int_max};
+ghost use Rattle.std.specs.Prelude.{◌≡◌, ◌+◌, ◌*◌, ◌<◌, ◌≤◌, ◌^◌, pos, ◌+ℤ◌, length, IfOk, OnOk, IsTrue, unsigned_abs, All, slice_index_or};
 ghost use Rattle.fixed_num.specs.Sums.{total, list_of};
 ghost use Rattle.instance_model.specs.Tables.{scenarios_of, risk_of, is_allowed, in_run};
-ghost use Rattle.instance_model.specs.Plans.{start_of, soft_at, soft_count, scenario_sums, RunsAreAllowed, IsSmallSum};
-ghost use Rattle.plan_score.specs.Periods.{sums_before, IsPeriod};
+ghost use Rattle.instance_model.specs.Plans.{start_of, soft_at, soft_count, scenario_sums, sums_before, RunsAreAllowed, IsSmallSum};
+ghost use Rattle.plan_score.specs.Periods.{IsPeriod};
 
 use crate::progress::is_in_progress;
 use crate::rank::sum_at_rank;
 use fixed_num::Steps;
-use instance_model::Instance;
+use instance_model::{Instance, excess_above, weighted};
 use std::alloc::AllocError;
 use std::sync::ledger::Ledger;
 
@@ -128,29 +127,6 @@ fn total_of(sums: &[i128]) -> i128
     sum
 }
 
-/// How far `n` times the quantile is above the sum of the scenario sums, or 0.
-fn excess_above(n: u32, quantile: i128, sum: i128) -> i128
-    requires few { n ≤ 1024 }
-    requires quantile { IsSmallSum quantile }
-    requires sum { unsigned_abs sum ≤ 1024 * 1024 * 10 ^ 20 }
-    ensures value { result ≡ int_max (pos 0) (pos n *ℤ quantile -ℤ sum) }
-    ensures small { unsigned_abs result ≤ 2 * 1024 * 1024 * 10 ^ 20 }
-{
-    let above = n as i128 * quantile - sum;
-    if above > 0 { above } else { 0 }
-}
-
-/// The total weighted by `alpha` in millionths, and the excess by the rest.
-fn weigh(alpha: u32, sum: i128, excess: i128) -> i128
-    requires alpha { alpha ≤ 1_000_000 }
-    requires sum { unsigned_abs sum ≤ 1024 * 1024 * 10 ^ 20 }
-    requires excess { unsigned_abs excess ≤ 2 * 1024 * 1024 * 10 ^ 20 }
-    ensures value { result ≡ (pos alpha *ℤ sum) +ℤ (pos (1_000_000 - alpha) *ℤ excess) }
-    ensures small { unsigned_abs result ≤ 3 * 1024 * 1024 * 10 ^ 26 }
-{
-    alpha as i128 * sum + (1_000_000 - alpha) as i128 * excess
-}
-
 /// What the scenario sums of period `t` come to. They are built in `sums`, which is left in ascending order.
 pub(crate) fn period_of<L: Ledger>(
     inst: &Instance,
@@ -170,7 +146,7 @@ pub(crate) fn period_of<L: Ledger>(
     let total = total_of(sums.as_slice());
     let quantile = sum_at_rank(sums, inst.rank(t));
     let excess = excess_above(inst.scenarios(t), quantile, total);
-    let numerator = weigh(inst.alpha(), total, excess);
+    let numerator = weighted(inst.alpha(), total, excess);
     Ok(Period {
         total,
         excess,

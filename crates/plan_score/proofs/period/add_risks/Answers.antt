@@ -1,6 +1,6 @@
 use Rattle.std.proofs.Common.{◌≡◌, ◌+◌, ◌+ℤ◌, arith, pos, get_or}
+use Rattle.fixed_num.proofs.SumLemmas.{list_of-from}
 use Rattle.instance_model.specs.Tables.{scenarios_of, risk_of}
-use Rattle.plan_score.proofs.PeriodLemmas.{list_of-from}
 use Rattle.plan_score.proofs.period.add_risks.Goals as goal
 
 pub returns : goal.returns

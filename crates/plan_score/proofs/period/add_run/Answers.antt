@@ -2,9 +2,9 @@ use Rattle.std.proofs.Common.{◌≡◌, ◌∙◌, ◌+◌, ◌+ℤ◌, sym, ap
 use Rattle.std.proofs.lemmas.List.Elements.{All-same}
 use Rattle.fixed_num.specs.Sums.{list_of}
 use Rattle.instance_model.specs.Tables.{is_allowed, scenarios_of, risk_of, in_run}
-use Rattle.instance_model.specs.Plans.{RunsAreAllowed, IsSmallSum, start_of}
-use Rattle.plan_score.specs.Periods.{sums_before}
-use Rattle.plan_score.proofs.PeriodLemmas.{sums_before_idle, sums_before_more, sums_before_small, length-sums_before, risk_at-none, risk_at-idle, risk_at-running, soft_at-none, soft_at-idle, soft_at-running}
+use Rattle.instance_model.specs.Plans.{RunsAreAllowed, IsSmallSum, start_of, sums_before}
+use Rattle.instance_model.proofs.BoardLemmas.{sums_before_idle, sums_before_more, sums_before_small, length-sums_before, risk_at-none, risk_at-idle, risk_at-running}
+use Rattle.plan_score.proofs.PeriodLemmas.{soft_at-none, soft_at-idle, soft_at-running}
 use Rattle.plan_score.proofs.period.add_run.Goals as goal
 
 pub returns-in_default-clause-after : goal.returns-in_default-clause-after

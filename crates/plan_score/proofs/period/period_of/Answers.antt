@@ -24,4 +24,4 @@ sum_at_rank-quantile-requires-clause-small g c =
 
 pub returns : goal.returns
 returns g c =
-    IsPeriod-made c.args.inst.now c.args.plan.now c.args.t c.scenarios.result c.rank.result c.alpha.result c.in_ok-soft.soft c.sum_scenarios.new.sums.items c.as_slice.result.now c.total_of-total.result c.sum_at_rank-quantile.result c.excess_above-excess.result c.weigh-numerator.result c.as_slice.ensures.value c.in_ok-soft.ensures.sums c.scenarios.ensures.value c.rank.ensures.value c.alpha.ensures.value c.total_of-total.ensures.value c.sum_at_rank-quantile.ensures.value c.excess_above-excess.ensures.value c.weigh-numerator.ensures.value c.sum_at_rank-quantile.ensures.small.small c.total_of-total.ensures.small c.excess_above-excess.ensures.small c.weigh-numerator.ensures.small c.in_ok-soft.ensures.soft c.in_ok-soft.ensures.few
+    IsPeriod-made c.args.inst.now c.args.plan.now c.args.t c.scenarios.result c.rank.result c.alpha.result c.in_ok-soft.soft c.sum_scenarios.new.sums.items c.as_slice.result.now c.total_of-total.result c.sum_at_rank-quantile.result c.excess_above-excess.result c.weighted-numerator.result c.as_slice.ensures.value c.in_ok-soft.ensures.sums c.scenarios.ensures.value c.rank.ensures.value c.alpha.ensures.value c.total_of-total.ensures.value c.sum_at_rank-quantile.ensures.value c.excess_above-excess.ensures.value c.weighted-numerator.ensures.value c.sum_at_rank-quantile.ensures.small.small c.total_of-total.ensures.small c.excess_above-excess.ensures.small c.weighted-numerator.ensures.small c.in_ok-soft.ensures.soft c.in_ok-soft.ensures.few

@@ -1,7 +1,6 @@
 use Rattle.std.proofs.Common.{◌≡◌, ◌≤◌}
 use Rattle.instance_model.specs.Naturals.{count_sum}
-use Rattle.instance_model.specs.Plans.{soft_at, start_of}
-use Rattle.plan_score.specs.Periods.{sums_before}
+use Rattle.instance_model.specs.Plans.{sums_before, soft_at, start_of}
 use Rattle.plan_score.proofs.period.sum_scenarios.Given as goal
 
 abbrev pub invariant-loop-i : goal.invariant-loop-i

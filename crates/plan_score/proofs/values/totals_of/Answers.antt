@@ -1,10 +1,10 @@
 use Rattle.std.proofs.Common.{◌∙◌, ◌-◌, ◌*◌, ◌≤◌, ◌^◌, ap, arith, pos, ℕ, ℤ, ◌+ℤ◌, ◌-ℤ◌, unsigned_abs}
 use Rattle.std.specs.Int.{int_max}
 use Rattle.fixed_num.specs.Floors.{floor_of, ceil_of}
+use Rattle.fixed_num.proofs.Bits.{by_bits}
 use Rattle.instance_model.specs.Naturals.{ceil_div_of}
 use Rattle.instance_model.specs.Values.{risk_total, excess_of, numerator_of}
 use Rattle.plan_score.specs.Periods.{floor_at, ceil_at, excess_floor_at, excess_ceil_at}
-use Rattle.plan_score.proofs.Bits.{by_bits}
 use Rattle.plan_score.proofs.TotalLemmas.{AreSumsTo-none, AreSumsTo-more, IsSlack-none, IsSlack-more, floor_at_is, ceil_at_is}
 use Rattle.plan_score.proofs.values.totals_of.Goals as goal
 
