@@ -1,42 +1,19 @@
--- A sum over a list, and how it changes with one item of the list.
-use Rattle.std.proofs.Common.{◌≡◌, ℕ, zero, suc, ◌+◌, ◌-◌, ◌*◌, ◌<◌, ◌≤◌, refl, sym, ◌∙◌, ap, arith, ℤ, pos, ◌+ℤ◌, ◌-ℤ◌, Bool, true, false, eqb, ltb, ◌≢◌, List, [], length, get_or, set, Some, subst, unsigned_abs}
+-- Loads by period and resource, and how a run changes them.
+use Rattle.std.proofs.Common.{◌≡◌, ℕ, ◌+◌, ◌-◌, ◌*◌, ◌<◌, ◌≤◌, refl, sym, ◌∙◌, ap, arith, ℤ, pos, ◌+ℤ◌, ◌-ℤ◌, Bool, true, false, eqb, ltb, ◌≢◌, List, [], length, get_or, set, Some, subst, unsigned_abs}
 use Rattle.std.specs.Int.{int_max}
 use Rattle.std.proofs.lemmas.Bool.Decides.{nat_tests}
 use Rattle.std.proofs.lemmas.List.{get_or-set_same, get_or-set_other, length-set}
 use Rattle.fixed_num.specs.Sums.{sum_below}
-use Rattle.fixed_num.proofs.SumLemmas.{sum_below-suc, sum_below_more, sum_below_same, abs-sum}
+use Rattle.fixed_num.proofs.SumLemmas.{sum_below_more, sum_below-set, abs-sum}
 use Rattle.fixed_num.proofs.SignedLemmas.{signed_arith}
 use Rattle.instance_model.specs.Tables.{Tables, in_run, load_of, upper_of, lower_of}
 use Rattle.instance_model.specs.Plans.{load_at}
+use Rattle.instance_model.proofs.BoardLemmas.{load_at-idle, load_at-running}
 use Rattle.duration_calendar.specs.declared.window.Window.{Window}
 use Rattle.duration_calendar.specs.Windows.{in_window}
 use Rattle.resource_bands.specs.declared.change.Change.{Change}
 use Rattle.resource_bands.specs.declared.change.Change.TheVariants.{Add, Take}
 use Rattle.resource_bands.specs.Gaps.{gap_at, row_gap, rows_gap, signed, IsRowChanged}
-
--- what a sum over the items of a list is after item j was set to x
-pub sum_below-set : {A : Type 0} (n j : ℕ) (xs : List A) (x d : A) (f : ℕ → A → ℤ) → j < n → n ≤ length xs → sum_below n (λ k. f k (get_or (set xs j x) k d)) ≡ sum_below n (λ k. f k (get_or xs k d)) +ℤ (f j x -ℤ f j (get_or xs j d))
-sum_below-set {A} zero j xs x d f l few = absurd (omega (arith, l))
-sum_below-set {A} (suc n) j xs x d f l few = at (eqb n j) refl (λ m. sum_below-set n j xs x d f m (omega (arith, few)))
-  where
-    old : ℕ → ℤ
-    old k = f k (get_or xs k d)
-
-    new : ℕ → ℤ
-    new k = f k (get_or (set xs j x) k d)
-
-    at : (b : Bool) → eqb n j ≡ b → (j < n → sum_below n new ≡ sum_below n old +ℤ (f j x -ℤ old j)) → sum_below (suc n) new ≡ sum_below (suc n) old +ℤ (f j x -ℤ old j)
-    at true e _ =
-        let here : n ≡ j = grind (arith, nat_tests) in
-        let before : sum_below n new ≡ sum_below n old = sum_below_same n new old (λ k m. let other : k ≢ j = omega arith in ap (f k) (get_or-set_other xs j k x d other)) in
-        let last : new n ≡ f j x = rw here (ap (f j) (get_or-set_same xs j x d (omega (arith, few)))) in
-        let was : old n ≡ old j = ap old here in
-        rw (sum_below-suc n new, sum_below-suc n old, before, last, was) (omega (arith, signed_arith))
-    at false e rest =
-        let other : n ≢ j = grind (arith, nat_tests) in
-        let ih = rest (omega (arith, l)) in
-        let last : new n ≡ old n = ap (f n) (get_or-set_other xs j n x d other) in
-        rw (sum_below-suc n new, sum_below-suc n old, ih, last) (omega (arith, signed_arith))
 
 -- one step of a loop that adds up: the sum so far, what is added, and the new sum
 pub sum_more : (n : ℕ) (f : ℕ → ℤ) (s r t : ℤ) → s ≡ sum_below n f → r ≡ f n → t ≡ s +ℤ r → t ≡ sum_below (n + 1) f
@@ -65,14 +42,6 @@ before_window w t l = grind (arith, nat_tests)
 pub past_window : (w : Window) (t : ℕ) → w.past ≤ t → in_window w t ≡ false
 unfolding in_window
 past_window w t l = grind (arith, nat_tests)
-
-load_at-running : (inst : Tables) (c t i s : ℕ) → in_run inst i s t ≡ true → load_at inst c t i (Some s) ≡ load_of inst i s c t
-unfolding load_at
-load_at-running inst c t i s e = rw e refl
-
-load_at-idle : (inst : Tables) (c t i s : ℕ) → in_run inst i s t ≡ false → load_at inst c t i (Some s) ≡ pos 0
-unfolding load_at
-load_at-idle inst c t i s e = rw e refl
 
 -- a period outside the run changes nothing
 unchanged : (inst : Tables) (c t i s : ℕ) (change : Change) (z : ℤ) → in_run inst i s t ≡ false → z ≡ z +ℤ signed change (load_at inst c t i (Some s))

@@ -1,5 +1,5 @@
 -- What is kept of the runs on board is what they add up to, after a run was put on board or taken off as well.
-use Rattle.std.proofs.Common.{◌≡◌, ℕ, ◌+◌, ◌-◌, ◌*◌, ◌^◌, ◌<◌, ◌≤◌, refl, sym, ◌∙◌, ap, arith, ℤ, pos, ◌+ℤ◌, ◌-ℤ◌, Bool, true, false, eqb, ◌≢◌, List, [], length, get_or, set, map, replicate, Option, Some, None, IfSome, IsTrue, subst, unsigned_abs}
+use Rattle.std.proofs.Common.{◌≡◌, ℕ, ◌+◌, ◌-◌, ◌*◌, ◌^◌, ◌<◌, ◌≤◌, refl, sym, ◌∙◌, ap, arith, ℤ, pos, ◌+ℤ◌, Bool, true, false, eqb, ◌≢◌, List, [], length, get_or, set, map, replicate, Option, Some, None, IfSome, IsTrue, subst, unsigned_abs}
 use Rattle.std.proofs.lemmas.Bool.Decides.{nat_tests}
 use Rattle.std.proofs.lemmas.Nat.{mul-le}
 use Rattle.std.proofs.lemmas.List.{get_or-set_same, get_or-set_other, length-set, get_or-replicate, length-replicate, same_lists, get_or_default, get_or-map, length-map}
@@ -10,19 +10,15 @@ use Rattle.instance_model.specs.Tables.{Tables, is_allowed}
 use Rattle.instance_model.specs.Fitting.{IsFitting}
 use Rattle.instance_model.specs.Plans.{start_of, load_at, load_sum, RunsAreAllowed}
 use Rattle.instance_model.specs.Keys.{band_gap, band_gaps}
+use Rattle.instance_model.proofs.BoardLemmas.{load_sum-set, RunsAreAllowed-set}
 use Rattle.instance_model.proofs.FitLemmas.{upper_of_small, lower_of_small}
 use Rattle.instance_model.proofs.PlanLemmas.{load_sum_small}
 use Rattle.resource_bands.specs.declared.change.Change.{Change}
 use Rattle.resource_bands.specs.declared.change.Change.TheVariants.{Add, Take}
 use Rattle.resource_bands.specs.BoardLoads.{BoardLoads, IsOver}
 use Rattle.resource_bands.specs.Gaps.{gap_at, row_gap, rows_gap, signed, start_before, start_after, AreRows, AreRowsChanged}
-use Rattle.resource_bands.proofs.ChangeLemmas.{sum_below-set}
 
 -- ---- loads and limits
-load_sum-set : (inst : Tables) (board : List (Option ℕ)) (i c t : ℕ) (o : Option ℕ) → length board ≡ length inst.names → i < length inst.names → load_sum inst (set board i o) c t ≡ load_sum inst board c t +ℤ (load_at inst c t i o -ℤ load_at inst c t i (start_of board i))
-unfolding load_sum
-load_sum-set inst board i c t o each l = sum_below-set (length inst.names) i board o None (λ k x. load_at inst c t k x) l (omega (arith, each))
-
 gap_at-load : (inst : Tables) (board : List (Option ℕ)) (c t : ℕ) → gap_at inst c t (load_sum inst board c t) ≡ band_gap inst board c t
 unfolding gap_at band_gap
 gap_at-load inst board c t = refl
@@ -67,23 +63,6 @@ AreRows-over inst v f o =
 pub violation_fits : (inst : Tables) (v : BoardLoads) (further : ℤ) → IsFitting inst → IsOver inst v → unsigned_abs further ≤ 10 ^ 30 → unsigned_abs (v.violation +ℤ further) < 10 ^ 37
 violation_fits inst v further f o h = rw o.violation (omega (arith, abs-sum (band_gaps inst v.board) further, band_gaps_small inst v.board f, h))
 
-allowed_after : (inst : Tables) (board : List (Option ℕ)) (i : ℕ) (o : Option ℕ) → RunsAreAllowed inst board → IfSome o (λ s. IsTrue (is_allowed inst i s)) → RunsAreAllowed inst (set board i o)
-unfolding RunsAreAllowed
-allowed_after inst board i o h a k l = at (eqb k i) refl
-  where
-    within : k < length board
-    within = omega (arith, l, length-set board i o)
-
-    at : (b : Bool) → eqb k i ≡ b → IfSome (start_of (set board i o) k) (λ s. IsTrue (is_allowed inst k s))
-    at true e =
-        let here : i ≡ k = grind (arith, nat_tests) in
-        let now : start_of (set board i o) i ≡ o = get_or-set_same board i o None (omega (arith, within, here)) in
-        let there : IfSome (start_of (set board i o) i) (λ s. IsTrue (is_allowed inst i s)) = subst (λ (x : Option ℕ). IfSome x (λ s. IsTrue (is_allowed inst i s))) (sym now) a in
-        subst (λ (j : ℕ). IfSome (start_of (set board i o) j) (λ s. IsTrue (is_allowed inst j s))) here there
-    at false e =
-        let other : k ≢ i = grind (arith, nat_tests) in
-        subst (λ (x : Option ℕ). IfSome x (λ s. IsTrue (is_allowed inst k s))) (sym (get_or-set_other board i k o None other)) (h k within)
-
 -- a start takes the place of another, or of none, as the workloads of the run at s are added or taken off
 pub record IsReplaced (inst : Tables) (i s : ℕ) (change : Change) (old new : Option ℕ) : Type 0 where
   pub allowed : IfSome new (λ r. IsTrue (is_allowed inst i r))
@@ -121,7 +100,7 @@ IsOver-after inst v i s change o rows further violation over l r h gap is =
     let now = rows_gap-loads inst (set v.board i o) rows loads in
     record {
       each = length-set v.board i o ∙ over.each;
-      allowed = allowed_after inst v.board i o over.allowed r.allowed;
+      allowed = RunsAreAllowed-set inst v.board i o over.allowed r.allowed;
       resources = h.each ∙ over.resources;
       periods = λ c m. (h.each_row c m).each ∙ over.periods c m;
       loads = loads.loads;
