@@ -1,6 +1,6 @@
 -- Whether an exclusion is broken, from the windows of its two interventions; and which starts that depends on.
 use Rattle.std.proofs.Common.{◌≡◌, ℕ, ◌+◌, ◌<◌, refl, sym, ◌∙◌, ap, Bool, true, false, ◌&&◌, cond, List, length, get_or, set, map, Option, Some, None, is_some, IfSome, IfNone, ◌≢◌}
-use Rattle.std.proofs.lemmas.List.{get_or-map, get_or-set_other, map-set}
+use Rattle.std.proofs.lemmas.List.{get_or-set_other, map-set}
 use Rattle.instance_model.specs.declared.rule.Rule.{Rule}
 use Rattle.instance_model.specs.declared.rule.Rule.TheVariants.{Clash}
 use Rattle.instance_model.specs.declared.parts.Exclusion.{Exclusion}
@@ -11,6 +11,7 @@ use Rattle.instance_model.specs.Rules.{first_of, clashes, clash_rule_at, KeepsAp
 use Rattle.instance_model.specs.Keys.{clash_count}
 use Rattle.instance_model.proofs.RuleLemmas.{keeps_apart, clash_rule_at-none}
 use Rattle.instance_model.proofs.EntryLemmas.{count_sum_same}
+use Rattle.instance_model.proofs.BoardLemmas.{start_of-starts}
 use Rattle.duration_calendar.specs.declared.window.Window.{Window}
 use Rattle.duration_calendar.specs.Windows.{in_window, IsInHorizon}
 use Rattle.duration_calendar.specs.Calendar.{IsMeeting, IsFirstMeeting}
@@ -23,7 +24,7 @@ pub record IsWindowOf (inst : Tables) (starts : List ℕ) (i : ℕ) (w : Window)
   pub periods : (t : ℕ) → in_window w t ≡ is_running inst (map Some starts) i t
 
 pub IsWindowOf-run : (inst : Tables) (starts : List ℕ) (i : ℕ) (w : Window) → i < length starts → ((t : ℕ) → in_window w t ≡ in_run inst i (get_or starts i 0) t) → IsWindowOf inst starts i w
-IsWindowOf-run inst starts i w l h = record { periods = λ t. h t ∙ ap (runs_at inst i t) (sym (get_or-map Some starts i 0 None l)) }
+IsWindowOf-run inst starts i w l h = record { periods = λ t. h t ∙ ap (runs_at inst i t) (sym (start_of-starts starts i l)) }
 
 -- what the test has read: the exclusion, the two windows and the least period of the season in both
 pub record IsTested (inst : Tables) (starts : List ℕ) (e : ℕ) (x : Exclusion) (first second : Window) (meeting : Option ℕ) : Type 0 where
