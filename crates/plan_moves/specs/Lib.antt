@@ -1,2 +1,4 @@
 pub mod KeptPlans
 pub mod Scripts
+pub mod Boards
+pub mod Trails

@@ -4,6 +4,7 @@
 //! starts count from 1; interventions count from 0.
 #![tactic(auto)]
 
+mod board;
 mod change;
 mod moves;
 mod script_line;
