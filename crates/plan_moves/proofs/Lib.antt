@@ -1,2 +1,3 @@
 pub mod BoardLemmas
 pub mod KeyLemmas
+pub mod TrailLemmas

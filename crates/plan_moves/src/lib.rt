@@ -6,9 +6,11 @@
 
 mod board;
 mod change;
+mod kept;
 mod moves;
 mod script_line;
 
 pub use change::Change;
+pub use kept::Kept;
 pub use moves::Moves;
 pub use script_line::ScriptLine;

@@ -1,0 +1,17 @@
+use Rattle.std.proofs.Common.{sym, subst}
+use Rattle.plan_moves.specs.Boards.{Board}
+use Rattle.plan_moves.specs.Trails.{IsTrailOf}
+use Rattle.plan_moves.proofs.TrailLemmas.{IsTrailOf-pop, allowed-present}
+use Rattle.plan_moves.proofs.kept.Kept.undo.Goals as goal
+
+pub undo-requires-clause-allowed : goal.undo-requires-clause-allowed
+undo-requires-clause-allowed g c =
+    let inst = c.self.inside.board.instance in
+    let before = IsTrailOf-pop inst c.self.inside.trail.0 c.pop.new.self.0 c.in-Some.step c.self.inside.board.starts c.self.invariant c.in-Some.ensures.last in
+    allowed-present inst c.pop.new.self.0 _ before
+
+pub invariant_of-self : goal.invariant_of-self
+invariant_of-self g c =
+    let board = c.self.inside.board in
+    let before = IsTrailOf-pop board.instance c.self.inside.trail.0 c.pop.new.self.0 c.in-Some.step board.starts c.self.invariant c.in-Some.ensures.last in
+    subst (λ (b : Board). IsTrailOf b.instance c.pop.new.self.0 b.starts) (sym c.undo.ensures.starts) before
