@@ -2,3 +2,4 @@ pub mod KeptPlans
 pub mod Scripts
 pub mod Boards
 pub mod Trails
+pub mod Sample

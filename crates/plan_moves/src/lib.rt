@@ -9,6 +9,8 @@ mod change;
 mod kept;
 mod moves;
 mod script_line;
+#[cfg(test)]
+mod tests;
 
 pub use change::Change;
 pub use kept::Kept;
