@@ -1,59 +1,12 @@
 -- What a line gives is found by its runs: a name, blanks, digits, blanks.
-use Rattle.std.proofs.Common.{◌≡◌, ◌≢◌, ◌⊎◌, inl, inr, ℕ, ◌+◌, ◌-◌, ◌*◌, ◌^◌, ◌<◌, ◌≤◌, List, [], ◌∷◌, ◌++◌, length, take, get_or, slice_index, refl, sym, ◌∙◌, ap, subst, arith, rules}
-use Rattle.std.specs.List.{All}
+use Rattle.std.proofs.Common.{◌≡◌, ◌≢◌, ℕ, ◌<◌, ◌≤◌, List, [], ◌∷◌, ◌++◌, length, slice_index, refl, sym, ◌∙◌, ap, subst, arith}
 use Rattle.std.specs.Char.{digit_value}
-use Rattle.std.specs.Str.Parse.{AllDigits, IsNumeral, digits_value}
-use Rattle.std.proofs.lemmas.Bool.Decides.{nat_tests}
-use Rattle.std.proofs.lemmas.Int.Digits.{digits_value-lt, digits_value_more}
-use Rattle.std.proofs.lemmas.List.{append_assoc, length-take-le, length-append}
-use Rattle.std.proofs.Math.Nat.{pow-le-pow_right}
-use Rattle.std.proofs.lemmas.List.Elements.{All-nil, All-cons, All-head, All-tail, All-take}
+use Rattle.std.specs.Str.Parse.{IsNumeral, digits_value}
+use Rattle.std.proofs.lemmas.List.{append_assoc, length-append}
+use Rattle.text_lines.proofs.DigitLemmas.{IsDigit, digit_bytes, digits-each}
 use Rattle.plan_text.specs.Spelling.{AreBlanks, Gives}
 use Rattle.plan_text.specs.Runs.{IsSplit, EndsInStart}
 use Rattle.plan_text.proofs.RunLemmas.{split_once}
-
--- a decimal digit is a byte from 48 to 57
-pub record IsDigit (b : ℕ) : Type 0 where
-  pub from : 48 ≤ b
-  pub to : b ≤ 57
-  pub value : digit_value b ≡ b - 48
-
-pub digit_bytes : (b : ℕ) → digit_value b < 10 → IsDigit b
-digit_bytes b h = record {
-  from = grind (arith, nat_tests);
-  to = grind (arith, nat_tests);
-  value = grind (arith, nat_tests);
-}
-
--- each byte is a digit, said of the list and by recursion
-pub digits-each : (ds : List ℕ) → AllDigits 10 ds → All (λ b. digit_value b < 10) ds
-digits-each [] h = All-nil (λ b. digit_value b < 10)
-digits-each (b ∷ bs) h = All-cons (λ b. digit_value b < 10) b bs h.0 (digits-each bs h.1)
-
-pub each-digits : (ds : List ℕ) → All (λ b. digit_value b < 10) ds → AllDigits 10 ds
-each-digits [] h = search rules
-each-digits (b ∷ bs) h = (All-head (λ b. digit_value b < 10) b bs h, each-digits bs (All-tail (λ b. digit_value b < 10) b bs h))
-
--- up to 9 digits write a number below 10 ^ 9
-pub digits_value-small : (ds : List ℕ) → AllDigits 10 ds → length ds ≤ 9 → digits_value 10 ds < 10 ^ 9
-digits_value-small ds h l =
-    let below : digits_value 10 ds < 10 ^ length ds = digits_value-lt 10 ds h in
-    let most : 10 ^ length ds ≤ 10 ^ 9 = pow-le-pow_right {n = 10} (omega arith) l in
-    omega (arith, below, most)
-
--- the number that the digits up to the next one write
-pub record NextValue (ds : List ℕ) (i value : ℕ) : Type 0 where
-  pub from : 48 ≤ get_or ds i 0
-  pub is : digits_value 10 (take (i + 1) ds) ≡ value * 10 + (get_or ds i 0 - 48)
-  pub small : value * 10 + (get_or ds i 0 - 48) < 10 ^ 9
-
-pub next_value : (ds : List ℕ) (i value : ℕ) → i < length ds → length ds ≤ 9 → AllDigits 10 ds → value ≡ digits_value 10 (take i ds) → NextValue ds i value
-next_value ds i value l few h e =
-    let digit : IsDigit (get_or ds i 0) = digit_bytes (get_or ds i 0) (digits-each ds h i 0 l) in
-    let is : digits_value 10 (take (i + 1) ds) ≡ value * 10 + (get_or ds i 0 - 48) = omega (arith, digits_value_more 10 ds i l, digit.value, e) in
-    let front : AllDigits 10 (take (i + 1) ds) = each-digits (take (i + 1) ds) (All-take (λ b. digit_value b < 10) (i + 1) ds (digits-each ds h)) in
-    let short : length (take (i + 1) ds) ≤ 9 = omega (arith, length-take-le (i + 1) ds (omega arith)) in
-    record { from = digit.from; is = is; small = subst (λ n. n < 10 ^ 9) is (digits_value-small (take (i + 1) ds) front short) }
 
 -- a blank is no digit
 pub blank_not_digit : (b : ℕ) → digit_value b < 10 → b ≡ 32 → ⊥
@@ -65,14 +18,14 @@ cut_start text digits rest start s t =
     split_once (λ b. digit_value b < 10) text digits rest t.digits t.rest s t.spelled (digits-each t.digits t.numeral.1) (λ some h. blank_not_digit (slice_index t.rest 0) h (t.rest_blank 0 0 some))
 
 -- a cut text ends in a start, where its digits are 1 to 9 and its rest is blank
-pub joined_start : (text digits rest : List ℕ) (start : ℕ) → IsSplit (λ b. digit_value b < 10) text digits rest → 0 < length digits → length digits ≤ 9 → AreBlanks rest → start ≡ digits_value 10 digits → EndsInStart text start
-joined_start text digits rest start s some few blank e = record {
+pub joined_start : (text digits rest : List ℕ) (start : ℕ) → IsSplit (λ b. digit_value b < 10) text digits rest → IsNumeral 10 digits → length digits ≤ 9 → AreBlanks rest → digits_value 10 digits ≡ start → EndsInStart text start
+joined_start text digits rest start s numeral few blank e = record {
   digits = digits;
   rest = rest;
   spelled = s.joined;
-  numeral = (some, each-digits digits s.front_all);
+  numeral = numeral;
   few_digits = few;
-  value = sym e;
+  value = e;
   rest_blank = blank;
 }
 
@@ -134,10 +87,10 @@ joined_line line name rest gap text start s t some e = record {
 }
 
 -- no start ends a text that is cut after too few digits or too many, or before a rest that is not blank
-pub no_start : (text digits rest : List ℕ) → IsSplit (λ b. digit_value b < 10) text digits rest → (length digits ≡ 0) ⊎ ((9 < length digits) ⊎ (AreBlanks rest → ⊥)) → (start : ℕ) → EndsInStart text start → ⊥
-no_start text digits rest s (inl none) start t = let cut = cut_start text digits rest start s t in omega (arith, ap length cut.0, t.numeral.0)
-no_start text digits rest s (inr (inl many)) start t = let cut = cut_start text digits rest start s t in omega (arith, ap length cut.0, t.few_digits)
-no_start text digits rest s (inr (inr broken)) start t = let cut = cut_start text digits rest start s t in broken (subst AreBlanks (sym cut.1) t.rest_blank)
+pub no_start : (text digits rest : List ℕ) → IsSplit (λ b. digit_value b < 10) text digits rest → (IsNumeral 10 digits → length digits ≤ 9 → AreBlanks rest → ⊥) → (start : ℕ) → EndsInStart text start → ⊥
+no_start text digits rest s none start t =
+    let cut = cut_start text digits rest start s t in
+    none (subst (IsNumeral 10) (sym cut.0) t.numeral) (omega (arith, ap length cut.0, t.few_digits)) (subst AreBlanks (sym cut.1) t.rest_blank)
 
 -- no line gives a name where its name is empty
 pub no_name : (line name rest : List ℕ) → IsSplit (λ b. b ≢ 32) line name rest → length name ≡ 0 → (other : List ℕ) (start : ℕ) → Gives line other start → ⊥

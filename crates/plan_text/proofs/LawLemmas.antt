@@ -12,7 +12,8 @@ use Rattle.plan_text.specs.FirstFault.{IsBadLine, HasUnknownName, IsRepeated, Is
 use Rattle.plan_text.specs.Runs.{EndsInStart}
 use Rattle.plan_text.proofs.RunLemmas.{same_runs}
 use Rattle.plan_text.proofs.AnyLemmas.{any_take_place}
-use Rattle.plan_text.proofs.GiveLemmas.{digits-each, give_cut, GiveCut, blank_not_digit, first_of_front, digit_head, gap_head}
+use Rattle.text_lines.proofs.DigitLemmas.{digits-each}
+use Rattle.plan_text.proofs.GiveLemmas.{give_cut, GiveCut, blank_not_digit, first_of_front, digit_head, gap_head}
 
 -- a text ends in one start
 starts_once : (text : List ℕ) (s t : ℕ) → EndsInStart text s → EndsInStart text t → s ≡ t

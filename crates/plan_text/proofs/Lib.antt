@@ -1,11 +1,8 @@
-pub mod LineLemmas
 pub mod RunLemmas
 pub mod GiveLemmas
 pub mod AnyLemmas
 pub mod LawLemmas
 pub mod StepLemmas
 pub mod WrittenLemmas
-pub mod NameLemmas
 pub mod ReadLemmas
 pub mod PieceLemmas
-pub mod TestLemmas

@@ -1,10 +1,13 @@
 -- What is known after one more line.
-use Rattle.std.proofs.Common.{◌≡◌, ◌≢◌, ℕ, ◌+◌, ◌-◌, ◌<◌, ◌≤◌, ◌⊎◌, inl, inr, ⊎_elim, List, [], ◌∷◌, length, take, drop, get_or, replicate, slice_index_or, Option, Some, None, true, refl, sym, ◌∙◌, ap, subst, arith}
+use Rattle.std.proofs.Common.{◌≡◌, ◌≢◌, ℕ, ◌+◌, ◌-◌, ◌<◌, ◌≤◌, ◌⊎◌, inl, inr, ⊎_elim, List, [], ◌∷◌, length, take, drop, get_or, replicate, map, slice_index_or, Option, Some, None, true, refl, sym, ◌∙◌, ap, subst, arith}
 use Rattle.std.specs.List.{AllPairs}
 use Rattle.std.specs.Option.{is_some}
+use Rattle.std.specs.Str.Lines.{strip_carriage_return}
 use Rattle.std.proofs.lemmas.Bool.{cases_lt, cases_eq}
-use Rattle.std.proofs.lemmas.List.{get_or-set_same, get_or-set_other, length-set, get_or-replicate, length-replicate, get_or_past, length-drop, drop_more, take_all, get_or_default, get_or-take, length-take-le, nil_from_length}
+use Rattle.std.proofs.lemmas.List.{get_or-set_same, get_or-set_other, length-set, get_or-replicate, length-replicate, get_or_past, length-drop, take_all, get_or_default, get_or-take, length-take-le, nil_from_length}
 use Rattle.std.proofs.lemmas.List.Elements.{Contains-get_or}
+use Rattle.text_lines.specs.Lines as text_lines
+use Rattle.text_lines.proofs.NameLemmas.{same_place}
 use Rattle.plan_text.specs.declared.fault.PlanFault.{PlanFault}
 use Rattle.plan_text.specs.declared.fault.PlanFault.TheVariants.{BadLine, UnknownName, Twice, Memory}
 use Rattle.plan_text.specs.Spelling.{lines_of, AreBlanks, Gives, Names, NamesOneOf, HasStarts, start_at, IsPlan}
@@ -12,13 +15,6 @@ use Rattle.plan_text.specs.FirstFault.{IsRepeated, IsNamedIn, IsFaultless, AreFa
 use Rattle.plan_text.specs.Steps.{SetsStart, Enters, IsTaken, Refuses, HasRead}
 use Rattle.plan_text.proofs.AnyLemmas.{any_take_more, any_take_here, any_take_cases}
 use Rattle.plan_text.proofs.LawLemmas.{gives_once, names_once, blank_gives_nothing}
-
--- the same name stands at one place
-pub same_place : (names : List (List ℕ)) (i j : ℕ) → AllPairs (λ a b. a ≢ b) names → i < length names → j < length names → slice_index_or names i [] ≡ slice_index_or names j [] → i ≡ j
-same_place names i j apart li lj e =
-    ⊎_elim (λ l. absurd (apart i j [] l lj e))
-    (λ h. ⊎_elim (λ l. absurd (apart j i [] l li (sym e))) (λ k. omega arith) (cases_lt j i))
-    (cases_lt i j)
 
 -- before the first line no name has a start
 pub none_read : (names lines : List (List ℕ)) (starts : List (Option ℕ)) → starts ≡ replicate (length names) None → HasRead names lines 0 starts
@@ -146,17 +142,9 @@ read_whole names text n plan r all =
       starts = subst (λ xs. HasStarts names xs plan) whole r.starts;
     }
 
--- the next line, where what is left of the text begins with it
-pub record NextLine (lines : List (List ℕ)) (n : ℕ) (line : List ℕ) (rest : List (List ℕ)) : Type 0 where
-  pub within : n < length lines
-  pub is : slice_index_or lines n [] ≡ line
-  pub left : drop (n + 1) lines ≡ rest
-
-pub next_line : (lines : List (List ℕ)) (n : ℕ) (line : List ℕ) (rest : List (List ℕ)) → drop n lines ≡ line ∷ rest → NextLine lines n line rest
-next_line lines n line rest e =
-    let within : n < length lines = omega (arith, ap length e, length-drop n lines) in
-    let cut : slice_index_or lines n [] ∷ drop (n + 1) lines ≡ line ∷ rest = sym (drop_more lines n [] within) ∙ e in
-    record { within = within; is = cc; left = cc }
+-- a text whose first line is cut off and loses its carriage return
+pub line_cut : (text line kept rest : List ℕ) → text_lines.lines_of text ≡ line ∷ text_lines.lines_of rest → kept ≡ strip_carriage_return line → lines_of text ≡ kept ∷ lines_of rest
+line_cut text line kept rest e k = ap (map strip_carriage_return) e ∙ ap (λ x. x ∷ lines_of rest) (sym k)
 
 -- some lines of the text were read, and this is left of it
 pub record ReadSoFar (names : List (List ℕ)) (text : List ℕ) (n : ℕ) (rest : List ℕ) (plan : List (Option ℕ)) : Type 0 where

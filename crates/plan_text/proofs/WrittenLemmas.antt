@@ -11,10 +11,11 @@ use Rattle.std.proofs.lemmas.List.{append_assoc, append-nil, nil_from_length, le
 use Rattle.std.proofs.lemmas.List.Elements.{All-nil, All-cons, All-head, All-tail, All-append, All-weaker, Contains-get_or}
 use Rattle.instance_model.specs.Fitting.{AreNames}
 use Rattle.plan_text.specs.Spelling.{lines_of, Gives, start_at, IsPlan, plan_text}
-use Rattle.plan_text.proofs.LineLemmas.{lines_of-more}
-use Rattle.plan_text.proofs.GiveLemmas.{IsDigit, digit_bytes, digits-each}
+use Rattle.text_lines.proofs.LineLemmas.{lines_of-more}
+use Rattle.text_lines.proofs.DigitLemmas.{IsDigit, digit_bytes, digits-each}
 use Rattle.plan_text.proofs.LawLemmas.{gives_once, names_once}
-use Rattle.plan_text.proofs.StepLemmas.{same_place, some_same}
+use Rattle.text_lines.proofs.NameLemmas.{same_place}
+use Rattle.plan_text.proofs.StepLemmas.{some_same}
 
 -- a line that is written, without its line feed
 given_line : List ℕ → ℕ → List ℕ
@@ -55,7 +56,7 @@ lines_of-plan_text (name ∷ names) (start ∷ starts) printed small =
     let above : All Above line = given_line-above name start (All-head (λ name. All (λ b. 32 < b) name) name names printed) (All-head (λ s. s < 10 ^ 9) start starts small) in
     let unbroken : All (λ b. b ≢ 10) line = All-weaker Above (λ b. b ≢ 10) (λ b h e. omega (arith, h, e)) line above in
     ap lines_of (append_assoc line (10 ∷ []) (plan_text names starts))
-    ∙ lines_of-more line (plan_text names starts) unbroken
+    ∙ ap (map strip_carriage_return) (lines_of-more line (plan_text names starts) unbroken)
     ∙ ap (λ x. x ∷ lines_of (plan_text names starts)) (strip-above line above)
     ∙ ap (λ xs. line ∷ xs) (lines_of-plan_text names starts (All-tail (λ name. All (λ b. 32 < b) name) name names printed) (All-tail (λ s. s < 10 ^ 9) start starts small))
 

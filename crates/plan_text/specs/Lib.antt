@@ -2,4 +2,3 @@ pub mod Spelling
 pub mod FirstFault
 pub mod Runs
 pub mod Steps
-pub mod Written

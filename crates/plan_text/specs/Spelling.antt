@@ -1,21 +1,16 @@
 -- How plans are written as text: what a line says, which plan a text spells, and the one text that is written.
 -- A line feed is the byte 10, a carriage return 13, a blank 32. A name is the list of its bytes. A plan gives each
 -- name, in the order of the names, one start or none.
-use Rattle.std.specs.Prelude.{◌≡◌, ◌≢◌, ◌⊎◌, ℕ, ◌<◌, ◌≤◌, List, [], ◌∷◌, ◌++◌, length, map, Option, Some, None, slice_index_or, All, AllPairs, Any, Contains, if◌then◌else◌, ◌==◌, decimal}
-use Rattle.std.specs.List.{slice_split, flat_map, zip}
+use Rattle.std.specs.Prelude.{◌≡◌, ◌≢◌, ◌⊎◌, ℕ, ◌<◌, ◌≤◌, List, [], ◌∷◌, ◌++◌, length, map, Option, Some, None, slice_index_or, All, AllPairs, Any, Contains, decimal}
+use Rattle.std.specs.List.{flat_map, zip}
 use Rattle.std.specs.Str.Lines.{strip_carriage_return}
 use Rattle.std.specs.Str.Parse.{IsNumeral, digits_value}
-
--- the parts, less the last one where it is empty
-abbrev pub without_empty_last : List (List ℕ) → List (List ℕ)
-without_empty_last [] = []
-without_empty_last (part ∷ []) = if length part == 0 then [] else part ∷ []
-without_empty_last (part ∷ next ∷ more) = part ∷ without_empty_last (next ∷ more)
+use Rattle.text_lines.specs.Lines as text_lines
 
 -- the lines of a text: its parts between line feeds, each without the one carriage return at its end, if it has one;
 -- an empty part after the last line feed is no line
 abbrev pub lines_of : List ℕ → List (List ℕ)
-lines_of text = map strip_carriage_return (without_empty_last (slice_split (λ b. b == 10) text))
+lines_of text = map strip_carriage_return (text_lines.lines_of text)
 
 -- blanks, or nothing
 abbrev pub AreBlanks : List ℕ → Type 0

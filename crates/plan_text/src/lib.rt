@@ -9,7 +9,6 @@ mod laws;
 mod line;
 mod plan;
 mod read;
-mod split;
 mod write;
 
 pub use fault::PlanFault;

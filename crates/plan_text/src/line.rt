@@ -1,9 +1,21 @@
 // What a line of a plan text says.
-ghost use Rattle.std.specs.Prelude.{◌≡◌, ◌≢◌, ℕ, ◌<◌, ◌≤◌, ◌^◌, ◌↔◌, List, ◌++◌, length, All, IsTrue, IfSome, IfNone, slice_index};
-ghost use Rattle.std.specs.Str.Parse.{IsNumeral, AllDigits, digits_value};
+ghost use Rattle.std.specs.Prelude.{◌≡◌, ◌≢◌, ℕ, ◌<◌, ◌^◌, ◌↔◌, List, IsTrue, IfSome, IfNone};
 ghost use Rattle.std.specs.Char.{digit_value};
+ghost use Rattle.std.specs.Str.Lines.{strip_carriage_return};
 ghost use Rattle.plan_text.specs.Spelling.{AreBlanks, Gives};
 ghost use Rattle.plan_text.specs.Runs.{IsSplit, EndsInStart};
+
+use text_lines::value_of_digits;
+
+/// A line without the carriage return at its end, if it has one.
+pub fn without_return(line: &[u8]) -> &[u8]
+    ensures { result.now ≡ strip_carriage_return line.now }
+{
+    match line {
+        [front @ .., b'\r'] => front,
+        _ => line,
+    }
+}
 
 /// Whether a line has no byte but blanks.
 pub fn is_blank(line: &[u8]) -> bool
@@ -34,24 +46,11 @@ fn start_of(text: &[u8]) -> Option<u32>
     ensures none { IfNone result ((start : ℕ) → EndsInStart text.now start → ⊥) }
 {
     let (digits, rest) = split_digits(text);
-    if digits.is_empty() || digits.len() > 9 || !is_blank(rest) {
+    if !is_blank(rest) {
         return None;
     }
-    Some(value_of(digits))
-}
-
-// The number that some digits write.
-fn value_of(digits: &[u8]) -> u32
-    requires few { length digits.now ≤ 9 }
-    requires digits { AllDigits 10 digits.now }
-    ensures value { result ≡ digits_value 10 digits.now }
-    ensures small { result < 10 ^ 9 }
-{
-    let mut value = 0;
-    for digit in digits {
-        value = value * 10 + u32::from(*digit - b'0');
-    }
-    value
+    let start = value_of_digits(digits, 9)?;
+    Some(start as u32)
 }
 
 // The bytes up to the first blank, and the rest.

@@ -1,15 +1,14 @@
 // A plan is read from its text.
-ghost use Rattle.std.specs.Prelude.{◌≡◌, ◌≢◌, ◌⊎◌, ℕ, ◌<◌, List, [], Option, None, Ok, Err, length, vec_len, replicate, IfOk, IfErr, OnOk, IfSome, IfNone, Contains, slice_index_or};
+ghost use Rattle.std.specs.Prelude.{◌≡◌, ◌≢◌, ◌⊎◌, ℕ, List, Option, None, Ok, Err, length, vec_len, replicate, IfOk, IfErr, OnOk};
 ghost use Rattle.plan_text.specs.Spelling.{IsPlan, lines_of};
 ghost use Rattle.plan_text.specs.FirstFault.{HasPlanFault, Answers};
 ghost use Rattle.plan_text.specs.Steps.{Enters, Refuses, HasRead};
 
-use crate::line::{entry_of, is_blank};
-use crate::split::split_line;
+use crate::line::{entry_of, is_blank, without_return};
 use crate::{Plan, PlanFault};
 use instance_model::Instance;
 use std::alloc::Global;
-use std::str;
+use text_lines::{find_name, split_line};
 
 /// Reads the plan that a text spells, in time linear in the text.
 ///
@@ -40,7 +39,7 @@ fn read_lines(inst: &Instance, text: &[u8], starts: &mut Vec<Option<u32>>) -> Re
     while !rest.is_empty() {
         let (line, after) = split_line(rest);
         n += 1;
-        read_line(inst, line, n, starts)?;
+        read_line(inst, without_return(line), n, starts)?;
         rest = after;
     }
     Ok(())
@@ -66,37 +65,9 @@ fn read_line(
     let Some(i) = find_name(inst, name) else {
         return Err(PlanFault::UnknownName { n });
     };
-    if starts[i].is_some() {
+    if starts[i as usize].is_some() {
         return Err(PlanFault::Twice { n });
     }
-    starts[i] = Some(start);
+    starts[i as usize] = Some(start);
     Ok(())
-}
-
-// The number of the intervention of this name. Bytes that are no text are compared with each name.
-fn find_name(inst: &Instance, name: &[u8]) -> Option<usize>
-    ensures found { IfSome result (λ i. i < length inst.now.names) }
-    ensures name { IfSome result (λ i. slice_index_or inst.now.names i [] ≡ name.now) }
-    ensures none { IfNone result (Contains inst.now.names name.now → ⊥) }
-{
-    match str::from_utf8(name) {
-        Ok(text) => match inst.find(text) {
-            Some(i) => Some(i as usize),
-            None => None,
-        },
-        Err(_) => find_bytes(inst, name),
-    }
-}
-
-fn find_bytes(inst: &Instance, name: &[u8]) -> Option<usize>
-    ensures found { IfSome result (λ i. i < length inst.now.names) }
-    ensures name { IfSome result (λ i. slice_index_or inst.now.names i [] ≡ name.now) }
-    ensures none { IfNone result (Contains inst.now.names name.now → ⊥) }
-{
-    for i in 0..inst.interventions() {
-        if inst.name(i).as_bytes() == name {
-            return Some(i as usize);
-        }
-    }
-    None
 }

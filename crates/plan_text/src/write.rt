@@ -4,7 +4,7 @@ ghost use Rattle.plan_desk.specs.Desk.{ShowsSame, after_write};
 ghost use Rattle.plan_desk.specs.Faults.{CountsFault, IsFaultOf};
 ghost use Rattle.plan_desk.specs.declared.call.DeskCall.{DeskCall};
 ghost use Rattle.plan_text.specs.Spelling.{IsPlan, plan_text, line_text};
-ghost use Rattle.plan_text.specs.Written.{WritesPart};
+ghost use Rattle.text_lines.specs.Written.{WritesPart};
 
 use fixed_num::Line;
 use instance_model::Instance;

@@ -1,20 +1,15 @@
-use Rattle.std.proofs.Common.{arith, inl, inr, rules}
-use Rattle.plan_text.proofs.GiveLemmas.{no_start, each-digits, joined_start}
+use Rattle.std.proofs.Common.{rules}
+use Rattle.std.proofs.lemmas.Bool.{false≢true}
+use Rattle.plan_text.proofs.GiveLemmas.{no_start, joined_start}
 use Rattle.plan_text.proofs.line.start_of.Goals as goal
-use Rattle.plan_text.proofs.line.start_of.Goals.{then-is_empty-via-then-is_empty, then-is_empty-via-else-is_empty+then-digits-gt9, then-is_empty-via-else-is_empty+else-digits-gt9+then-not-is_blank}
 
-pub returns-then-is_empty-clause-none : goal.returns-then-is_empty-clause-none
-returns-then-is_empty-clause-none c =
-    let text = c.args.text.now in
-    elim c.then-is_empty.branch [
-      | then-is_empty-via-then-is_empty w ↦ no_start text _ _ c.split_digits.ensures (inl (search rules))
-      | then-is_empty-via-else-is_empty+then-digits-gt9 w ↦ no_start text _ _ c.split_digits.ensures (inr (inl (omega arith)))
-      | then-is_empty-via-else-is_empty+else-digits-gt9+then-not-is_blank w ↦ no_start text _ _ c.split_digits.ensures (inr (inr (search rules)))
-    ]
+pub returns-then-not-is_blank-clause-none : goal.returns-then-not-is_blank-clause-none
+returns-then-not-is_blank-clause-none c = no_start c.args.text.now _ _ c.split_digits.ensures (λ numeral few blank. false≢true (c.if-not-is_blank.ensures.1 blank))
 
-pub value_of-requires-clause-digits : goal.value_of-requires-clause-digits
-value_of-requires-clause-digits c = each-digits _ c.split_digits.ensures.front_all
+pub returns-in_err-start-clause-none : goal.returns-in_err-start-clause-none
+returns-in_err-start-clause-none c =
+    rw c.from_residual.ensures (no_start c.args.text.now c.split_digits.result.0.now c.split_digits.result.1.now c.split_digits.ensures (λ numeral few blank. c.in_err-start.ensures.none numeral few))
 
 pub returns-clause-found : goal.returns-clause-found
 returns-clause-found c =
-    joined_start c.args.text.now _ _ _ c.split_digits.ensures (search rules) c.if-digits-gt9.false (search rules) c.value_of.ensures.value
+    joined_start c.args.text.now _ _ _ c.split_digits.ensures c.in_ok-start.ensures.digits c.in_ok-start.ensures.few (search rules) c.in_ok-start.ensures.found

@@ -1,6 +1,6 @@
 use Rattle.std.proofs.Common.{◌≡◌, ◌∙◌, [], ◌∷◌, ap, sym, map, rules, string_bytes}
 use Rattle.std.proofs.lemmas.List.{nil_from_length}
-use Rattle.plan_text.proofs.TestLemmas.{fits_where, two_pushed}
+use Rattle.text_lines.proofs.TestLemmas.{fits_where, two_pushed}
 use Rattle.plan_text.proofs.tests.parts.Goals as goal
 
 pub returns-clause-fits : goal.returns-clause-fits

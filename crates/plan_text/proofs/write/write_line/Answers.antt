@@ -2,8 +2,8 @@ use Rattle.std.proofs.Common.{◌≡◌, ◌∙◌, ◌∷◌, ◌++◌, List, �
 use Rattle.std.proofs.lemmas.Result.{on_ok_weaker, on_err_weaker}
 use Rattle.plan_desk.specs.Desk.{ShowsSame, after_write}
 use Rattle.plan_desk.proofs.Appended.{write_more}
-use Rattle.plan_text.specs.Written.{WritesPart}
-use Rattle.plan_text.proofs.PieceLemmas.{on_err, part_more, part_longer}
+use Rattle.text_lines.specs.Written.{WritesPart}
+use Rattle.text_lines.proofs.PieceLemmas.{on_err, part_more, part_longer}
 use Rattle.plan_text.proofs.write.write_line.Goals as goal
 
 pub returns-in_err-write_all-2-clause-err : goal.returns-in_err-write_all-2-clause-err

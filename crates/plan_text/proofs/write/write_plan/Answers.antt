@@ -1,6 +1,7 @@
 use Rattle.std.proofs.Common.{[], refl, arith, rules}
 use Rattle.std.proofs.lemmas.Option.{get_or_from_slice_get}
-use Rattle.plan_text.proofs.PieceLemmas.{on_err, nothing_written, line_more, line_part}
+use Rattle.text_lines.proofs.PieceLemmas.{on_err}
+use Rattle.plan_text.proofs.PieceLemmas.{nothing_written, line_more, line_part}
 use Rattle.plan_text.proofs.WrittenLemmas.{plan_text_spells}
 use Rattle.plan_text.proofs.write.write_plan.Goals as goal
 

@@ -1,8 +1,8 @@
 use Rattle.std.proofs.Common.{arith, ◌∙◌, sym}
 use Rattle.std.proofs.lemmas.Bool.{false≢true}
 use Rattle.std.proofs.lemmas.Slice.Eq.{bytes_eq-Decides}
-use Rattle.plan_text.proofs.NameLemmas.{same_name, none_below, none_more}
-use Rattle.plan_text.proofs.read.find_bytes.Goals as goal
+use Rattle.text_lines.proofs.NameLemmas.{same_name, none_below, none_more}
+use Rattle.text_lines.proofs.name.find_bytes.Goals as goal
 
 pub returns-then-eq-clause-name : goal.returns-then-eq-clause-name
 returns-then-eq-clause-name c =

@@ -1,0 +1,7 @@
+pub mod LineLemmas
+pub mod DigitLemmas
+pub mod NameLemmas
+pub mod PieceLemmas
+pub mod NumeralLemmas
+pub mod TestLemmas
+pub mod CutLemmas
