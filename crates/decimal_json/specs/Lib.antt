@@ -8,6 +8,7 @@ pub mod Exact
 pub mod Trees
 pub mod Events
 pub mod Stream
+pub mod Counts
 pub mod Unreads
 pub mod Scaling
 pub mod Split
@@ -23,3 +24,4 @@ pub mod PullViews
 pub mod Pulls
 pub mod Steps
 pub mod NumberRuns
+pub mod ShortNumbers

@@ -1,6 +1,6 @@
 //! A reader that is handed a text in pieces, and tells its events.
 
-ghost use Rattle.std.specs.Prelude.{◌≡◌, ◌≢◌, ℕ, ◌+◌, ◌<◌, List, [], ◌++◌, length, slice_get, Bool, true, false, Some, Ok, Err, IfOk, OnOk, OnErr};
+ghost use Rattle.std.specs.Prelude.{◌≡◌, ◌≢◌, ℕ, ◌+◌, ◌<◌, List, [], ◌++◌, length, slice_get, Bool, true, false, Some, Ok, Err, IfOk, OnOk, OnErr, IfSome, IsSome, None, IsTrue};
 ghost use Rattle.decimal_json.specs.Tree as json;
 ghost use Rattle.decimal_json.specs.Grammar.{IsText};
 ghost use Rattle.decimal_json.specs.Events.{event_view};
@@ -8,11 +8,13 @@ ghost use Rattle.decimal_json.specs.Prefix.{IsSyntaxFault, IsShallow, IsDepthFau
 ghost use Rattle.decimal_json.specs.Stream.{IsShallowPrefix, IsNextDue, IsDueCount, IsNextOfEach, IsGivenText};
 ghost use Rattle.decimal_json.specs.Pulls.{Stands, IsUnfinished, given_after, finished_after};
 ghost use Rattle.decimal_json.specs.Steps.{Steps, IsIdle, IsUsedUp, Concludes};
+ghost use Rattle.decimal_json.specs.Counts.{IsNextCount};
 
 use crate::event::Event;
 use crate::fault::TextFault;
 use crate::machine::Machine;
-use crate::reading::{Reading, read_on};
+use crate::reading::{Reading, read_on, read_short};
+use crate::short_number::ShortNumber;
 use crate::unread::Unread;
 use std::alloc::{AllocError, Global};
 use std::marker::Model;
@@ -148,6 +150,33 @@ impl Pull {
             Step::Used => Ok(Pulled::More),
             Step::Over => unreachable!(),
         }
+    }
+
+    /// The next event, where it is a number without a sign and an exponent, of at most 7 digits before the point and 12
+    /// behind it, in a list or an object, and the comma behind it was pushed: its place and its exact value. `None` says
+    /// nothing of the events that are due. It takes no memory, and is a shorter way to most numbers than `next_event`.
+    #[inline]
+    pub fn next_short(&mut self) -> Option<ShortNumber>
+        requires { IsUnfinished self.old }
+        ensures stands { (stream : List ℕ) (given : ℕ) → Stands self.old stream given false →
+            IsSome result → Stands self.new stream (given + 1) false }
+        ensures number { (stream : List ℕ) (given : ℕ) → Stands self.old stream given false →
+            IfSome result (λ number. IsNextCount stream given number.at number.count) }
+        ensures none { result ≡ None → self.new ≡ self.old }
+        ensures unfinished { IsUnfinished self.new }
+    {
+        if !self.is_idle() {
+            return None;
+        }
+        read_short(&mut self.machine, &mut self.unread)
+    }
+
+    /// Whether it reads and holds no event.
+    #[inline]
+    fn is_idle(&self) -> bool
+        ensures { IsTrue result → IsIdle self.now }
+    {
+        matches!(self.stage, Stage::Reading) && self.held.is_none()
     }
 
     /// Ends the stream, and answers the next event that is due, or `Done` where the stream is a text nested at most 16

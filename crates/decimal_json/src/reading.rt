@@ -1,14 +1,16 @@
 //! Reading a stream up to the next byte that tells something.
 
-ghost use Rattle.std.specs.Prelude.{◌≡◌, ℕ, ◌+◌, ◌<◌, ◌^◌, ◌≢◌, List, slice_get, Some, IfSome, Ok, option_map};
+ghost use Rattle.std.specs.Prelude.{◌≡◌, ℕ, ◌+◌, ◌<◌, ◌^◌, ◌≢◌, List, slice_get, Some, IfSome, Ok, None, option_map};
 ghost use Rattle.decimal_json.specs.Tree as json;
 ghost use Rattle.decimal_json.specs.Machine.{State};
 ghost use Rattle.decimal_json.specs.Machines.{IsSound, answer_of};
 ghost use Rattle.decimal_json.specs.Unreads.{unread_of};
 ghost use Rattle.decimal_json.specs.Readings.{HasTold, ReadsOn, Shortens, IsTelling, told_events};
+ghost use Rattle.decimal_json.specs.ShortNumbers.{TellsCount};
 
-use crate::machine::{Answer, Event, Machine, TakenNumber};
+use crate::machine::{Answer, Event, Machine, TakenNumber, blank_count};
 use crate::read::MOST_LEVELS;
+use crate::short_number::{ShortNumber, ShortRun};
 use crate::unread::Unread;
 use std::alloc::{AllocError, Global};
 
@@ -84,6 +86,23 @@ fn read_telling(
         None => Ok(Reading::Used),
         Some(byte) => read_byte(alloc, machine, unread, byte),
     }
+}
+
+/// Reads a short number with the comma behind it, and the blanks before it. `None`: nothing is read.
+#[inline]
+pub fn read_short(machine: &mut Machine, unread: &mut Unread) -> Option<ShortNumber>
+    ensures tells { IfSome result (λ number.
+        TellsCount number.at number.count machine.old unread.old machine.new unread.new) }
+    ensures left_machine { result ≡ None → machine.new ≡ machine.old }
+    ensures left_unread { result ≡ None → unread.new ≡ unread.old }
+{
+    let bytes = unread.as_slice();
+    let blanks = blank_count(bytes);
+    let ShortRun { length, count } = machine.take_short(&bytes[blanks..])?;
+    unread.pass(blanks);
+    let at = unread.at();
+    unread.pass(length + 1);
+    Some(ShortNumber { at, count })
 }
 
 /// Reads one byte, the first of the buffer.

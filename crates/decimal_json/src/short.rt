@@ -67,7 +67,7 @@ fn with_digits(front: u64, digits: &[u8]) -> u64
     value
 }
 
-fn power_of_ten(exponent: usize) -> u64
+pub(crate) fn power_of_ten(exponent: usize) -> u64
     requires { exponent < 20 }
     ensures { result ≡ 10 ^ exponent }
 {

@@ -163,3 +163,42 @@ fn events_are_told_as_soon_as_they_are_due(rt: HostRuntime) {
         assert_eq!(rt; end, fault);
     }
 }
+
+/// What `next_short` tells behind the opening bracket of a list, and all that is told behind it.
+fn short_and_rest(alloc: Global, text: &[u8]) -> Result<(Option<(u64, i128)>, String), TextFault> {
+    let mut pull = Pull::make(alloc)?;
+    pull.push(text)?;
+    pull.next_event()?;
+    let short = pull.next_short();
+    let mut words = String::new(alloc);
+    add_due(&mut words, &mut pull)?;
+    Ok((short.map(|number| (number.at, number.count.count())), words))
+}
+
+#[test]
+fn short_numbers_are_told_by_their_counts(rt: HostRuntime) {
+    let table: [(&[u8], Option<(u64, i128)>, &str); 13] = [
+        (b"[1.5, 2]", Some((1, 1_500_000_000_000)), "06-72 ]7-8 "),
+        (b"[ \n0.25,3]", Some((3, 250_000_000_000)), "08-93 ]9-10 "),
+        (b"[0,true", Some((1, 0)), "y3-7 "),
+        (
+            b"[9999999.999999999999,",
+            Some((1, 9_999_999_999_999_999_999)),
+            "",
+        ),
+        (b"[1.5", None, ""),
+        (b"[1.5]", None, "01-41.5 ]4-5 "),
+        (b"[1. ", None, ""),
+        (b"[-1,", None, "01-3-1 "),
+        (b"[1e3,", None, "01-41e3 "),
+        (b"[01,", None, ""),
+        (b"[12345678,", None, "01-912345678 "),
+        (b"[0.1234567890123,", None, "01-160.1234567890123 "),
+        (b"[null,", None, "n1-5 "),
+    ];
+    for (text, want, rest) in table {
+        let (short, words) = short_and_rest(rt.alloc(), text).expect(&rt, "memory");
+        assert_eq!(rt; short, want);
+        assert_eq!(rt; words.as_str(), rest);
+    }
+}
