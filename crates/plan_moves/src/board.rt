@@ -115,13 +115,6 @@ impl<'a, R: Row> Board<'a, R> {
         self.inst
     }
 
-    /// The starts are allowed. Does nothing: the contract is the law.
-    pub(crate) fn allowed(&self)
-        ensures { AreAllowedStarts self.now.instance self.now.starts }
-    {
-        let _ = &self.starts;
-    }
-
     /// The start of intervention `i`.
     pub(crate) fn start_of(&self, i: u32) -> u32
         requires { i < length self.now.instance.names }

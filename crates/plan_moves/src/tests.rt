@@ -26,8 +26,21 @@ use std::test::Fail;
 /// The risks in counts: of A at start 1 in periods 1 and 2, at start 2 in periods 2 and 3, then of B.
 const RISKS: [i64; 12] = [1, 2, 6, 5, 1, 3, 4, 1, 1, -2, 3, 2];
 
-/// What a broken exclusion adds to the violation.
-const BROKEN: i128 = 1_000_000_000_000;
+/// The keys of the plans 1, 1 and 1, 2 and 2, 1.
+const BOTH_FIRST: Key = Key {
+    violation: 1_000_000_000_000,
+    score: 4_000_000,
+};
+
+const SECOND_LATER: Key = Key {
+    violation: 2,
+    score: 5_250_000,
+};
+
+const FIRST_LATER: Key = Key {
+    violation: 1,
+    score: 4_250_000,
+};
 
 fn fixed(count: i64) -> Fixed
     ensures { result ≡ count }
@@ -132,12 +145,7 @@ fn instance(alloc: Global) -> Result<Instance, AllocError>
 }
 
 /// Changes a start, where that is allowed and there is spare for it.
-fn moved<R: Row, L: Ledger>(
-    kept: &mut Kept<'_, R>,
-    i: u32,
-    s: u32,
-    steps: &mut Steps<L>,
-) -> bool
+fn moved<R: Row, L: Ledger>(kept: &mut Kept<'_, R>, i: u32, s: u32, steps: &mut Steps<L>) -> bool
     ensures { kept.new.instance ≡ kept.old.instance }
 {
     let inst = kept.instance();
@@ -149,12 +157,7 @@ fn moved<R: Row, L: Ledger>(
 }
 
 /// Exchanges two starts, where that is allowed and there is spare for it.
-fn swapped<R: Row, L: Ledger>(
-    kept: &mut Kept<'_, R>,
-    i: u32,
-    j: u32,
-    steps: &mut Steps<L>,
-) -> bool
+fn swapped<R: Row, L: Ledger>(kept: &mut Kept<'_, R>, i: u32, j: u32, steps: &mut Steps<L>) -> bool
     ensures { kept.new.instance ≡ kept.old.instance }
 {
     let inst = kept.instance();
@@ -168,6 +171,13 @@ fn swapped<R: Row, L: Ledger>(
     true
 }
 
+/// Takes the present plan off, where it isn't the only one.
+fn undone<R: Row, L: Ledger>(kept: &mut Kept<'_, R>, steps: &mut Steps<L>) -> bool
+    ensures { kept.new.instance ≡ kept.old.instance }
+{
+    kept.undo(steps)
+}
+
 /// The starts and the key of the present plan, and the spare.
 fn shows<R: Row>(rt: &impl Abort, kept: &Kept<'_, R>, starts: [u32; 2], key: Key, spare: usize)
     requires { length kept.now.instance.names ≡ 2 }
@@ -178,7 +188,32 @@ fn shows<R: Row>(rt: &impl Abort, kept: &Kept<'_, R>, starts: [u32; 2], key: Key
     assert_eq!(rt; kept.spare(), spare);
 }
 
-/// There and back, by a move, by a swap of overlapping runs, and by a swap of an intervention with itself.
+/// A move, a swap of overlapping runs, and a swap of an intervention with itself.
+fn goes_there<R: Row, L: Ledger>(rt: &impl Abort, kept: &mut Kept<'_, R>, steps: &mut Steps<L>)
+    requires { length kept.old.instance.names ≡ 2 }
+    ensures { kept.new.instance ≡ kept.old.instance }
+{
+    assert!(rt; moved(kept, 1, 2, steps));
+    shows(rt, kept, [1, 2], SECOND_LATER, 2);
+    assert!(rt; swapped(kept, 0, 1, steps));
+    shows(rt, kept, [2, 1], FIRST_LATER, 1);
+    assert!(rt; swapped(kept, 1, 1, steps));
+    shows(rt, kept, [2, 1], FIRST_LATER, 0);
+}
+
+/// The same way back, to the opening plan, which stays.
+fn comes_back<R: Row, L: Ledger>(rt: &impl Abort, kept: &mut Kept<'_, R>, steps: &mut Steps<L>)
+    requires { length kept.old.instance.names ≡ 2 }
+{
+    assert!(rt; undone(kept, steps));
+    shows(rt, kept, [2, 1], FIRST_LATER, 1);
+    assert!(rt; undone(kept, steps));
+    shows(rt, kept, [1, 2], SECOND_LATER, 2);
+    assert!(rt; undone(kept, steps));
+    shows(rt, kept, [1, 1], BOTH_FIRST, 3);
+    assert!(rt; !undone(kept, steps), "the opening plan stays");
+}
+
 fn goes_there_and_back<R: Row, L: Ledger>(
     rt: &impl Abort,
     alloc: Global,
@@ -188,37 +223,13 @@ fn goes_there_and_back<R: Row, L: Ledger>(
     requires parts { blank.parts ≡ L.parts }
     requires one { blank.parts ≡ 1 }
 {
-    let both_first = Key {
-        violation: BROKEN,
-        score: 4_000_000,
-    };
-    let second_later = Key {
-        violation: 2,
-        score: 5_250_000,
-    };
-    let first_later = Key {
-        violation: 1,
-        score: 4_250_000,
-    };
     let mut steps = Steps::<L>::zero(blank);
     let inst = instance(alloc)?;
     let mut kept = Kept::<R>::make(alloc, &inst, &[1, 1])?;
-    shows(rt, &kept, [1, 1], both_first, 0);
+    shows(rt, &kept, [1, 1], BOTH_FIRST, 0);
     kept.reserve(3)?;
-    assert!(rt; !kept.undo(&mut steps), "the opening plan stays");
-    assert!(rt; moved(&mut kept, 1, 2, &mut steps));
-    shows(rt, &kept, [1, 2], second_later, 2);
-    assert!(rt; swapped(&mut kept, 0, 1, &mut steps));
-    shows(rt, &kept, [2, 1], first_later, 1);
-    assert!(rt; swapped(&mut kept, 1, 1, &mut steps));
-    shows(rt, &kept, [2, 1], first_later, 0);
-    assert!(rt; kept.undo(&mut steps));
-    shows(rt, &kept, [2, 1], first_later, 1);
-    assert!(rt; kept.undo(&mut steps));
-    shows(rt, &kept, [1, 2], second_later, 2);
-    assert!(rt; kept.undo(&mut steps));
-    shows(rt, &kept, [1, 1], both_first, 3);
-    assert!(rt; !kept.undo(&mut steps), "the opening plan stays");
+    goes_there(rt, &mut kept, &mut steps);
+    comes_back(rt, &mut kept, &mut steps);
     Ok(())
 }
 
