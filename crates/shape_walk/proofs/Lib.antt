@@ -1,5 +1,6 @@
 mod Along
 mod Counting
+mod CountTaken
 mod FaultCodes
 mod FaultRows
 mod FirstIsLeast

@@ -1,3 +1,4 @@
+pub mod Awaits
 pub mod Counts
 pub mod Flaws
 pub mod Frames

@@ -1,6 +1,6 @@
 //! The walk over the events of a text.
 
-ghost use Rattle.std.specs.Prelude.{◌≡◌, ◌∷◌, [], ◌++◌, ◌↔◌, ℕ, List, Bool, None, Some, IfOk, OnOk, IfSome};
+ghost use Rattle.std.specs.Prelude.{◌≡◌, ◌∷◌, [], ◌++◌, ◌↔◌, ℕ, ℤ, List, Bool, false, None, Some, IfOk, OnOk, IfSome};
 ghost use Rattle.decimal_json.specs.Tree as json;
 ghost use Rattle.decimal_json.specs.Tree.{events_of};
 ghost use Rattle.decimal_json.specs.Events.{event_view};
@@ -8,6 +8,9 @@ ghost use Rattle.instance_model.specs.declared.limits.Limits.{Limits as Sizes};
 ghost use Rattle.instance_shape.specs.ShapeFaults.{shape_faults, IsLeast};
 ghost use Rattle.instance_shape.specs.declared.fault.Fault.{Fault as FaultValue};
 ghost use Rattle.decimal_json.specs.Stream.{AscendFrom};
+ghost use Rattle.decimal_json.specs.Exact.{fixed};
+ghost use Rattle.shape_walk.specs.Awaits.{AwaitsCount};
+ghost use Rattle.shape_walk.specs.declared.taken.Read.TheVariants as reads;
 ghost use Rattle.shape_walk.specs.Kept.{spot_after};
 ghost use Rattle.shape_walk.specs.Flaws.{flaw_at};
 ghost use Rattle.shape_walk.specs.Reads.{read_of};
@@ -97,6 +100,43 @@ impl ShapeWalk {
             });
         }
         self.follow(event)
+    }
+
+    /// The spot of the next value, where numbers at it are read as counts and no fault is known. What has come so far
+    /// doesn't tell whether a value comes next.
+    #[inline]
+    pub fn awaits_count(&self) -> Option<Spot>
+        ensures awaits { IfSome result (λ spot. AwaitsCount self.now spot) }
+        ensures only { (spot : Spot) → AwaitsCount self.now spot → result ≡ Some spot }
+    {
+        let spot = self.top.next_spot();
+        let is_count = matches!(
+            spot,
+            Spot::RiskNumber | Spot::WorkloadNumber | Spot::BandLimit
+        );
+        if is_count && self.fault.is_none() {
+            Some(spot)
+        } else {
+            None
+        }
+    }
+
+    /// Takes the next event of a text, which is a number at the spot and whose value is exactly a count of 10^-12: what
+    /// `take` does with each such event. It takes no memory.
+    #[inline]
+    pub fn take_count(&mut self, at: u64, spot: Spot)
+        requires { AwaitsCount self.old spot }
+        ensures stands { (limits : Sizes) (es : List json.Event) (token : List ℕ) (count : ℤ) → fixed token ≡ Some (count, false) → StandsAfter limits self.old es
+            → StandsAfter limits self.new (es ++ json.Event.number at token ∷ []) }
+        ensures spot { (limits : Sizes) (es : List json.Event) (token : List ℕ) → StandsAfter limits self.old es
+            → spot ≡ spot_after es (json.Event.number at token) }
+        ensures read { (token : List ℕ) (count : ℤ) → fixed token ≡ Some (count, false)
+            → read_of spot (json.Event.number at token) ≡ reads.Count count false }
+    {
+        self.top.pass();
+        if let Some(flaw) = self.counts.count(&self.limits, spot) {
+            self.fault = Some(Fault { at, flaw });
+        }
     }
 
     /// The first fault so far. Behind all events of a text it is none exactly where the text has no fault of shape, and

@@ -1,7 +1,7 @@
 //! Small texts, with their faults and spots worked out by hand.
 
 use super::*;
-use decimal_json::{Member, Node, TextFault, Tree, read_tree};
+use decimal_json::{Member, Node, Pull, Pulled, TextFault, Tree, read_tree};
 use fixed_num::Fixed;
 use instance_shape::{Known, Which};
 use std::test::Fail;
@@ -197,5 +197,65 @@ fn spots_of_all_events(rt: HostRuntime) -> Result<(), Fail> {
         spots.push(*spot)?;
     }
     assert_eq!(rt; spots.as_slice(), want.as_slice());
+    Ok(())
+}
+
+/// A walk over the events that the first bytes of a text tell.
+fn walk_along(alloc: Global, limits: &Limits, bytes: &[u8]) -> Result<ShapeWalk, TextFault> {
+    let mut walk = ShapeWalk::make(alloc, limits);
+    let mut told = Vec::new(alloc);
+    let mut pull = Pull::make(alloc)?;
+    pull.push(bytes)?;
+    for _ in 0..100 {
+        match pull.next_event()? {
+            Pulled::Event(event) => tell(&mut walk, &mut told, event)?,
+            Pulled::More | Pulled::Done => return Ok(walk),
+        }
+    }
+    Ok(walk)
+}
+
+#[test]
+fn where_counts_are_awaited(rt: HostRuntime) -> Result<(), Fail> {
+    let table: [(&[u8], Option<Spot>); 6] = [
+        (b"{\"Resources\":{\"c\":{\"max\":[", Some(Spot::BandLimit)),
+        (
+            b"{\"Interventions\":{\"I\":{\"workload\":{\"c\":{\"1\":{\"1\":",
+            Some(Spot::WorkloadNumber),
+        ),
+        (
+            b"{\"Interventions\":{\"I\":{\"risk\":{\"1\":{\"1\":[",
+            Some(Spot::RiskNumber),
+        ),
+        (b"{\"Interventions\":{\"I\":{\"risk\":{\"1\":{", None),
+        (b"{\"T\":", None),
+        // behind a fault
+        (b"{\"T\":0,\"Resources\":{\"c\":{\"max\":[", None),
+    ];
+    for (bytes, want) in table {
+        let walk = walk_along(rt.alloc(), &Limits::standard(), bytes)?;
+        assert_eq!(rt; walk.awaits_count(), want);
+    }
+    Ok(())
+}
+
+/// Takes a count, where one is awaited.
+fn take_awaited(walk: &mut ShapeWalk, at: u64) {
+    if let Some(spot) = walk.awaits_count() {
+        walk.take_count(at, spot);
+    }
+}
+
+#[test]
+fn counts_are_taken_up_to_their_limit(rt: HostRuntime) -> Result<(), Fail> {
+    let mut limits = Limits::standard();
+    limits.risk_cells = 1;
+    let bytes = b"{\"Interventions\":{\"I\":{\"risk\":{\"1\":{\"1\":[";
+    let mut walk = walk_along(rt.alloc(), &limits, bytes)?;
+    take_awaited(&mut walk, 41);
+    assert_eq!(rt; walk.fault(), None);
+    take_awaited(&mut walk, 43);
+    assert_eq!(rt; walk.fault(), fault(43, Flaw::Limit(Which::RiskCells)));
+    assert_eq!(rt; walk.awaits_count(), None);
     Ok(())
 }
