@@ -1,0 +1,6 @@
+pub mod LineLemmas
+pub mod LawLemmas
+pub mod ReadLemmas
+pub mod PieceLemmas
+pub mod WrittenLemmas
+pub mod TestLemmas

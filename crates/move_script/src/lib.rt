@@ -1,0 +1,21 @@
+//! Move scripts as text, both ways.
+//!
+//! Contracts see a script as the list of its lines, and a text as its bytes: `IsScript` says which script a text spells,
+//! `HasScriptFault` which fault it has if it spells none, and `moves_text` is the one text that is written for changes.
+#![tactic(auto)]
+
+mod fault;
+mod laws;
+mod line;
+mod read;
+mod script;
+mod write;
+
+pub use fault::ScriptFault;
+pub use laws::texts_read_one_way;
+pub use read::read_script;
+pub use script::Script;
+pub use write::write_moves;
+
+#[cfg(test)]
+mod tests;
