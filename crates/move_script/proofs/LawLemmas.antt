@@ -1,6 +1,5 @@
 -- A text has one script or one first fault.
 use Rattle.std.proofs.Common.{◌≡◌, ◌≢◌, ℕ, ◌-◌, ◌<◌, ⊎_elim, inl, inr, List, [], slice_index_or, Result, Ok, Err, sym, ◌∙◌, ap, subst, arith}
-use Rattle.std.specs.List.{AllPairs}
 use Rattle.std.proofs.lemmas.Bool.{cases_lt}
 use Rattle.std.proofs.lemmas.List.{same_lists, get_or_default}
 use Rattle.text_lines.specs.Lines.{lines_of}
@@ -56,16 +55,16 @@ not_both names text script (UnknownName n) p f = first_not_in_script names text 
 not_both names text script Memory p f = f
 
 -- a text spells one script
-pub one_script : (names : List (List ℕ)) (text : List ℕ) (script other : List ScriptLine) → AllPairs (λ a b. a ≢ b) names → IsScript names text script → IsScript names text other → script ≡ other
-one_script names text script other apart p q =
+pub one_script : (names : List (List ℕ)) (text : List ℕ) (script other : List ScriptLine) → IsScript names text script → IsScript names text other → script ≡ other
+one_script names text script other p q =
     same_lists script other (omega (arith, p.each, q.each)) (λ k d l.
     get_or_default script k d Undo l
-    ∙ spells_once names (slice_index_or (lines_of text) k []) (slice_index_or script k Undo) (slice_index_or other k Undo) apart (p.spelled k l) (q.spelled k (omega (arith, p.each, q.each, l)))
+    ∙ spells_once names (slice_index_or (lines_of text) k []) (slice_index_or script k Undo) (slice_index_or other k Undo) (p.spelled k l) (q.spelled k (omega (arith, p.each, q.each, l)))
     ∙ get_or_default other k Undo d (omega (arith, p.each, q.each, l)))
 
 -- a script that was read is the only answer
-pub read_complete : (names : List (List ℕ)) (text : List ℕ) (result : Result (List ScriptLine) ScriptFault) (read : List ScriptLine) → AllPairs (λ a b. a ≢ b) names → result ≡ Ok read → IsScript names text read → (script : List ScriptLine) → IsScript names text script → Answers result (Ok script)
-read_complete names text result read apart e p script q = inl (e ∙ ap Ok (one_script names text read script apart p q))
+pub read_complete : (names : List (List ℕ)) (text : List ℕ) (result : Result (List ScriptLine) ScriptFault) (read : List ScriptLine) → result ≡ Ok read → IsScript names text read → (script : List ScriptLine) → IsScript names text script → Answers result (Ok script)
+read_complete names text result read e p script q = inl (e ∙ ap Ok (one_script names text read script p q))
 
 pub read_refuses : (names : List (List ℕ)) (text : List ℕ) (result : Result (List ScriptLine) ScriptFault) (read : List ScriptLine) → IsScript names text read → (fault : ScriptFault) → HasScriptFault names text fault → Answers result (Err fault)
 read_refuses names text result read p fault f = absurd (not_both names text read fault p f)

@@ -1,17 +1,17 @@
 -- A line is read in one way.
-use Rattle.std.proofs.Common.{◌≡◌, ◌≢◌, ℕ, ◌+◌, ◌<◌, ◌≤◌, ◌^◌, inl, inr, true, eqb, List, [], ◌∷◌, ◌++◌, Some, Bor, length, take, drop, codes, decimal, slice_index, refl, sym, ◌∙◌, ap, subst, arith}
+use Rattle.std.proofs.Common.{◌≡◌, ◌≢◌, ℕ, ◌+◌, ◌<◌, ◌≤◌, ◌^◌, inl, inr, ⊎_elim, Result, Ok, Err, IfOk, true, eqb, List, [], ◌∷◌, ◌++◌, Some, Bor, length, take, drop, codes, decimal, slice_index, refl, sym, ◌∙◌, ap, subst, arith, rules}
 use Rattle.std.specs.List.{All, AllPairs, Contains}
 use Rattle.std.specs.Cmp.Lexicographic.{pointwise}
+use Rattle.std.proofs.lemmas.Bool.{cases_lt}
 use Rattle.std.proofs.lemmas.Bool.Decides.{Decides-eqb}
 use Rattle.std.proofs.lemmas.Slice.Eq.{strip_prefix_is}
 use Rattle.std.proofs.lemmas.Fmt.{decimal_injective, length-decimal-le}
 use Rattle.std.proofs.lemmas.List.{append_cancel_left}
 use Rattle.std.proofs.lemmas.List.Elements.{Contains-get_or}
 use Rattle.text_lines.proofs.CutLemmas.{cut_once}
-use Rattle.text_lines.proofs.NameLemmas.{same_place}
 use Rattle.plan_moves.specs.declared.script_line.ScriptLine.{ScriptLine}
 use Rattle.plan_moves.specs.declared.script_line.ScriptLine.TheVariants.{Move, Swap, Undo}
-use Rattle.move_script.specs.Spelling.{words_text, IsWord, MovesTo, Exchanges, name_at, Spells}
+use Rattle.move_script.specs.Spelling.{words_text, IsWord, MovesTo, Exchanges, name_at, IsPlace, Spells}
 use Rattle.move_script.specs.declared.fault.ScriptFault.{ScriptFault}
 use Rattle.move_script.specs.declared.fault.ScriptFault.TheVariants.{UnknownName}
 use Rattle.move_script.specs.FirstFault.{Names, IsBadLine, HasUnknownName}
@@ -45,24 +45,39 @@ exchanges_or_undo line a b n e =
     let first : 115 ≡ 117 = ap (λ xs. slice_index xs 0) (sym n.spelled ∙ e) in
     omega (arith, first)
 
+-- a name stands for one place
+same_place : (names : List (List ℕ)) (i j : ℕ) → IsPlace names i → IsPlace names j → name_at names i ≡ name_at names j → i ≡ j
+same_place names i j a b e =
+    ⊎_elim (λ l. absurd (b.first i l e))
+    (λ h. ⊎_elim (λ l. absurd (a.first j l (sym e))) (λ k. omega arith) (cases_lt j i))
+    (cases_lt i j)
+
+-- where no two names are the same, each stands for its place
+pub place_of_apart : (names : List (List ℕ)) (i : ℕ) → AllPairs (λ a b. a ≢ b) names → i < length names → IsPlace names i
+place_of_apart names i apart l = record { within = l; first = λ k below. apart k i [] below l }
+
+pub found_place : (names : List (List ℕ)) (found : Result ℕ ScriptFault) → AllPairs (λ a b. a ≢ b) names → IfOk found (λ i. i < length names) → IfOk found (IsPlace names)
+found_place names (Ok i) apart l = place_of_apart names i apart l
+found_place names (Err fault) apart l = search rules
+
 -- a line spells one line of a script
-pub spells_once : (names : List (List ℕ)) (line : List ℕ) (x y : ScriptLine) → AllPairs (λ a b. a ≢ b) names → Spells names line x → Spells names line y → x ≡ y
-spells_once names line (Move i s) (Move j t) apart p q =
+pub spells_once : (names : List (List ℕ)) (line : List ℕ) (x y : ScriptLine) → Spells names line x → Spells names line y → x ≡ y
+spells_once names line (Move i s) (Move j t) p q =
     let both = moves_once line (name_at names i) (name_at names j) s t p.1 q.1 in
-    let place : i ≡ j = same_place names i j apart p.0 q.0 both.0 in
+    let place : i ≡ j = same_place names i j p.0 q.0 both.0 in
     λ k. Move (place k) (both.1 k)
-spells_once names line (Move i s) (Swap k l) apart p q = absurd (moves_or_exchanges line (name_at names i) (name_at names k) (name_at names l) s p.1 q.2)
-spells_once names line (Move i s) Undo apart p q = absurd (moves_or_undo line (name_at names i) s p.1 q)
-spells_once names line (Swap i j) (Move k s) apart p q = absurd (moves_or_exchanges line (name_at names k) (name_at names i) (name_at names j) s q.1 p.2)
-spells_once names line (Swap i j) (Swap k l) apart p q =
+spells_once names line (Move i s) (Swap k l) p q = absurd (moves_or_exchanges line (name_at names i) (name_at names k) (name_at names l) s p.1 q.2)
+spells_once names line (Move i s) Undo p q = absurd (moves_or_undo line (name_at names i) s p.1 q)
+spells_once names line (Swap i j) (Move k s) p q = absurd (moves_or_exchanges line (name_at names k) (name_at names i) (name_at names j) s q.1 p.2)
+spells_once names line (Swap i j) (Swap k l) p q =
     let both = exchanges_once line (name_at names i) (name_at names j) (name_at names k) (name_at names l) p.2 q.2 in
-    let first : i ≡ k = same_place names i k apart p.0 q.0 both.0 in
-    let second : j ≡ l = same_place names j l apart p.1 q.1 both.1 in
+    let first : i ≡ k = same_place names i k p.0 q.0 both.0 in
+    let second : j ≡ l = same_place names j l p.1 q.1 both.1 in
     λ n. Swap (first n) (second n)
-spells_once names line (Swap i j) Undo apart p q = absurd (exchanges_or_undo line (name_at names i) (name_at names j) p.2 q)
-spells_once names line Undo (Move i s) apart p q = absurd (moves_or_undo line (name_at names i) s q.1 p)
-spells_once names line Undo (Swap i j) apart p q = absurd (exchanges_or_undo line (name_at names i) (name_at names j) q.2 p)
-spells_once names line Undo Undo apart p q = λ k. Undo
+spells_once names line (Swap i j) Undo p q = absurd (exchanges_or_undo line (name_at names i) (name_at names j) p.2 q)
+spells_once names line Undo (Move i s) p q = absurd (moves_or_undo line (name_at names i) s q.1 p)
+spells_once names line Undo (Swap i j) p q = absurd (exchanges_or_undo line (name_at names i) (name_at names j) q.2 p)
+spells_once names line Undo Undo p q = λ k. Undo
 
 -- a line with a fault spells nothing
 pub bad_excludes : (names : List (List ℕ)) (line : List ℕ) → IsBadLine line → (x : ScriptLine) → Spells names line x → ⊥
@@ -77,12 +92,12 @@ pub unknown_excludes : (names : List (List ℕ)) (line : List ℕ) → HasUnknow
 unknown_excludes names line u x p = excludes u.name x u.named u.unknown p
   where
     excludes : (name : List ℕ) (x : ScriptLine) → Names line name → (Contains names name → ⊥) → Spells names line x → ⊥
-    excludes name (Move i s) (inl (t, m)) new p = new (known_place names name i p.0 (moves_once line (name_at names i) name s t p.1 m).0)
+    excludes name (Move i s) (inl (t, m)) new p = new (known_place names name i p.0.within (moves_once line (name_at names i) name s t p.1 m).0)
     excludes name (Move i s) (inr (other, inl n)) new p = moves_or_exchanges line (name_at names i) name other s p.1 n
     excludes name (Move i s) (inr (other, inr n)) new p = moves_or_exchanges line (name_at names i) other name s p.1 n
     excludes name (Swap i j) (inl (t, m)) new p = moves_or_exchanges line name (name_at names i) (name_at names j) t m p.2
-    excludes name (Swap i j) (inr (other, inl n)) new p = new (known_place names name i p.0 (exchanges_once line (name_at names i) (name_at names j) name other p.2 n).0)
-    excludes name (Swap i j) (inr (other, inr n)) new p = new (known_place names name j p.1 (exchanges_once line (name_at names i) (name_at names j) other name p.2 n).1)
+    excludes name (Swap i j) (inr (other, inl n)) new p = new (known_place names name i p.0.within (exchanges_once line (name_at names i) (name_at names j) name other p.2 n).0)
+    excludes name (Swap i j) (inr (other, inr n)) new p = new (known_place names name j p.1.within (exchanges_once line (name_at names i) (name_at names j) other name p.2 n).1)
     excludes name Undo (inl (t, m)) new p = moves_or_undo line name t m p
     excludes name Undo (inr (other, inl n)) new p = exchanges_or_undo line name other n p
     excludes name Undo (inr (other, inr n)) new p = exchanges_or_undo line other name n p

@@ -70,8 +70,8 @@ refused_first names text script n rest line more Memory r e h = h
 
 -- what a line spells has known names
 spelled_known : (inst : Tables) (line : List ℕ) (x : ScriptLine) → Spells inst.names line x → NamesKnown inst x
-spelled_known inst line (Move i s) p = p.0
-spelled_known inst line (Swap i j) p = (p.0, p.1)
+spelled_known inst line (Move i s) p = p.0.within
+spelled_known inst line (Swap i j) p = (p.0.within, p.1.within)
 spelled_known inst line Undo p = search rules
 
 pub script_known : (inst : Tables) (text : List ℕ) (script : List ScriptLine) → IsScript inst.names text script → All (NamesKnown inst) script

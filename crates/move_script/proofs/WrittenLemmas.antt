@@ -1,6 +1,6 @@
 -- The text that is written for changes spells them.
 use Rattle.std.proofs.Common.{◌≡◌, ◌≢◌, ℕ, ◌^◌, ◌<◌, ◌≤◌, List, [], ◌∷◌, ◌++◌, length, map, get_or, codes, decimal, slice_index_or, refl, sym, ◌∙◌, ap, subst, arith, append_assoc}
-use Rattle.std.specs.List.{All}
+use Rattle.std.specs.List.{All, AllPairs}
 use Rattle.std.specs.Char.{digit_value}
 use Rattle.std.proofs.lemmas.Fmt.{decimal_is_IsNumeral}
 use Rattle.std.proofs.lemmas.List.{length-map, get_or-map}
@@ -14,6 +14,7 @@ use Rattle.plan_moves.specs.Scripts.{NamesKnown, line_of}
 use Rattle.plan_moves.specs.declared.change.Change.{Change}
 use Rattle.plan_moves.specs.declared.change.Change.TheVariants.{Move, Swap}
 use Rattle.plan_moves.specs.declared.script_line.ScriptLine.TheVariants.{Undo}
+use Rattle.move_script.proofs.LineLemmas.{place_of_apart}
 use Rattle.move_script.specs.Spelling.{words_text, IsWord, name_at, Spells, IsScript, change_line, moves_text, HasSmallStart}
 
 -- a byte of a written line is no control character
@@ -49,9 +50,9 @@ line_above inst (Swap i j) shaped known small =
     words_above (codes "swap ") (name_at inst.names i) (name_at inst.names j) (five_above 115 119 97 112 32 (omega arith) (omega arith) (omega arith) (omega arith) (omega arith)) (name_above inst.names i shaped known.0) (name_above inst.names j shaped known.1)
 
 -- a written line spells its change
-line_spells : (inst : Tables) (change : Change) → All IsName inst.names → NamesKnown inst (line_of change) → HasSmallStart change → Spells inst.names (change_line inst.names change) (line_of change)
-line_spells inst (Move i s) shaped known small = (known, record { spelled = refl; word = name_word inst.names i shaped known; small = small })
-line_spells inst (Swap i j) shaped known small = (known.0, known.1, record { spelled = refl; word = name_word inst.names i shaped known.0; other_word = name_word inst.names j shaped known.1 })
+line_spells : (inst : Tables) (change : Change) → All IsName inst.names → AllPairs (λ a b. a ≢ b) inst.names → NamesKnown inst (line_of change) → HasSmallStart change → Spells inst.names (change_line inst.names change) (line_of change)
+line_spells inst (Move i s) shaped apart known small = (place_of_apart inst.names i apart known, record { spelled = refl; word = name_word inst.names i shaped known; small = small })
+line_spells inst (Swap i j) shaped apart known small = (place_of_apart inst.names i apart known.0, place_of_apart inst.names j apart known.1, record { spelled = refl; word = name_word inst.names i shaped known.0; other_word = name_word inst.names j shaped known.1 })
 
 -- the lines that are written
 lines_of-moves_text : (inst : Tables) (changes : List Change) → All IsName inst.names → All (λ change. NamesKnown inst (line_of change)) changes → All HasSmallStart changes → lines_of (moves_text inst.names changes) ≡ map (change_line inst.names) changes
@@ -76,5 +77,5 @@ moves_text_spells limit inst changes are known small =
           let change : Change = get_or changes k none in
           let line : slice_index_or (lines_of text) k [] ≡ change_line inst.names change = ap (λ xs. slice_index_or xs k []) written ∙ get_or-map (change_line inst.names) changes k none [] within in
           let read : slice_index_or (map line_of changes) k Undo ≡ line_of change = get_or-map line_of changes k none Undo within in
-          subst (Spells inst.names (slice_index_or (lines_of text) k [])) (sym read) (subst (λ x. Spells inst.names x (line_of change)) (sym line) (line_spells inst change are.shaped (known k none within) (small k none within)));
+          subst (Spells inst.names (slice_index_or (lines_of text) k [])) (sym read) (subst (λ x. Spells inst.names x (line_of change)) (sym line) (line_spells inst change are.shaped are.apart (known k none within) (small k none within)));
     }

@@ -33,10 +33,15 @@ pub record Exchanges (line name other : List ℕ) : Type 0 where
 abbrev pub name_at : List (List ℕ) → ℕ → List ℕ
 name_at names i = slice_index_or names i []
 
+-- the name at place i stands for i: no earlier place has the same name, as is so at each place of an instance
+pub record IsPlace (names : List (List ℕ)) (i : ℕ) : Type 0 where
+  pub within : i < length names
+  pub first : (k : ℕ) → k < i → name_at names k ≢ name_at names i
+
 -- the text of a line spells the line, over these names
 abbrev pub Spells : List (List ℕ) → List ℕ → ScriptLine → Type 0
-Spells names text (Move i s) = (i < length names) × MovesTo text (name_at names i) s
-Spells names text (Swap i j) = (i < length names) × (j < length names) × Exchanges text (name_at names i) (name_at names j)
+Spells names text (Move i s) = IsPlace names i × MovesTo text (name_at names i) s
+Spells names text (Swap i j) = IsPlace names i × IsPlace names j × Exchanges text (name_at names i) (name_at names j)
 Spells names text Undo = text ≡ codes "undo"
 
 -- the text spells the script: line by line

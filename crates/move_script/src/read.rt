@@ -1,8 +1,8 @@
 // A script is read from its text.
-ghost use Rattle.std.specs.Prelude.{◌≡◌, ◌≢◌, ◌<◌, [], List, Ok, Err, length, IfOk, IfErr, All, Contains, slice_index_or};
+ghost use Rattle.std.specs.Prelude.{◌≡◌, ◌≢◌, [], List, Ok, Err, IfOk, IfErr, All, Contains, slice_index_or};
 ghost use Rattle.plan_moves.specs.Scripts.{NamesKnown};
 ghost use Rattle.plan_moves.specs.declared.script_line.ScriptLine.{ScriptLine};
-ghost use Rattle.move_script.specs.Spelling.{IsScript, Spells};
+ghost use Rattle.move_script.specs.Spelling.{IsPlace, IsScript, Spells};
 ghost use Rattle.move_script.specs.FirstFault.{HasScriptFault, Answers};
 ghost use Rattle.move_script.specs.Steps.{Refuses};
 
@@ -28,7 +28,6 @@ pub fn read_script(alloc: Global, inst: &Instance, bytes: &[u8]) -> Result<Scrip
     // Each name that is read is an intervention's.
     ensures known { IfOk result (All (NamesKnown inst.now)) }
 {
-    inst.fits();
     let lines = read_lines(alloc, inst, bytes)?;
     Ok(Script::from_vec(lines))
 }
@@ -72,9 +71,10 @@ fn read_line(inst: &Instance, line: &[u8], n: u64) -> Result<ScriptLine, ScriptF
 
 // The number of the intervention that line `n` names.
 fn number_of(inst: &Instance, name: &[u8], n: u64) -> Result<u32, ScriptFault>
-    ensures place { IfOk result (λ i. i < length inst.now.names) }
+    ensures place { IfOk result (IsPlace inst.now.names) }
     ensures name { IfOk result (λ i. slice_index_or inst.now.names i [] ≡ name.now) }
     ensures err { IfErr result (λ fault. (fault ≡ ScriptFault.UnknownName n) × (Contains inst.now.names name.now → ⊥)) }
 {
+    inst.fits();
     find_name(inst, name).ok_or(ScriptFault::UnknownName { n })
 }

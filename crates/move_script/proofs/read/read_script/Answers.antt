@@ -18,7 +18,7 @@ returns-in_err-lines-clause-refused c =
 
 pub returns-clause-complete : goal.returns-clause-complete
 returns-clause-complete c =
-    read_complete c.args.inst.now.names c.args.bytes.now _ c.from_vec.result c.fits.ensures.names.apart refl (subst (IsScript c.args.inst.now.names c.args.bytes.now) (sym c.from_vec.ensures) c.in_ok-lines.ensures.ok)
+    read_complete c.args.inst.now.names c.args.bytes.now _ c.from_vec.result refl (subst (IsScript c.args.inst.now.names c.args.bytes.now) (sym c.from_vec.ensures) c.in_ok-lines.ensures.ok)
 
 pub returns-clause-refused : goal.returns-clause-refused
 returns-clause-refused c =
