@@ -4,3 +4,4 @@ pub mod ReadLemmas
 pub mod PieceLemmas
 pub mod WrittenLemmas
 pub mod TestLemmas
+pub mod ReplayLemmas

@@ -1,3 +1,5 @@
 pub mod Spelling
 pub mod FirstFault
 pub mod Steps
+pub mod Replays
+pub mod LineFaults
