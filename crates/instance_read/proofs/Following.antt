@@ -1,9 +1,11 @@
 -- What is known of the events that are taken, with one event more.
 use Rattle.std.proofs.Common.{◌≡◌, ◌≢◌, ◌<◌, ℕ, ◌+◌, Bool, true, false, List, [], ◌∷◌, ◌++◌, length, take, Option, Some, None, refl, sym, ◌∙◌, ap, subst, arith, append-nil}
-use Rattle.std.specs.Prelude.{slice_get, Result, Ok, Err, IfOk, OnOk}
+use Rattle.std.specs.Prelude.{ℤ, slice_get, Result, Ok, Err, IfOk, OnOk}
 use Rattle.std.specs.declared.alloc.AllocError.{AllocError}
 use Rattle.std.proofs.lemmas.List.{length_push, take_all}
 use Rattle.decimal_json.specs.Tree.{Tree, Event, events_of}
+use Rattle.decimal_json.specs.Counts.{IsNextCount}
+use Rattle.decimal_json.specs.Exact.{fixed}
 use Rattle.decimal_json.specs.Grammar.{IsText}
 use Rattle.decimal_json.specs.Prefix.{IsSyntaxFault, IsDepthFault, IsShallow}
 use Rattle.decimal_json.specs.PullViews.{PullView}
@@ -60,6 +62,22 @@ follow_more limits old new walk walk' keeper keeper' bytes e stands next taken h
   taken = taken h.events h.taken;
   first = λ rest root t. one_more (events_of root) h.events e (h.first rest root t) (next (length h.events) h.pulled rest root t);
 }
+
+-- the same of a number of which the value alone is told
+pub follow_count : (limits : Limits) (old new : PullView) (walk walk' : Walk) (keeper keeper' : Keeper) (bytes : List ℕ) (at : ℕ) (count : ℤ)
+    → ((given : ℕ) → Stands old bytes given false → Stands new bytes (given + 1) false)
+    → ((given : ℕ) → Stands old bytes given false → IsNextCount bytes given at count)
+    → ((es : List Event) (token : List ℕ) → fixed token ≡ Some (count, false) → HaveTaken limits walk keeper es → HaveTaken limits walk' keeper' (es ++ Event.number at token ∷ []))
+    → IsFollowing limits old walk keeper bytes → IsFollowing limits new walk' keeper' bytes
+follow_count limits old new walk walk' keeper keeper' bytes at count stands next taken h =
+    let number = next (length h.events) h.pulled in
+    let e = Event.number at number.token in
+    record {
+      events = h.events ++ e ∷ [];
+      pulled = subst (λ (n : ℕ). Stands new bytes n false) (sym (length_push h.events e)) (stands (length h.events) h.pulled);
+      taken = taken h.events number.token number.exact h.taken;
+      first = λ rest root t. one_more (events_of root) h.events e (h.first rest root t) (number.next rest root t);
+    }
 
 -- ---- faults
 

@@ -24,6 +24,27 @@ pub fn take_event(walk: &mut ShapeWalk, keeper: &mut Keeper, event: Event) -> Re
     keeper.take(taken.spot, event, &taken.read)
 }
 
+/// Takes the numbers that come next, as long as they are short and stand where counts are awaited: the way of most of
+/// the numbers of a file, without an event.
+fn take_counts(pull: &mut Pull, walk: &mut ShapeWalk, keeper: &mut Keeper) -> Result<(), AllocError>
+    requires { IsUnfinished pull.old }
+    ensures follows { (limits : Sizes) (bytes : List ℕ) → IsFollowing limits pull.old walk.old keeper.old bytes
+        → OnOk result (IsFollowing limits pull.new walk.new keeper.new bytes) }
+    ensures unfinished { IsUnfinished pull.new }
+{
+    'counts: for _ in 0..u64::MAX {
+        let Some(spot) = walk.awaits_count() else {
+            return Ok(());
+        };
+        let Some(number) = pull.next_short() else {
+            return Ok(());
+        };
+        walk.take_count(number.at, spot);
+        keeper.take_count(spot, number.count)?;
+    }
+    Ok(())
+}
+
 /// Takes the events that the bytes tell that have come, up to a fault of the text.
 pub fn take_events(
     pull: &mut Pull,
@@ -36,6 +57,7 @@ pub fn take_events(
     ensures unfinished { IsUnfinished pull.new }
 {
     'events: for _ in 0..u64::MAX {
+        take_counts(pull, walk, keeper)?;
         match pull.next_event() {
             Ok(Pulled::Event(event)) => take_event(walk, keeper, event)?,
             Ok(Pulled::More) => return Ok(None),

@@ -1,6 +1,6 @@
 //! What is kept of a text, event by event.
 
-ghost use Rattle.std.specs.Prelude.{◌≡◌, ◌+◌, ℕ, List, cond, map, string_bytes, IfOk, OnOk};
+ghost use Rattle.std.specs.Prelude.{◌≡◌, ◌+◌, ℕ, List, cond, false, map, string_bytes, IfOk, OnOk};
 ghost use Rattle.decimal_json.specs.Tree as json;
 ghost use Rattle.decimal_json.specs.Events.{event_view};
 ghost use Rattle.instance_rows.specs.FileRows as file;
@@ -83,6 +83,15 @@ impl Keeper {
             Event::Finish { .. } => self.take_finish(spot),
             Event::Begin { .. } | Event::Null { .. } | Event::Bool { .. } => Ok(()),
         }
+    }
+
+    /// Takes the next event of a text, which is a number at the spot and whose value is exactly the count.
+    #[inline]
+    pub fn take_count(&mut self, spot: Spot, count: Fixed) -> Result<(), AllocError>
+        ensures { (at : ℕ) (token : List ℕ) → read_of spot (json.Event.number at token) ≡ reads.Count count false
+            → OnOk result (kept_of self.new ≡ spec.keep spot (json.Event.number at token) (kept_of self.old)) }
+    {
+        self.add_count(spot, count, false)
     }
 
     /// Counts a number that is rounded.
