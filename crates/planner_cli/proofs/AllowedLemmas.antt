@@ -1,82 +1,119 @@
 -- Which statuses the words and the files allow.
-use Rattle.std.proofs.Common.{◌≡◌, ℕ, pos, ◌^◌, ◌<◌, ◌⊎◌, inl, inr, List, [], ◌∷◌, length, Option, Some, None, refl, sym, ◌∙◌, ap, subst, arith}
+use Rattle.std.proofs.Common.{◌≡◌, ℕ, ◌⊎◌, inl, inr, List, [], ◌∷◌, length, Option, Some, None, refl, sym, ◌∙◌, subst, arith}
+use Rattle.std.specs.Prelude.{IsSome}
 use Rattle.plan_desk.specs.Desk.{Shown}
-use Rattle.plan_desk.specs.Contents.{Says, TellsSuch, WhereToldHolds}
-use Rattle.plan_text.specs.declared.fault.PlanFault.{PlanFault}
-use Rattle.plan_text.proofs.LawLemmas.{one_plan, not_both}
+use Rattle.plan_desk.specs.Contents.{TellsSuch, WhereToldHolds}
+use Rattle.plan_moves.specs.declared.script_line.ScriptLine.{ScriptLine}
+use Rattle.plan_moves.specs.Scripts.{Succeeds, FailsAt}
+use Rattle.move_script.specs.Replays.{FailsByStart, FailsByUndo}
 use Rattle.instance_model.specs.Tables.{Tables}
-use Rattle.instance_model.specs.Rules.{KeepsRules}
-use Rattle.instance_model.specs.Limits.{standard_limits}
-use Rattle.instance_shape.specs.FileFaults.{FileFault}
-use Rattle.instance_shape.proofs.OneAnswer.{one_answer}
-use Rattle.planner_cli.specs.Words.{Evaluation, evaluation}
-use Rattle.planner_cli.specs.Lines.{long_instance_line, instance_fault_line, long_plan_line}
-use Rattle.planner_cli.specs.Answers.{Takes, IsLongInstance, IsFaulty, Spells, HasFault, Judges, AnswersPlan}
+use Rattle.instance_model.specs.Rules.{first_start_rule, KeepsRules}
+use Rattle.planner_cli.specs.Words.{Source, Command, evaluate, replay, source_of, plan_of}
+use Rattle.planner_cli.specs.Answers.{Takes, IsLongInstance, Spells, IsLongPlan, SpellsScript, IsLongScript, IsOpeningOf, Judges, Replays}
 use Rattle.planner_cli.specs.Answers.Judges.{feasible, infeasible}
-use Rattle.planner_cli.specs.Answers.AnswersPlan.{long, faulty, judged}
-use Rattle.planner_cli.specs.Answers.Answers.{long_instance as long_answer, faulty_instance as faulty_answer, taken}
-use Rattle.planner_cli.specs.Outcome.{Asks, ReadsInstance, ReadsFaulty, ReadsBytes, IsDue, Ends, IsOneOf, TellsMissing, TellsInstance, TellsPlan, TellsNoInstance, TellsNoPlan, TellsBoth, IsRefusedInstance, IsRefusedPlan, IsKeptPlan, IsBrokenPlan, NoFault, WantsMemory, Answered}
-use Rattle.planner_cli.specs.Outcome.IsDue.{faulty_words, unread_instance, long_instance, faulty_instance, unread_plan, long_plan, answered, no_memory}
-use Rattle.planner_cli.specs.Outcome.Ends.{said, unsaid}
+use Rattle.planner_cli.specs.Answers.Replays.{broken_start, ended, not_allowed, nothing_to_undo}
+use Rattle.planner_cli.specs.Reading.{ReadsBytes, ReadsInstance, ReadsPlan, ReadsScript, RefusesInstance, RefusesPlan, RefusesScript}
+use Rattle.planner_cli.specs.Reading.RefusesInstance.{unread_instance, long_instance, faulty_instance}
+use Rattle.planner_cli.specs.Reading.RefusesPlan.{unread_plan, long_plan, faulty_plan}
+use Rattle.planner_cli.specs.Reading.RefusesScript.{unread_script, long_script, faulty_script}
+use Rattle.planner_cli.specs.Due.{OnInstance, OnPlan, OnScript, IsDueFor, Asks, Ends}
+use Rattle.planner_cli.specs.Outcome.{IsOneOf, TellsMissing, TellsInstance, TellsPlan, TellsScript, ScriptedPlan, TellsScripted, IsRefusedInstance, IsRefusedPlan, IsRefusedScript}
 use Rattle.planner_cli.proofs.ToldLemmas.{told_both, told_missing}
-use Rattle.planner_cli.proofs.DueLemmas.{rose_before}
-
--- ---- the words
-
-no_asking : (words : List (List ℕ)) (files : Evaluation) → evaluation words ≡ None → Asks words files → ⊥
-no_asking words files none asks = apart (sym none ∙ asks)
-  where
-    apart : None ≡ Some files → ⊥
-    apart e = cc
-
-same_files : (words : List (List ℕ)) (a b : Evaluation) → Asks words a → Asks words b → a ≡ b
-same_files words a b x y = let e : Some a ≡ Some b = sym x ∙ y in cc
-
--- ---- what is read is what is told
+use Rattle.planner_cli.proofs.AnswerLemmas.{same_instance, sound_instance, short_instance, same_plan, sound_plan, short_plan, same_script, sound_script, short_script, same_opening, no_broken_start, no_failure}
+use Rattle.planner_cli.proofs.StatusLemmas.{ends_of}
 
 -- what is told of the bytes of a file holds of the bytes that were read
-read_such : (s : Shown) (name bytes : List ℕ) (P : List ℕ → Type 0) → ReadsBytes name s bytes → TellsSuch s name P → P bytes
-read_such s name bytes P reads tells =
-    let both = told_both s name P (λ held. held ≡ bytes) tells reads in subst P both.2 both.1
+pub read_such : (s : Shown) (name bytes : List ℕ) (P : List ℕ → Type 0) → ReadsBytes name s bytes → TellsSuch s name P → P bytes
+read_such s name bytes P reads tells = let both = told_both s name P (λ held. held ≡ bytes) tells reads in subst P both.2 both.1
 
--- an instance that was read is the one that the bytes stand for
-same_instance : (s : Shown) (files : Evaluation) (inst other : Tables) → ReadsInstance files s inst → TellsSuch s files.instance (λ held. Takes files.slack held other) → other ≡ inst
-same_instance s files inst other reads tells = reads.only other (read_such s files.instance reads.bytes (λ held. Takes files.slack held other) reads.held tells)
+-- ---- the instance file
 
--- bytes that stand for an instance have no fault
-sound : (slack : ℕ) (bytes : List ℕ) (inst : Tables) (fault : FileFault) → Takes slack bytes inst → IsFaulty bytes fault → ⊥
-sound slack bytes inst fault takes f = (one_answer standard_limits (pos slack) bytes).apart inst fault takes.defines f.has
+missing_instance : (source : Source) (old new : Shown) (Next : Tables → ℕ → List ℕ → Type 0) (s : ℕ) (t : List ℕ) → OnInstance source old new Next s t → TellsMissing old source.instance → s ≡ 7
+missing_instance source old new Next s t (inl (unread_instance fails)) missing = refl
+missing_instance source old new Next s t (inl (long_instance held)) missing = absurd (told_missing old source.instance IsLongInstance missing held)
+missing_instance source old new Next s t (inl (faulty_instance fault reads)) missing = absurd (told_missing old source.instance (λ held. held ≡ reads.bytes) missing reads.held)
+missing_instance source old new Next s t (inr (inst, reads, due)) missing = absurd (told_missing old source.instance (λ held. held ≡ reads.bytes) missing reads.held)
 
-short : (slack : ℕ) (bytes : List ℕ) (inst : Tables) → Takes slack bytes inst → IsLongInstance bytes → ⊥
-short slack bytes inst takes l = omega (arith, takes.within, l)
+refused_bytes : (slack : ℕ) (bytes : List ℕ) (inst : Tables) → Takes slack bytes inst → IsRefusedInstance bytes → ⊥
+refused_bytes slack bytes inst takes (inl long) = short_instance slack bytes inst takes long
+refused_bytes slack bytes inst takes (inr (fault, faulty)) = sound_instance slack bytes inst fault takes faulty
 
-taken_or_refused : (slack : ℕ) (bytes : List ℕ) (inst : Tables) → Takes slack bytes inst → IsRefusedInstance bytes → ⊥
-taken_or_refused slack bytes inst takes (inl l) = short slack bytes inst takes l
-taken_or_refused slack bytes inst takes (inr (fault, f)) = sound slack bytes inst fault takes f
+refused_instance : (source : Source) (old new : Shown) (Next : Tables → ℕ → List ℕ → Type 0) (s : ℕ) (t : List ℕ) → OnInstance source old new Next s t → TellsSuch old source.instance IsRefusedInstance → (s ≡ 3) ⊎ (s ≡ 7)
+refused_instance source old new Next s t (inl (unread_instance fails)) tells = inr refl
+refused_instance source old new Next s t (inl (long_instance held)) tells = inl refl
+refused_instance source old new Next s t (inl (faulty_instance fault reads)) tells = inl refl
+refused_instance source old new Next s t (inr (inst, reads, due)) tells =
+    absurd (refused_bytes source.slack reads.bytes inst reads.takes (read_such old source.instance reads.bytes IsRefusedInstance reads.held tells))
 
--- bytes that are refused were not read as an instance
-not_read : (s : Shown) (files : Evaluation) (inst : Tables) → ReadsInstance files s inst → TellsSuch s files.instance IsRefusedInstance → ⊥
-not_read s files inst reads tells = taken_or_refused files.slack reads.bytes inst reads.takes (read_such s files.instance reads.bytes IsRefusedInstance reads.held tells)
+-- where the bytes stand for an instance, the next thing is due for it
+on_taken : (source : Source) (old new : Shown) (Next : Tables → ℕ → List ℕ → Type 0) (s : ℕ) (t : List ℕ) (inst : Tables) → OnInstance source old new Next s t → TellsInstance old source inst → (s ≡ 7) ⊎ Next inst s t
+on_taken source old new Next s t inst (inl (unread_instance fails)) tells = inl refl
+on_taken source old new Next s t inst (inl (long_instance held)) tells =
+    let both = told_both old source.instance (λ bytes. Takes source.slack bytes inst) IsLongInstance tells held in absurd (short_instance source.slack both.0 inst both.1 both.2)
+on_taken source old new Next s t inst (inl (faulty_instance fault reads)) tells =
+    absurd (sound_instance source.slack reads.bytes inst fault (read_such old source.instance reads.bytes (λ bytes. Takes source.slack bytes inst) reads.held tells) reads.faulty)
+on_taken source old new Next s t inst (inr (other, reads, due)) tells =
+    inr (subst (λ (i : Tables). Next i s t) (sym (reads.only inst (read_such old source.instance reads.bytes (λ bytes. Takes source.slack bytes inst) reads.held tells))) due)
 
--- bytes that are taken are not refused
-not_long_instance : (s : Shown) (files : Evaluation) (inst : Tables) → WhereToldHolds s files.instance IsLongInstance → TellsSuch s files.instance (λ held. Takes files.slack held inst) → ⊥
-not_long_instance s files inst held tells =
-    let both = told_both s files.instance (λ bytes. Takes files.slack bytes inst) IsLongInstance tells held in short files.slack both.0 inst both.1 both.2
+-- ---- the plan file
 
-not_faulty_instance : (s : Shown) (files : Evaluation) (inst : Tables) (fault : FileFault) → ReadsFaulty files.instance s fault → TellsSuch s files.instance (λ held. Takes files.slack held inst) → ⊥
-not_faulty_instance s files inst fault reads tells =
-    sound files.slack reads.bytes inst fault (read_such s files.instance reads.bytes (λ held. Takes files.slack held inst) reads.held tells) reads.faulty
+missing_plan : (name : List ℕ) (inst : Tables) (old new : Shown) (Next : List (Option ℕ) → ℕ → List ℕ → Type 0) (s : ℕ) (t : List ℕ) → OnPlan name inst old new Next s t → TellsMissing old name → s ≡ 7
+missing_plan name inst old new Next s t (inl (unread_plan fails)) missing = refl
+missing_plan name inst old new Next s t (inl (long_plan held)) missing = absurd (told_missing old name IsLongPlan missing held)
+missing_plan name inst old new Next s t (inl (faulty_plan fault reads)) missing = absurd (told_missing old name (λ held. held ≡ reads.bytes) missing reads.held)
+missing_plan name inst old new Next s t (inr (plan, reads, due)) missing = absurd (told_missing old name (λ held. held ≡ reads.bytes) missing reads.held)
 
--- ---- the answer for a plan file
+refused_plan_bytes : (inst : Tables) (bytes : List ℕ) (plan : List (Option ℕ)) → Spells inst bytes plan → IsRefusedPlan inst bytes → ⊥
+refused_plan_bytes inst bytes plan spells (inl long) = short_plan inst bytes plan spells long
+refused_plan_bytes inst bytes plan spells (inr (fault, has)) = sound_plan inst bytes plan fault spells has
 
-not_long : (inst : Tables) (bytes : List ℕ) (plan : List (Option ℕ)) → Spells inst bytes plan → 2 ^ 24 < length bytes → ⊥
-not_long inst bytes plan spells l = omega (arith, spells.within, l)
+refused_plan : (name : List ℕ) (inst : Tables) (old new : Shown) (Next : List (Option ℕ) → ℕ → List ℕ → Type 0) (s : ℕ) (t : List ℕ) → OnPlan name inst old new Next s t → TellsSuch old name (IsRefusedPlan inst) → (s ≡ 4) ⊎ (s ≡ 7)
+refused_plan name inst old new Next s t (inl (unread_plan fails)) tells = inr refl
+refused_plan name inst old new Next s t (inl (long_plan held)) tells = inl refl
+refused_plan name inst old new Next s t (inl (faulty_plan fault reads)) tells = inl refl
+refused_plan name inst old new Next s t (inr (plan, reads, due)) tells =
+    absurd (refused_plan_bytes inst reads.bytes plan reads.spells (read_such old name reads.bytes (IsRefusedPlan inst) reads.held tells))
 
-not_faulty : (inst : Tables) (bytes : List ℕ) (plan : List (Option ℕ)) (fault : PlanFault) → Spells inst bytes plan → HasFault inst bytes fault → ⊥
-not_faulty inst bytes plan fault spells has = not_both inst.names bytes plan fault spells.plan_is has.fault_is
+-- where the bytes spell a plan, the next thing is due for it
+on_spelled : (name : List ℕ) (inst : Tables) (old new : Shown) (Next : List (Option ℕ) → ℕ → List ℕ → Type 0) (s : ℕ) (t : List ℕ) (plan : List (Option ℕ)) → OnPlan name inst old new Next s t → TellsPlan old name inst plan → (s ≡ 7) ⊎ Next plan s t
+on_spelled name inst old new Next s t plan (inl (unread_plan fails)) tells = inl refl
+on_spelled name inst old new Next s t plan (inl (long_plan held)) tells =
+    let both = told_both old name (λ bytes. Spells inst bytes plan) IsLongPlan tells held in absurd (short_plan inst both.0 plan both.1 both.2)
+on_spelled name inst old new Next s t plan (inl (faulty_plan fault reads)) tells =
+    absurd (sound_plan inst reads.bytes plan fault (read_such old name reads.bytes (λ bytes. Spells inst bytes plan) reads.held tells) reads.has)
+on_spelled name inst old new Next s t plan (inr (other, reads, due)) tells =
+    inr (subst (λ (p : List (Option ℕ)). Next p s t) (same_plan inst reads.bytes other plan reads.spells (read_such old name reads.bytes (λ bytes. Spells inst bytes plan) reads.held tells)) due)
 
-same_plan : (inst : Tables) (bytes : List ℕ) (plan other : List (Option ℕ)) → Spells inst bytes plan → Spells inst bytes other → plan ≡ other
-same_plan inst bytes plan other a b = one_plan inst.names bytes plan other a.plan_is b.plan_is
+-- ---- the script file
+
+missing_script : (name : List ℕ) (inst : Tables) (old new : Shown) (Next : List ScriptLine → ℕ → List ℕ → Type 0) (s : ℕ) (t : List ℕ) → OnScript name inst old new Next s t → TellsMissing old name → s ≡ 7
+missing_script name inst old new Next s t (inl (unread_script fails)) missing = refl
+missing_script name inst old new Next s t (inl (long_script held)) missing = absurd (told_missing old name IsLongScript missing held)
+missing_script name inst old new Next s t (inl (faulty_script fault reads)) missing = absurd (told_missing old name (λ held. held ≡ reads.bytes) missing reads.held)
+missing_script name inst old new Next s t (inr (script, reads, due)) missing = absurd (told_missing old name (λ held. held ≡ reads.bytes) missing reads.held)
+
+refused_script_bytes : (inst : Tables) (bytes : List ℕ) (script : List ScriptLine) → SpellsScript inst bytes script → IsRefusedScript inst bytes → ⊥
+refused_script_bytes inst bytes script spells (inl long) = short_script inst bytes script spells long
+refused_script_bytes inst bytes script spells (inr (fault, has)) = sound_script inst bytes script fault spells has
+
+refused_script : (name : List ℕ) (inst : Tables) (old new : Shown) (Next : List ScriptLine → ℕ → List ℕ → Type 0) (s : ℕ) (t : List ℕ) → OnScript name inst old new Next s t → TellsSuch old name (IsRefusedScript inst) → (s ≡ 6) ⊎ (s ≡ 7)
+refused_script name inst old new Next s t (inl (unread_script fails)) tells = inr refl
+refused_script name inst old new Next s t (inl (long_script held)) tells = inl refl
+refused_script name inst old new Next s t (inl (faulty_script fault reads)) tells = inl refl
+refused_script name inst old new Next s t (inr (script, reads, due)) tells =
+    absurd (refused_script_bytes inst reads.bytes script reads.spells (read_such old name reads.bytes (IsRefusedScript inst) reads.held tells))
+
+-- where the bytes spell a script, the next thing is due for it
+on_script : (name : List ℕ) (inst : Tables) (old new : Shown) (Next : List ScriptLine → ℕ → List ℕ → Type 0) (s : ℕ) (t : List ℕ) (script : List ScriptLine) → OnScript name inst old new Next s t → TellsScript old name inst script → (s ≡ 7) ⊎ Next script s t
+on_script name inst old new Next s t script (inl (unread_script fails)) tells = inl refl
+on_script name inst old new Next s t script (inl (long_script held)) tells =
+    let both = told_both old name (λ bytes. SpellsScript inst bytes script) IsLongScript tells held in absurd (short_script inst both.0 script both.1 both.2)
+on_script name inst old new Next s t script (inl (faulty_script fault reads)) tells =
+    absurd (sound_script inst reads.bytes script fault (read_such old name reads.bytes (λ bytes. SpellsScript inst bytes script) reads.held tells) reads.has)
+on_script name inst old new Next s t script (inr (other, reads, due)) tells =
+    inr (subst (λ (l : List ScriptLine). Next l s t) (same_script inst reads.bytes other script reads.spells (read_such old name reads.bytes (λ bytes. SpellsScript inst bytes script) reads.held tells)) due)
+
+-- ---- a plan or a script that was read
 
 kept_verdict : (inst : Tables) (plan : List (Option ℕ)) (s : ℕ) (t : List ℕ) → KeepsRules inst plan → Judges inst plan s t → s ≡ 0
 kept_verdict inst plan s t keeps (feasible k encloses) = refl
@@ -86,181 +123,183 @@ broken_verdict : (inst : Tables) (plan : List (Option ℕ)) (s : ℕ) (t : List 
 broken_verdict inst plan s t breaks (feasible k encloses) = absurd (breaks k)
 broken_verdict inst plan s t breaks (infeasible rule not_kept first) = refl
 
-kept_answer : (inst : Tables) (bytes : List ℕ) (s : ℕ) (t : List ℕ) → IsKeptPlan inst bytes → AnswersPlan inst bytes s t → s ≡ 0
-kept_answer inst bytes s t kept (long l) = absurd (not_long inst bytes kept.0 kept.1 l)
-kept_answer inst bytes s t kept (faulty fault has) = absurd (not_faulty inst bytes kept.0 fault kept.1 has)
-kept_answer inst bytes s t kept (judged plan status text spells judges) =
-    kept_verdict inst plan status text (subst (λ (p : List (Option ℕ)). KeepsRules inst p) (same_plan inst bytes kept.0 plan kept.1 spells) kept.2) judges
+some_rule : {A : Type 0} (o : Option A) → IsSome o → (x : A) × (o ≡ Some x)
+some_rule (Some x) some = (x, refl)
+some_rule None some = absurd (cc)
 
-broken_answer : (inst : Tables) (bytes : List ℕ) (s : ℕ) (t : List ℕ) → IsBrokenPlan inst bytes → AnswersPlan inst bytes s t → s ≡ 1
-broken_answer inst bytes s t broken (long l) = absurd (not_long inst bytes broken.0 broken.1 l)
-broken_answer inst bytes s t broken (faulty fault has) = absurd (not_faulty inst bytes broken.0 fault broken.1 has)
-broken_answer inst bytes s t broken (judged plan status text spells judges) =
-    broken_verdict inst plan status text (subst (λ (p : List (Option ℕ)). KeepsRules inst p → ⊥) (same_plan inst bytes broken.0 plan broken.1 spells) broken.2) judges
+no_opening : (inst : Tables) (plan : List (Option ℕ)) (opening : List ℕ) → IsSome (first_start_rule inst plan) → IsOpeningOf inst plan opening → ⊥
+no_opening inst plan opening some opens = let found = some_rule (first_start_rule inst plan) some in no_broken_start inst plan opening found.0 opens found.1
 
-not_spelled : (inst : Tables) (bytes : List ℕ) (plan : List (Option ℕ)) → IsRefusedPlan inst bytes → Spells inst bytes plan → ⊥
-not_spelled inst bytes plan (inl l) spells = not_long inst bytes plan spells l
-not_spelled inst bytes plan (inr (fault, has)) spells = not_faulty inst bytes plan fault spells has
+broken_opening : (inst : Tables) (plan : List (Option ℕ)) (script : List ScriptLine) (s : ℕ) (t : List ℕ) → IsSome (first_start_rule inst plan) → Replays inst plan script s t → s ≡ 1
+broken_opening inst plan script s t some (broken_start rule first) = refl
+broken_opening inst plan script s t some (ended opening opens done) = absurd (no_opening inst plan opening some opens)
+broken_opening inst plan script s t some (not_allowed opening n opens fails) = absurd (no_opening inst plan opening some opens)
+broken_opening inst plan script s t some (nothing_to_undo opening n opens fails) = absurd (no_opening inst plan opening some opens)
 
-refused_answer : (inst : Tables) (bytes : List ℕ) (s : ℕ) (t : List ℕ) → IsRefusedPlan inst bytes → AnswersPlan inst bytes s t → s ≡ 4
-refused_answer inst bytes s t refused (long l) = refl
-refused_answer inst bytes s t refused (faulty fault has) = refl
-refused_answer inst bytes s t refused (judged plan status text spells judges) = absurd (not_spelled inst bytes plan refused spells)
+done_script : (inst : Tables) (plan : List (Option ℕ)) (script : List ScriptLine) (s : ℕ) (t : List ℕ) (opening : List ℕ) → IsOpeningOf inst plan opening → Succeeds inst opening script → Replays inst plan script s t → s ≡ 0
+done_script inst plan script s t opening opens done (broken_start rule first) = absurd (no_broken_start inst plan opening rule opens first)
+done_script inst plan script s t opening opens done (ended other also all) = refl
+done_script inst plan script s t opening opens done (not_allowed other n also fails) =
+    absurd (no_failure inst opening script n done (subst (λ o. FailsByStart inst o script n) (same_opening inst plan other opening also opens) fails).fails)
+done_script inst plan script s t opening opens done (nothing_to_undo other n also fails) =
+    absurd (no_failure inst opening script n done (subst (λ o. FailsByUndo inst o script n) (same_opening inst plan other opening also opens) fails).fails)
 
--- ---- the words are not in the grammar
+failing_line : (inst : Tables) (plan : List (Option ℕ)) (script : List ScriptLine) (s : ℕ) (t : List ℕ) (opening : List ℕ) (n : ℕ) → IsOpeningOf inst plan opening → FailsAt inst opening script n → Replays inst plan script s t → s ≡ 6
+failing_line inst plan script s t opening n opens fails (broken_start rule first) = absurd (no_broken_start inst plan opening rule opens first)
+failing_line inst plan script s t opening n opens fails (ended other also done) =
+    absurd (no_failure inst opening script n (subst (λ o. Succeeds inst o script) (same_opening inst plan other opening also opens) done) fails)
+failing_line inst plan script s t opening n opens fails (not_allowed other m also more) = refl
+failing_line inst plan script s t opening n opens fails (nothing_to_undo other m also more) = refl
 
-no_words_due : (words : List (List ℕ)) (old new : Shown) (s : ℕ) (t : List ℕ) → IsDue words old new s t → evaluation words ≡ None → IsOneOf (2 ∷ 8 ∷ []) s
-no_words_due words old new s t (faulty_words e) none = inl refl
-no_words_due words old new s t (unread_instance files asks fails) none = absurd (no_asking words files none asks)
-no_words_due words old new s t (long_instance files asks held) none = absurd (no_asking words files none asks)
-no_words_due words old new s t (faulty_instance files fault asks reads) none = absurd (no_asking words files none asks)
-no_words_due words old new s t (unread_plan files inst asks reads fails) none = absurd (no_asking words files none asks)
-no_words_due words old new s t (long_plan files inst asks reads held) none = absurd (no_asking words files none asks)
-no_words_due words old new s t (answered files inst bytes status text asks reads held answers) none = absurd (no_asking words files none asks)
-no_words_due words old new s t (no_memory files asks) none = absurd (no_asking words files none asks)
+-- ---- a run
 
-pub no_words_ends : (words : List (List ℕ)) (old new : Shown) (n : ℕ) → Ends words old new n → evaluation words ≡ None → IsOneOf (2 ∷ 8 ∷ []) n
-no_words_ends words old new n (said s t due says) none = no_words_due words old new s t due none
-no_words_ends words old new n (unsaid part) none = inr (inl refl)
+-- the status is this one, or a file could not be read
+or_unread : (a s : ℕ) → (s ≡ 7) ⊎ (s ≡ a) → IsOneOf (a ∷ 7 ∷ 8 ∷ 11 ∷ []) s
+or_unread a s (inl e) = inr (inl e)
+or_unread a s (inr e) = inl e
 
--- ---- the instance file is missing
+then_status : (P : Type 0) (a s : ℕ) → (P → s ≡ a) → (s ≡ 7) ⊎ P → (s ≡ 7) ⊎ (s ≡ a)
+then_status P a s f (inl e) = inl e
+then_status P a s f (inr p) = inr (f p)
 
-no_instance_due : (words : List (List ℕ)) (old new : Shown) (s : ℕ) (t : List ℕ) → IsDue words old new s t → (files : Evaluation) → Asks words files → TellsMissing old files.instance → IsOneOf (7 ∷ 8 ∷ 11 ∷ []) s
-no_instance_due words old new s t (faulty_words none) files asks missing = absurd (no_asking words files none asks)
-no_instance_due words old new s t (unread_instance f a fails) files asks missing = inl refl
-no_instance_due words old new s t (long_instance f a held) files asks missing =
-    let e = same_files words f files a asks in absurd (told_missing old files.instance IsLongInstance missing (subst (λ (x : Evaluation). WhereToldHolds old x.instance IsLongInstance) e held))
-no_instance_due words old new s t (faulty_instance f fault a reads) files asks missing =
-    let e = same_files words f files a asks in absurd (told_missing old files.instance (λ held. held ≡ reads.bytes) missing (subst (λ (x : Evaluation). WhereToldHolds old x.instance (λ held. held ≡ reads.bytes)) e reads.held))
-no_instance_due words old new s t (unread_plan f inst a reads fails) files asks missing = inl refl
-no_instance_due words old new s t (long_plan f inst a reads held) files asks missing =
-    let e = same_files words f files a asks in absurd (told_missing old files.instance (λ held. held ≡ reads.bytes) missing (subst (λ (x : Evaluation). WhereToldHolds old x.instance (λ held. held ≡ reads.bytes)) e reads.held))
-no_instance_due words old new s t (answered f inst bytes status text a reads held answers) files asks missing =
-    let e = same_files words f files a asks in absurd (told_missing old files.instance (λ held. held ≡ reads.bytes) missing (subst (λ (x : Evaluation). WhereToldHolds old x.instance (λ held. held ≡ reads.bytes)) e reads.held))
-no_instance_due words old new s t (no_memory f a) files asks missing = inr (inr (inl refl))
+then_more : (P Q : Type 0) (s : ℕ) → (P → (s ≡ 7) ⊎ Q) → (s ≡ 7) ⊎ P → (s ≡ 7) ⊎ Q
+then_more P Q s f (inl e) = inl e
+then_more P Q s f (inr p) = f p
 
-pub no_instance_ends : (words : List (List ℕ)) (old new : Shown) (n : ℕ) → Ends words old new n → TellsNoInstance words old → IsOneOf (7 ∷ 8 ∷ 11 ∷ []) n
-no_instance_ends words old new n (said s t due says) tells = no_instance_due words old new s t due tells.files tells.asks tells.missing
-no_instance_ends words old new n (unsaid part) tells = inr (inl refl)
+flipped : (a s : ℕ) → (s ≡ a) ⊎ (s ≡ 7) → (s ≡ 7) ⊎ (s ≡ a)
+flipped a s (inl e) = inr e
+flipped a s (inr e) = inl e
 
--- ---- the instance file is refused
+ends_as : (words : List (List ℕ)) (old new : Shown) (n : ℕ) (c : Command) (a : ℕ) → Ends words old new n → Asks words c → ((s : ℕ) (t : List ℕ) → IsDueFor c old new s t → (s ≡ 7) ⊎ (s ≡ a)) → IsOneOf (a ∷ 7 ∷ 8 ∷ 11 ∷ []) n
+ends_as words old new n c a ends asks due =
+    ends_of words old new n c (IsOneOf (a ∷ 7 ∷ 8 ∷ 11 ∷ [])) ends asks (λ s t is says. or_unread a s (due s t is)) (λ says. inr (inr (inr (inl refl)))) (λ part. inr (inr (inl refl)))
 
-refused_instance_due : (words : List (List ℕ)) (old new : Shown) (s : ℕ) (t : List ℕ) → IsDue words old new s t → (files : Evaluation) → Asks words files → TellsSuch old files.instance IsRefusedInstance → IsOneOf (3 ∷ 7 ∷ 8 ∷ 11 ∷ []) s
-refused_instance_due words old new s t (faulty_words none) files asks tells = absurd (no_asking words files none asks)
-refused_instance_due words old new s t (unread_instance f a fails) files asks tells = inr (inl refl)
-refused_instance_due words old new s t (long_instance f a held) files asks tells = inl refl
-refused_instance_due words old new s t (faulty_instance f fault a reads) files asks tells = inl refl
-refused_instance_due words old new s t (unread_plan f inst a reads fails) files asks tells = inr (inl refl)
-refused_instance_due words old new s t (long_plan f inst a reads held) files asks tells =
-    let e = same_files words f files a asks in absurd (not_read old files inst (subst (λ (x : Evaluation). ReadsInstance x old inst) e reads) tells)
-refused_instance_due words old new s t (answered f inst bytes status text a reads held answers) files asks tells =
-    let e = same_files words f files a asks in absurd (not_read old files inst (subst (λ (x : Evaluation). ReadsInstance x old inst) e reads) tells)
-refused_instance_due words old new s t (no_memory f a) files asks tells = inr (inr (inr (inl refl)))
+ends_unread : (words : List (List ℕ)) (old new : Shown) (n : ℕ) (c : Command) → Ends words old new n → Asks words c → ((s : ℕ) (t : List ℕ) → IsDueFor c old new s t → s ≡ 7) → IsOneOf (7 ∷ 8 ∷ 11 ∷ []) n
+ends_unread words old new n c ends asks due =
+    ends_of words old new n c (IsOneOf (7 ∷ 8 ∷ 11 ∷ [])) ends asks (λ s t is says. inl (due s t is)) (λ says. inr (inr (inl refl))) (λ part. inr (inl refl))
 
-pub refused_instance_ends : (words : List (List ℕ)) (old new : Shown) (n : ℕ) → Ends words old new n → TellsInstance words old IsRefusedInstance → IsOneOf (3 ∷ 7 ∷ 8 ∷ 11 ∷ []) n
-refused_instance_ends words old new n (said s t due says) tells = refused_instance_due words old new s t due tells.files tells.asks tells.tells
-refused_instance_ends words old new n (unsaid part) tells = inr (inr (inl refl))
+-- ---- any command
 
--- ---- the instance file is taken, and the plan file is missing
+no_instance_due : (c : Command) (old new : Shown) → TellsMissing old (source_of c).instance → (s : ℕ) (t : List ℕ) → IsDueFor c old new s t → s ≡ 7
+no_instance_due (evaluate source name) old new missing s t due = missing_instance source old new (λ inst. OnPlan name inst old new (Judges inst)) s t due missing
+no_instance_due (replay source name script) old new missing s t due = missing_instance source old new (λ inst. OnPlan name inst old new (λ p. OnScript script inst old new (Replays inst p))) s t due missing
 
-no_plan_due : (words : List (List ℕ)) (old new : Shown) (s : ℕ) (t : List ℕ) → IsDue words old new s t → TellsNoPlan words old → IsOneOf (7 ∷ 8 ∷ 11 ∷ []) s
-no_plan_due words old new s t (faulty_words none) tells = absurd (no_asking words tells.files none tells.asks)
-no_plan_due words old new s t (unread_instance f a fails) tells = inl refl
-no_plan_due words old new s t (long_instance f a held) tells =
-    let e = same_files words f tells.files a tells.asks in absurd (not_long_instance old tells.files tells.inst (subst (λ (x : Evaluation). WhereToldHolds old x.instance IsLongInstance) e held) tells.tells)
-no_plan_due words old new s t (faulty_instance f fault a reads) tells =
-    let e = same_files words f tells.files a tells.asks in absurd (not_faulty_instance old tells.files tells.inst fault (subst (λ (x : Evaluation). ReadsFaulty x.instance old fault) e reads) tells.tells)
-no_plan_due words old new s t (unread_plan f inst a reads fails) tells = inl refl
-no_plan_due words old new s t (long_plan f inst a reads held) tells =
-    let e = same_files words f tells.files a tells.asks in absurd (told_missing old tells.files.plan (λ held. 2 ^ 24 < length held) tells.missing (subst (λ (x : Evaluation). WhereToldHolds old x.plan (λ held. 2 ^ 24 < length held)) e held))
-no_plan_due words old new s t (answered f inst bytes status text a reads held answers) tells =
-    let e = same_files words f tells.files a tells.asks in absurd (told_missing old tells.files.plan (λ held. held ≡ bytes) tells.missing (subst (λ (x : Evaluation). WhereToldHolds old x.plan (λ held. held ≡ bytes)) e held))
-no_plan_due words old new s t (no_memory f a) tells = inr (inr (inl refl))
+refused_instance_due : (c : Command) (old new : Shown) → TellsSuch old (source_of c).instance IsRefusedInstance → (s : ℕ) (t : List ℕ) → IsDueFor c old new s t → (s ≡ 7) ⊎ (s ≡ 3)
+refused_instance_due (evaluate source name) old new tells s t due = flipped 3 s (refused_instance source old new (λ inst. OnPlan name inst old new (Judges inst)) s t due tells)
+refused_instance_due (replay source name script) old new tells s t due =
+    flipped 3 s (refused_instance source old new (λ inst. OnPlan name inst old new (λ p. OnScript script inst old new (Replays inst p))) s t due tells)
 
-pub no_plan_ends : (words : List (List ℕ)) (old new : Shown) (n : ℕ) → Ends words old new n → TellsNoPlan words old → IsOneOf (7 ∷ 8 ∷ 11 ∷ []) n
-no_plan_ends words old new n (said s t due says) tells = no_plan_due words old new s t due tells
-no_plan_ends words old new n (unsaid part) tells = inr (inl refl)
+-- what is due for the plan of an instance that is told
+plan_next : Command → Tables → (old new : Shown) → List (Option ℕ) → ℕ → List ℕ → Type 0
+plan_next (evaluate source name) inst old new = Judges inst
+plan_next (replay source name script) inst old new = λ p. OnScript script inst old new (Replays inst p)
 
--- ---- the instance file is taken, and the plan file holds such bytes
+plan_due_of : (c : Command) (inst : Tables) (old new : Shown) → TellsInstance old (source_of c) inst → (s : ℕ) (t : List ℕ) → IsDueFor c old new s t → (s ≡ 7) ⊎ OnPlan (plan_of c) inst old new (plan_next c inst old new) s t
+unfolding plan_next
+plan_due_of (evaluate source name) inst old new tells s t due = on_taken source old new (λ i. OnPlan name i old new (Judges i)) s t inst due tells
+plan_due_of (replay source name script) inst old new tells s t due =
+    on_taken source old new (λ i. OnPlan name i old new (λ p. OnScript script i old new (Replays i p))) s t inst due tells
 
-such_due : (words : List (List ℕ)) (old new : Shown) (s : ℕ) (t : List ℕ) (P : Tables → List ℕ → Type 0) (k : ℕ)
-    → ((inst : Tables) (bytes : List ℕ) (s : ℕ) (t : List ℕ) → P inst bytes → AnswersPlan inst bytes s t → s ≡ k)
-    → IsDue words old new s t → TellsPlan words old P → IsOneOf (k ∷ 7 ∷ 8 ∷ 11 ∷ []) s
-such_due words old new s t P k status_is (faulty_words none) tells = absurd (no_asking words tells.files none tells.asks)
-such_due words old new s t P k status_is (unread_instance f a fails) tells = inr (inl refl)
-such_due words old new s t P k status_is (long_instance f a held) tells =
-    let e = same_files words f tells.files a tells.asks in absurd (not_long_instance old tells.files tells.inst (subst (λ (x : Evaluation). WhereToldHolds old x.instance IsLongInstance) e held) tells.tells)
-such_due words old new s t P k status_is (faulty_instance f fault a reads) tells =
-    let e = same_files words f tells.files a tells.asks in absurd (not_faulty_instance old tells.files tells.inst fault (subst (λ (x : Evaluation). ReadsFaulty x.instance old fault) e reads) tells.tells)
-such_due words old new s t P k status_is (unread_plan f inst a reads fails) tells = inr (inl refl)
-such_due words old new s t P k status_is (long_plan f inst a reads held) tells =
-    let e = same_files words f tells.files a tells.asks in
-    let both = told_both old tells.files.plan (P tells.inst) (λ held. 2 ^ 24 < length held) tells.tells_plan (subst (λ (x : Evaluation). WhereToldHolds old x.plan (λ held. 2 ^ 24 < length held)) e held) in
-    inl (status_is tells.inst both.0 4 long_plan_line both.1 (long both.2))
-such_due words old new s t P k status_is (answered f inst bytes status text a reads held answers) tells =
-    let e = same_files words f tells.files a tells.asks in
-    let same : tells.inst ≡ inst = same_instance old tells.files inst tells.inst (subst (λ (x : Evaluation). ReadsInstance x old inst) e reads) tells.tells in
-    let such : P tells.inst bytes = read_such old tells.files.plan bytes (P tells.inst) (subst (λ (x : Evaluation). ReadsBytes x.plan old bytes) e held) tells.tells_plan in
-    inl (status_is inst bytes status text (subst (λ (i : Tables). P i bytes) same such) answers)
-such_due words old new s t P k status_is (no_memory f a) tells = inr (inr (inr (inl refl)))
+no_plan_due : (c : Command) (inst : Tables) (old new : Shown) → TellsInstance old (source_of c) inst → TellsMissing old (plan_of c) → (s : ℕ) (t : List ℕ) → IsDueFor c old new s t → s ≡ 7
+no_plan_due c inst old new tells missing s t due = at (plan_due_of c inst old new tells s t due)
+  where
+    at : (s ≡ 7) ⊎ OnPlan (plan_of c) inst old new (plan_next c inst old new) s t → s ≡ 7
+    at (inl e) = e
+    at (inr p) = missing_plan (plan_of c) inst old new (plan_next c inst old new) s t p missing
 
-such_ends : (words : List (List ℕ)) (old new : Shown) (n : ℕ) (P : Tables → List ℕ → Type 0) (k : ℕ)
-    → ((inst : Tables) (bytes : List ℕ) (s : ℕ) (t : List ℕ) → P inst bytes → AnswersPlan inst bytes s t → s ≡ k)
-    → Ends words old new n → TellsPlan words old P → IsOneOf (k ∷ 7 ∷ 8 ∷ 11 ∷ []) n
-such_ends words old new n P k status_is (said s t due says) tells = such_due words old new s t P k status_is due tells
-such_ends words old new n P k status_is (unsaid part) tells = inr (inr (inl refl))
+refused_plan_due : (c : Command) (inst : Tables) (old new : Shown) → TellsInstance old (source_of c) inst → TellsSuch old (plan_of c) (IsRefusedPlan inst) → (s : ℕ) (t : List ℕ) → IsDueFor c old new s t → (s ≡ 7) ⊎ (s ≡ 4)
+refused_plan_due c inst old new tells refused s t due = at (plan_due_of c inst old new tells s t due)
+  where
+    at : (s ≡ 7) ⊎ OnPlan (plan_of c) inst old new (plan_next c inst old new) s t → (s ≡ 7) ⊎ (s ≡ 4)
+    at (inl e) = inl e
+    at (inr p) = flipped 4 s (refused_plan (plan_of c) inst old new (plan_next c inst old new) s t p refused)
 
-pub refused_plan_ends : (words : List (List ℕ)) (old new : Shown) (n : ℕ) → Ends words old new n → TellsPlan words old IsRefusedPlan → IsOneOf (4 ∷ 7 ∷ 8 ∷ 11 ∷ []) n
-refused_plan_ends words old new n ends tells = such_ends words old new n IsRefusedPlan 4 refused_answer ends tells
+pub no_instance_ends : (words : List (List ℕ)) (old new : Shown) (n : ℕ) → Ends words old new n → (c : Command) → Asks words c → TellsMissing old (source_of c).instance → IsOneOf (7 ∷ 8 ∷ 11 ∷ []) n
+no_instance_ends words old new n ends c asks missing = ends_unread words old new n c ends asks (no_instance_due c old new missing)
 
-pub broken_plan_ends : (words : List (List ℕ)) (old new : Shown) (n : ℕ) → Ends words old new n → TellsPlan words old IsBrokenPlan → IsOneOf (1 ∷ 7 ∷ 8 ∷ 11 ∷ []) n
-broken_plan_ends words old new n ends tells = such_ends words old new n IsBrokenPlan 1 broken_answer ends tells
+pub refused_instance_ends : (words : List (List ℕ)) (old new : Shown) (n : ℕ) → Ends words old new n → (c : Command) → Asks words c → TellsSuch old (source_of c).instance IsRefusedInstance → IsOneOf (3 ∷ 7 ∷ 8 ∷ 11 ∷ []) n
+refused_instance_ends words old new n ends c asks tells = ends_as words old new n c 3 ends asks (refused_instance_due c old new tells)
 
-pub kept_plan_ends : (words : List (List ℕ)) (old new : Shown) (n : ℕ) → Ends words old new n → TellsPlan words old IsKeptPlan → IsOneOf (0 ∷ 7 ∷ 8 ∷ 11 ∷ []) n
-kept_plan_ends words old new n ends tells = such_ends words old new n IsKeptPlan 0 kept_answer ends tells
+pub no_plan_ends : (words : List (List ℕ)) (old new : Shown) (n : ℕ) → Ends words old new n → (c : Command) (inst : Tables) → Asks words c → TellsInstance old (source_of c) inst → TellsMissing old (plan_of c) → IsOneOf (7 ∷ 8 ∷ 11 ∷ []) n
+no_plan_ends words old new n ends c inst asks tells missing = ends_unread words old new n c ends asks (no_plan_due c inst old new tells missing)
 
--- ---- the bytes of both files are told, and no fault rose
+pub refused_plan_ends : (words : List (List ℕ)) (old new : Shown) (n : ℕ) → Ends words old new n → (c : Command) (inst : Tables) → Asks words c → TellsInstance old (source_of c) inst → TellsSuch old (plan_of c) (IsRefusedPlan inst) → IsOneOf (4 ∷ 7 ∷ 8 ∷ 11 ∷ []) n
+refused_plan_ends words old new n ends c inst asks tells refused = ends_as words old new n c 4 ends asks (refused_plan_due c inst old new tells refused)
 
--- what was taken with the slack of the words
-taken_bytes : (words : List (List ℕ)) (old : Shown) (f : Evaluation) (slack : ℕ) (instance plan : List ℕ) (inst : Tables) → Asks words f → ReadsInstance f old inst → TellsBoth words old slack instance plan → Takes slack instance inst
-taken_bytes words old f slack instance plan inst a reads tells =
-    let e = same_files words f tells.files a tells.asks in
-    let same : reads.bytes ≡ instance = read_such old tells.files.instance reads.bytes (λ held. held ≡ instance) (subst (λ (x : Evaluation). ReadsBytes x.instance old reads.bytes) e reads.held) tells.tells in
-    let widened : f.slack ≡ slack = ap (λ (x : Evaluation). x.slack) e ∙ tells.widens in
-    subst (λ (n : ℕ). Takes n instance inst) widened (subst (λ (b : List ℕ). Takes f.slack b inst) same reads.takes)
+-- ---- `evaluate`
 
-exact_due : (words : List (List ℕ)) (old new : Shown) (s : ℕ) (t : List ℕ) (slack : ℕ) (instance plan : List ℕ) → IsDue words old new s t → Says t old new → TellsBoth words old slack instance plan → NoFault old new
-    → Answered slack instance plan old new s ⊎ WantsMemory old new s
-exact_due words old new s t slack instance plan (faulty_words none) says tells calm = absurd (no_asking words tells.files none tells.asks)
-exact_due words old new s t slack instance plan (unread_instance f a fails) says tells calm = absurd (calm fails.rose)
-exact_due words old new s t slack instance plan (long_instance f a held) says tells calm =
-    let e = same_files words f tells.files a tells.asks in
-    let both = told_both old tells.files.instance (λ held. held ≡ instance) IsLongInstance tells.tells (subst (λ (x : Evaluation). WhereToldHolds old x.instance IsLongInstance) e held) in
-    inl (record { text = long_instance_line; answers = long_answer (subst IsLongInstance both.1 both.2); says = says })
-exact_due words old new s t slack instance plan (faulty_instance f fault a reads) says tells calm =
-    let e = same_files words f tells.files a tells.asks in
-    let same : reads.bytes ≡ instance = read_such old tells.files.instance reads.bytes (λ held. held ≡ instance) (subst (λ (x : Evaluation). ReadsBytes x.instance old reads.bytes) e reads.held) tells.tells in
-    inl (record { text = instance_fault_line fault; answers = faulty_answer fault (subst (λ (b : List ℕ). IsFaulty b fault) same reads.faulty); says = says })
-exact_due words old new s t slack instance plan (unread_plan f inst a reads fails) says tells calm = absurd (calm fails.rose)
-exact_due words old new s t slack instance plan (long_plan f inst a reads held) says tells calm =
-    let e = same_files words f tells.files a tells.asks in
-    let both = told_both old tells.files.plan (λ held. held ≡ plan) (λ held. 2 ^ 24 < length held) tells.tells_plan (subst (λ (x : Evaluation). WhereToldHolds old x.plan (λ held. 2 ^ 24 < length held)) e held) in
-    inl (record {
-      text = long_plan_line;
-      answers = taken inst 4 long_plan_line (taken_bytes words old f slack instance plan inst a reads tells) (long (subst (λ (b : List ℕ). 2 ^ 24 < length b) both.1 both.2));
-      says = says;
-    })
-exact_due words old new s t slack instance plan (answered f inst bytes status text a reads held answers) says tells calm =
-    let e = same_files words f tells.files a tells.asks in
-    let same_bytes : bytes ≡ plan = read_such old tells.files.plan bytes (λ held. held ≡ plan) (subst (λ (x : Evaluation). ReadsBytes x.plan old bytes) e held) tells.tells_plan in
-    inl (record {
-      text = text;
-      answers = taken inst status text (taken_bytes words old f slack instance plan inst a reads tells) (subst (λ (b : List ℕ). AnswersPlan inst b status text) same_bytes answers);
-      says = says;
-    })
-exact_due words old new s t slack instance plan (no_memory f a) says tells calm = inr (record { status_is = refl; says = says })
+verdict_due : (source : Source) (name : List ℕ) (inst : Tables) (plan : List (Option ℕ)) (old new : Shown) → TellsInstance old source inst → TellsPlan old name inst plan → (s : ℕ) (t : List ℕ) → IsDueFor (evaluate source name) old new s t
+    → (s ≡ 7) ⊎ Judges inst plan s t
+verdict_due source name inst plan old new tells spells s t due =
+    then_more (OnPlan name inst old new (Judges inst) s t) (Judges inst plan s t) s (λ p. on_spelled name inst old new (Judges inst) s t plan p spells)
+    (on_taken source old new (λ i. OnPlan name i old new (Judges i)) s t inst due tells)
 
-pub exact_ends : (words : List (List ℕ)) (old new : Shown) (n : ℕ) → Ends words old new n → (slack : ℕ) (instance plan : List ℕ) → TellsBoth words old slack instance plan → NoFault old new
-    → Answered slack instance plan old new n ⊎ WantsMemory old new n
-exact_ends words old new n (said s t due says) slack instance plan tells calm = exact_due words old new s t slack instance plan due says tells calm
-exact_ends words old new n (unsaid part) slack instance plan tells calm = absurd (calm (rose_before old.faults part.before.faults new.faults part.later part.fails.rose))
+pub kept_plan_ends : (words : List (List ℕ)) (old new : Shown) (n : ℕ) → Ends words old new n → (source : Source) (name : List ℕ) (inst : Tables) (plan : List (Option ℕ)) → Asks words (evaluate source name)
+    → TellsInstance old source inst → TellsPlan old name inst plan → KeepsRules inst plan → IsOneOf (0 ∷ 7 ∷ 8 ∷ 11 ∷ []) n
+kept_plan_ends words old new n ends source name inst plan asks tells spells keeps =
+    ends_as words old new n (evaluate source name) 0 ends asks (λ s t due. then_status (Judges inst plan s t) 0 s (kept_verdict inst plan s t keeps) (verdict_due source name inst plan old new tells spells s t due))
+
+pub broken_plan_ends : (words : List (List ℕ)) (old new : Shown) (n : ℕ) → Ends words old new n → (source : Source) (name : List ℕ) (inst : Tables) (plan : List (Option ℕ)) → Asks words (evaluate source name)
+    → TellsInstance old source inst → TellsPlan old name inst plan → (KeepsRules inst plan → ⊥) → IsOneOf (1 ∷ 7 ∷ 8 ∷ 11 ∷ []) n
+broken_plan_ends words old new n ends source name inst plan asks tells spells breaks =
+    ends_as words old new n (evaluate source name) 1 ends asks (λ s t due. then_status (Judges inst plan s t) 1 s (broken_verdict inst plan s t breaks) (verdict_due source name inst plan old new tells spells s t due))
+
+-- ---- `replay`
+
+script_due_of : (source : Source) (name script_name : List ℕ) (inst : Tables) (plan : List (Option ℕ)) (old new : Shown) → TellsInstance old source inst → TellsPlan old name inst plan → (s : ℕ) (t : List ℕ)
+    → IsDueFor (replay source name script_name) old new s t → (s ≡ 7) ⊎ OnScript script_name inst old new (Replays inst plan) s t
+script_due_of source name script_name inst plan old new tells spells s t due =
+    then_more (OnPlan name inst old new (λ p. OnScript script_name inst old new (Replays inst p)) s t) (OnScript script_name inst old new (Replays inst plan) s t) s
+    (λ p. on_spelled name inst old new (λ q. OnScript script_name inst old new (Replays inst q)) s t plan p spells)
+    (on_taken source old new (λ i. OnPlan name i old new (λ p. OnScript script_name i old new (Replays i p))) s t inst due tells)
+
+replay_due_of : (source : Source) (name script_name : List ℕ) (files : ScriptedPlan) (old new : Shown) → TellsScripted old source name script_name files → (s : ℕ) (t : List ℕ) → IsDueFor (replay source name script_name) old new s t
+    → (s ≡ 7) ⊎ Replays files.inst files.plan files.script s t
+replay_due_of source name script_name files old new tells s t due =
+    then_more (OnScript script_name files.inst old new (Replays files.inst files.plan) s t) (Replays files.inst files.plan files.script s t) s
+    (λ p. on_script script_name files.inst old new (Replays files.inst files.plan) s t files.script p tells.script)
+    (script_due_of source name script_name files.inst files.plan old new tells.instance tells.plan s t due)
+
+no_script_due : (source : Source) (name script_name : List ℕ) (inst : Tables) (plan : List (Option ℕ)) (old new : Shown) → TellsInstance old source inst → TellsPlan old name inst plan → TellsMissing old script_name
+    → (s : ℕ) (t : List ℕ) → IsDueFor (replay source name script_name) old new s t → s ≡ 7
+no_script_due source name script_name inst plan old new tells spells missing s t due = at (script_due_of source name script_name inst plan old new tells spells s t due)
+  where
+    at : (s ≡ 7) ⊎ OnScript script_name inst old new (Replays inst plan) s t → s ≡ 7
+    at (inl e) = e
+    at (inr p) = missing_script script_name inst old new (Replays inst plan) s t p missing
+
+refused_script_due : (source : Source) (name script_name : List ℕ) (inst : Tables) (plan : List (Option ℕ)) (old new : Shown) → TellsInstance old source inst → TellsPlan old name inst plan
+    → TellsSuch old script_name (IsRefusedScript inst) → (s : ℕ) (t : List ℕ) → IsDueFor (replay source name script_name) old new s t → (s ≡ 7) ⊎ (s ≡ 6)
+refused_script_due source name script_name inst plan old new tells spells refused s t due = at (script_due_of source name script_name inst plan old new tells spells s t due)
+  where
+    at : (s ≡ 7) ⊎ OnScript script_name inst old new (Replays inst plan) s t → (s ≡ 7) ⊎ (s ≡ 6)
+    at (inl e) = inl e
+    at (inr p) = flipped 6 s (refused_script script_name inst old new (Replays inst plan) s t p refused)
+
+pub no_script_ends : (words : List (List ℕ)) (old new : Shown) (n : ℕ) → Ends words old new n → (source : Source) (name script_name : List ℕ) (inst : Tables) (plan : List (Option ℕ))
+    → Asks words (replay source name script_name) → TellsInstance old source inst → TellsPlan old name inst plan → TellsMissing old script_name → IsOneOf (7 ∷ 8 ∷ 11 ∷ []) n
+no_script_ends words old new n ends source name script_name inst plan asks tells spells missing =
+    ends_unread words old new n (replay source name script_name) ends asks (no_script_due source name script_name inst plan old new tells spells missing)
+
+pub refused_script_ends : (words : List (List ℕ)) (old new : Shown) (n : ℕ) → Ends words old new n → (source : Source) (name script_name : List ℕ) (inst : Tables) (plan : List (Option ℕ))
+    → Asks words (replay source name script_name) → TellsInstance old source inst → TellsPlan old name inst plan → TellsSuch old script_name (IsRefusedScript inst) → IsOneOf (6 ∷ 7 ∷ 8 ∷ 11 ∷ []) n
+refused_script_ends words old new n ends source name script_name inst plan asks tells spells refused =
+    ends_as words old new n (replay source name script_name) 6 ends asks (refused_script_due source name script_name inst plan old new tells spells refused)
+
+pub broken_opening_ends : (words : List (List ℕ)) (old new : Shown) (n : ℕ) → Ends words old new n → (source : Source) (name script_name : List ℕ) (files : ScriptedPlan) → Asks words (replay source name script_name)
+    → TellsScripted old source name script_name files → IsSome (first_start_rule files.inst files.plan) → IsOneOf (1 ∷ 7 ∷ 8 ∷ 11 ∷ []) n
+broken_opening_ends words old new n ends source name script_name files asks tells some =
+    ends_as words old new n (replay source name script_name) 1 ends asks
+    (λ s t due. then_status (Replays files.inst files.plan files.script s t) 1 s (broken_opening files.inst files.plan files.script s t some) (replay_due_of source name script_name files old new tells s t due))
+
+pub done_script_ends : (words : List (List ℕ)) (old new : Shown) (n : ℕ) → Ends words old new n → (source : Source) (name script_name : List ℕ) (files : ScriptedPlan) (opening : List ℕ) → Asks words (replay source name script_name)
+    → TellsScripted old source name script_name files → IsOpeningOf files.inst files.plan opening → Succeeds files.inst opening files.script → IsOneOf (0 ∷ 7 ∷ 8 ∷ 11 ∷ []) n
+done_script_ends words old new n ends source name script_name files opening asks tells opens done =
+    ends_as words old new n (replay source name script_name) 0 ends asks
+    (λ s t due. then_status (Replays files.inst files.plan files.script s t) 0 s (done_script files.inst files.plan files.script s t opening opens done) (replay_due_of source name script_name files old new tells s t due))
+
+pub failing_line_ends : (words : List (List ℕ)) (old new : Shown) (n : ℕ) → Ends words old new n → (source : Source) (name script_name : List ℕ) (files : ScriptedPlan) (opening : List ℕ) (m : ℕ) → Asks words (replay source name script_name)
+    → TellsScripted old source name script_name files → IsOpeningOf files.inst files.plan opening → FailsAt files.inst opening files.script m → IsOneOf (6 ∷ 7 ∷ 8 ∷ 11 ∷ []) n
+failing_line_ends words old new n ends source name script_name files opening m asks tells opens fails =
+    ends_as words old new n (replay source name script_name) 6 ends asks
+    (λ s t due. then_status (Replays files.inst files.plan files.script s t) 6 s (failing_line files.inst files.plan files.script s t opening m opens fails) (replay_due_of source name script_name files old new tells s t due))

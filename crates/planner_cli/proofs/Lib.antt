@@ -1,7 +1,11 @@
 pub mod ToldLemmas
 pub mod RuleNames
+pub mod SayLemmas
 pub mod DueLemmas
 pub mod ReadLemmas
-pub mod EndLemmas
+pub mod ReplayLemmas
+pub mod AnswerLemmas
+pub mod StatusLemmas
 pub mod AllowedLemmas
-mod AnswerLemmas
+pub mod ExactLemmas
+pub mod OutcomeLemmas

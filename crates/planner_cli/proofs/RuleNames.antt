@@ -54,11 +54,17 @@ clash_names : (inst : Tables) (e t : ℕ) (b : Bool) (rule : Rule) → e < lengt
 clash_names inst e t true rule l h = of_some inst (Clash e t) rule l h
 clash_names inst e t false rule l h = no_rule inst rule h
 
+pub start_rule_names : (inst : Tables) (plan : List (Option ℕ)) (rule : Rule) → first_start_rule inst plan ≡ Some rule → NamesOf inst rule
+unfolding first_start_rule
+start_rule_names inst plan rule e =
+    let at = first_of-some (length inst.names) (λ i. start_rule_at inst i (start_of plan i)) rule e in
+    start_names inst at.0 (start_of plan at.0) rule at.1 at.2
+
 pub rule_names : (inst : Tables) (plan : List (Option ℕ)) (rule : Rule) → first_rule inst plan ≡ Some rule → NamesOf inst rule
-unfolding first_rule first_start_rule first_band_rule first_clash_rule clash_rule_at
+unfolding first_rule first_band_rule first_clash_rule clash_rule_at
 rule_names inst plan rule e =
     ⊎_elim
-    (λ h. let at = first_of-some (length inst.names) (λ i. start_rule_at inst i (start_of plan i)) rule h in start_names inst at.0 (start_of plan at.0) rule at.1 at.2)
+    (start_rule_names inst plan rule)
     (λ h. ⊎_elim
     (λ k.
     let c = first_of-some (length inst.resource_names) (λ c. first_of inst.periods (λ u. band_rule_at inst plan c (u + 1))) rule k in

@@ -2,5 +2,8 @@ pub mod Words
 pub mod Lines
 pub mod Reports
 pub mod Answers
+pub mod Reading
+pub mod Due
 pub mod Outcome
+pub mod Asked
 pub mod Refusals

@@ -9,6 +9,8 @@ use Rattle.instance_shape.specs.CrossFaults.{CrossFault, scenario_list, band_len
 use Rattle.instance_shape.specs.FileFaults.{FileFault, syntax, too_deep, shape, across}
 use Rattle.plan_text.specs.declared.fault.PlanFault.{PlanFault}
 use Rattle.plan_text.specs.declared.fault.PlanFault.TheVariants.{BadLine, UnknownName, Twice, Memory}
+use Rattle.move_script.specs.declared.fault.ScriptFault.{ScriptFault}
+use Rattle.move_script.specs.declared.fault.ScriptFault.TheVariants as script
 
 -- the words are not in the grammar
 abbrev pub words_line : List ℕ
@@ -108,3 +110,25 @@ plan_fault_line (BadLine n) = numbered_line (codes "refused plan bad line ") n
 plan_fault_line (UnknownName n) = numbered_line (codes "refused plan unknown name ") n
 plan_fault_line (Twice n) = numbered_line (codes "refused plan twice ") n
 plan_fault_line Memory = memory_line
+
+-- the script file has too many bytes
+abbrev pub long_script_line : List ℕ
+long_script_line = codes "refused script too long\n"
+
+-- the first faulty line of a script's text
+abbrev pub script_fault_line : ScriptFault → List ℕ
+script_fault_line (script.BadLine n) = numbered_line (codes "refused script bad line ") n
+script_fault_line (script.UnknownName n) = numbered_line (codes "refused script unknown name ") n
+script_fault_line script.Memory = memory_line
+
+-- line n of a script sets a start that isn't allowed
+abbrev pub not_allowed_line : ℕ → List ℕ
+not_allowed_line n = numbered_line (codes "refused script not allowed ") n
+
+-- line n of a script undoes where there is no plan but the opening
+abbrev pub nothing_to_undo_line : ℕ → List ℕ
+nothing_to_undo_line n = numbered_line (codes "refused script nothing to undo ") n
+
+-- all lines of a script are done: their number
+abbrev pub end_line : ℕ → List ℕ
+end_line n = numbered_line (codes "end ") n

@@ -1,22 +1,32 @@
--- The status and the line of a refusal, and what stands behind it.
-use Rattle.std.specs.Prelude.{◌≡◌, ◌⊎◌, ℕ, ◌^◌, ◌<◌, ◌≤◌, List, length, take, ⊤, Option, Some, None}
+-- The status and the line of a refusal, and how what is due is said. No part of any promise.
+use Rattle.std.specs.Prelude.{◌≡◌, ◌⊎◌, ℕ, ◌<◌, ⊤, List, length, take, All, Option, Some, None}
 use Rattle.plan_desk.specs.Desk.{Shown}
 use Rattle.plan_desk.specs.Contents.{WhereToldHolds, Says}
+use Rattle.plan_moves.specs.declared.script_line.ScriptLine.{ScriptLine}
+use Rattle.plan_moves.specs.Scripts.{NamesKnown}
 use Rattle.instance_model.specs.Tables.{Tables}
+use Rattle.instance_model.specs.Rules.{first_start_rule}
+use Rattle.instance_model.specs.declared.rule.Rule.{Rule}
 use Rattle.instance_shape.specs.FileFaults.{FileFault}
 use Rattle.instance_read.specs.Faults.{fault_of}
 use Rattle.planner_cli.specs.declared.refusal.Refusal.{Refusal}
-use Rattle.planner_cli.specs.declared.refusal.Refusal.TheVariants.{Unread, LongInstance, Instance, LongPlan, Plan, Memory}
-use Rattle.planner_cli.specs.Words.{Evaluation}
-use Rattle.planner_cli.specs.Lines.{memory_line, read_line, long_instance_line, instance_fault_line, long_plan_line, plan_fault_line}
-use Rattle.planner_cli.specs.Answers.{IsLongInstance, Spells, HasFault, Judges}
-use Rattle.planner_cli.specs.Outcome.{ReadsInstance, ReadsFaulty, ReadsBytes, ReadFails, SayFails}
+use Rattle.planner_cli.specs.declared.refusal.Refusal.TheVariants.{Unread, LongInstance, Instance, LongPlan, Plan, LongScript, Script, Memory}
+use Rattle.planner_cli.specs.declared.replay.Opening.{Opening}
+use Rattle.planner_cli.specs.declared.replay.Opening.TheVariants.{Starts as OfStarts, Broken}
+use Rattle.planner_cli.specs.Words.{Source, Command}
+use Rattle.planner_cli.specs.Lines.{memory_line, read_line, long_instance_line, instance_fault_line, long_plan_line, plan_fault_line, long_script_line, script_fault_line}
+use Rattle.planner_cli.specs.Reports.{infeasible_report}
+use Rattle.planner_cli.specs.Answers.{IsLongInstance, IsLongPlan, IsLongScript, IsOpeningOf}
+use Rattle.planner_cli.specs.Reading.{ReadsInstance, ReadsFaulty, ReadsPlan, ReadsPlanFault, ReadsScript, ReadsScriptFault, ReadFails, SayFails}
+use Rattle.planner_cli.specs.Due.{Asks, Ends}
 
 abbrev pub status_of : Refusal → ℕ
 status_of LongInstance = 3
 status_of (Instance fault) = 3
 status_of LongPlan = 4
 status_of (Plan fault) = 4
+status_of LongScript = 6
+status_of (Script fault) = 6
 status_of (Unread word) = 7
 status_of Memory = 11
 
@@ -30,6 +40,8 @@ line_of LongInstance = long_instance_line
 line_of (Instance fault) = line_or_memory (fault_of fault)
 line_of LongPlan = long_plan_line
 line_of (Plan fault) = plan_fault_line fault
+line_of LongScript = long_script_line
+line_of (Script fault) = script_fault_line fault
 line_of (Unread word) = read_line word
 line_of Memory = memory_line
 
@@ -40,6 +52,8 @@ IsInstanceCause name old new LongInstance = WhereToldHolds old name IsLongInstan
 IsInstanceCause name old new (Instance fault) = (told : FileFault) × (fault_of fault ≡ Some told) × ReadsFaulty name old told
 IsInstanceCause name old new LongPlan = ⊥
 IsInstanceCause name old new (Plan fault) = ⊥
+IsInstanceCause name old new LongScript = ⊥
+IsInstanceCause name old new (Script fault) = ⊥
 IsInstanceCause name old new Memory = ⊤
 
 -- why the plan file of this name is refused for an instance
@@ -47,33 +61,34 @@ abbrev pub IsPlanCause : List ℕ → Tables → (old new : Shown) → Refusal �
 IsPlanCause name inst old new (Unread word) = (word ≡ 3) × ReadFails name old new
 IsPlanCause name inst old new LongInstance = ⊥
 IsPlanCause name inst old new (Instance fault) = ⊥
-IsPlanCause name inst old new LongPlan = WhereToldHolds old name (λ held. 2 ^ 24 < length held)
-IsPlanCause name inst old new (Plan fault) = (bytes : List ℕ) × ReadsBytes name old bytes × HasFault inst bytes fault
+IsPlanCause name inst old new LongPlan = WhereToldHolds old name IsLongPlan
+IsPlanCause name inst old new (Plan fault) = ReadsPlanFault name inst old fault
+IsPlanCause name inst old new LongScript = ⊥
+IsPlanCause name inst old new (Script fault) = ⊥
 IsPlanCause name inst old new Memory = ⊤
 
--- the instance is read, and the plan is refused
-pub record IsLaterCause (files : Evaluation) (old new : Shown) (refusal : Refusal) : Type 0 where
-  pub inst : Tables
-  pub reads : ReadsInstance files old inst
-  pub cause : IsPlanCause files.plan inst old new refusal
+-- why the script file of this name is refused for an instance
+abbrev pub IsScriptCause : List ℕ → Tables → (old new : Shown) → Refusal → Type 0
+IsScriptCause name inst old new (Unread word) = (word ≡ 4) × ReadFails name old new
+IsScriptCause name inst old new LongInstance = ⊥
+IsScriptCause name inst old new (Instance fault) = ⊥
+IsScriptCause name inst old new LongPlan = ⊥
+IsScriptCause name inst old new (Plan fault) = ⊥
+IsScriptCause name inst old new LongScript = WhereToldHolds old name IsLongScript
+IsScriptCause name inst old new (Script fault) = ReadsScriptFault name inst old fault
+IsScriptCause name inst old new Memory = ⊤
 
--- why the files are not evaluated
-abbrev pub IsCause : Evaluation → (old new : Shown) → Refusal → Type 0
-IsCause files old new refusal = IsInstanceCause files.instance old new refusal ⊎ IsLaterCause files old new refusal
+-- a refusal is due, or memory ran out
+abbrev pub IsDueAs : (ℕ → List ℕ → Type 0) → Refusal → Type 0
+IsDueAs Due refusal = (refusal ≡ Memory) ⊎ Due (status_of refusal) (line_of refusal)
 
--- the plan file of this name was read, and its bytes spell this plan; they are what it holds, where told
-pub record ReadsPlan (name : List ℕ) (inst : Tables) (old : Shown) (plan : List (Option ℕ)) : Type 0 where
-  pub bytes : List ℕ
-  pub reads : ReadsBytes name old bytes
-  pub spells : Spells inst bytes plan
-
--- both files were read, and this is the verdict on the plan
-pub record IsVerdictOn (files : Evaluation) (old : Shown) (status : ℕ) (text : List ℕ) : Type 0 where
-  pub inst : Tables
-  pub reads : ReadsInstance files old inst
-  pub plan : List (Option ℕ)
-  pub reads_plan : ReadsPlan files.plan inst old plan
-  pub judges : Judges inst plan status text
+-- the three files of `replay` were read
+pub record AreRead (source : Source) (name script_name : List ℕ) (old : Shown) (inst : Tables) (plan : List (Option ℕ)) (script : List ScriptLine) : Type 0 where
+  pub reads : ReadsInstance source old inst
+  pub reads_plan : ReadsPlan name inst old plan
+  pub reads_script : ReadsScript script_name inst old script
+  pub each : length plan ≡ length inst.names
+  pub known : All (NamesKnown inst) script
 
 -- the text was said, and the status is the one that is due with it
 pub record SaysAll (due : ℕ) (text : List ℕ) (old new : Shown) (status : ℕ) : Type 0 where
@@ -91,3 +106,16 @@ pub record SaysSome (text : List ℕ) (old new : Shown) (status : ℕ) : Type 0 
 
 abbrev pub SaysOrFails : ℕ → List ℕ → (old new : Shown) → ℕ → Type 0
 SaysOrFails due text old new status = SaysAll due text old new status ⊎ SaysSome text old new status
+
+-- what is due was said, or that memory ran out, or saying it failed
+abbrev pub SaysAnswer : (ℕ → List ℕ → Type 0) → (old new : Shown) → ℕ → Type 0
+SaysAnswer Due old new status = ((due : ℕ) × (text : List ℕ) × Due due text × SaysOrFails due text old new status) ⊎ SaysOrFails 11 memory_line old new status
+
+-- from what a replay of a plan sets out
+abbrev pub OpensAs : Tables → List (Option ℕ) → Opening → Type 0
+OpensAs inst plan (OfStarts starts) = IsOpeningOf inst plan starts
+OpensAs inst plan (Broken text) = (rule : Rule) × (first_start_rule inst plan ≡ Some rule) × (text ≡ infeasible_report inst rule)
+
+-- how a run of a command ends, whatever words ask for it
+abbrev pub EndsFor : Command → (old new : Shown) → ℕ → Type 0
+EndsFor c old new status = (words : List (List ℕ)) → Asks words c → Ends words old new status

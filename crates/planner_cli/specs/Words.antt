@@ -1,12 +1,27 @@
 -- The command line. A word is the list of its bytes; words count from 1, and the command is word 1.
 use Rattle.std.specs.Prelude.{ℕ, ◌-◌, ◌*◌, ◌^◌, List, [], ◌∷◌, length, take, drop, codes, bytes_eq, nat_le, nat_lt, ◌&&◌, Bool, Option, Some, None, if◌then◌else◌}
+use Rattle.instance_model.specs.Rules.{or_else}
 use Rattle.instance_shape.specs.Keys.{all_bytes, is_digit, number_of}
 
--- `evaluate INSTANCE PLAN`, with or without `slack=D`: the names of the two files, words 2 and 3, and the slack in 10^-12
-pub record Evaluation : Type 0 where
+-- the name of the instance file, word 2, and how far its bands are widened, in 10^-12
+pub record Source : Type 0 where
   pub instance : List ℕ
-  pub plan : List ℕ
   pub slack : ℕ
+
+-- what a command line asks for, with the names of its files: the plan is word 3, the script word 4
+pub data Command : Type 0 where
+  evaluate : (source : Source) (plan : List ℕ) → Command
+  replay : (source : Source) (plan script : List ℕ) → Command
+
+-- the instance of a command
+abbrev pub source_of : Command → Source
+source_of (evaluate source plan) = source
+source_of (replay source plan script) = source
+
+-- the name of the plan file of a command
+abbrev pub plan_of : Command → List ℕ
+plan_of (evaluate source plan) = plan
+plan_of (replay source plan script) = plan
 
 -- a file word is a text that is not empty
 abbrev pub is_file_word : List ℕ → Bool
@@ -35,16 +50,25 @@ slack_count d =
 abbrev pub slack_of : List ℕ → Option ℕ
 slack_of word = if bytes_eq (take 6 word) (codes "slack=") then slack_count (drop 6 word) else None
 
--- these words with a slack
-abbrev pub evaluation_with : List ℕ → List ℕ → List ℕ → Option ℕ → Option Evaluation
-evaluation_with command instance plan None = None
-evaluation_with command instance plan (Some slack) =
-    if bytes_eq command (codes "evaluate") && is_file_word instance && is_file_word plan
-    then Some (record { instance = instance; plan = plan; slack = slack })
+-- `evaluate INSTANCE PLAN` with a slack
+abbrev pub evaluation : List ℕ → List ℕ → List ℕ → Option ℕ → Option Command
+evaluation name instance plan None = None
+evaluation name instance plan (Some slack) =
+    if bytes_eq name (codes "evaluate") && is_file_word instance && is_file_word plan
+    then Some (evaluate (record { instance = instance; slack = slack }) plan)
     else None
 
--- what the words ask to evaluate; none where the words are not in the grammar
-abbrev pub evaluation : List (List ℕ) → Option Evaluation
-evaluation (command ∷ instance ∷ plan ∷ []) = evaluation_with command instance plan (Some 0)
-evaluation (command ∷ instance ∷ plan ∷ slack ∷ []) = evaluation_with command instance plan (slack_of slack)
-evaluation words = None
+-- `replay INSTANCE PLAN SCRIPT` with a slack
+abbrev pub replaying : List ℕ → List ℕ → List ℕ → List ℕ → Option ℕ → Option Command
+replaying name instance plan script None = None
+replaying name instance plan script (Some slack) =
+    if bytes_eq name (codes "replay") && is_file_word instance && is_file_word plan && is_file_word script
+    then Some (replay (record { instance = instance; slack = slack }) plan script)
+    else None
+
+-- The command of these words; none where they are not in the grammar. Each command may have one word `slack=D` behind its files.
+abbrev pub command_of : List (List ℕ) → Option Command
+command_of (name ∷ instance ∷ plan ∷ []) = evaluation name instance plan (Some 0)
+command_of (name ∷ instance ∷ plan ∷ last ∷ []) = or_else (evaluation name instance plan (slack_of last)) (replaying name instance plan last (Some 0))
+command_of (name ∷ instance ∷ plan ∷ script ∷ slack ∷ []) = replaying name instance plan script (slack_of slack)
+command_of words = None

@@ -1,25 +1,21 @@
-// The evaluation of a plan: both files are read, and the plan is judged.
-ghost use Rattle.std.specs.Prelude.{◌≡◌, ◌≤◌, ℕ, List, Option, length, pos, IfOk, IfErr, OnOk, []};
-ghost use Rattle.plan_desk.specs.Desk.{ShowsSame, after_take_in};
-ghost use Rattle.planner_cli.specs.Words.{Evaluation};
+// The command `evaluate`: both files are read, and the plan is judged.
+ghost use Rattle.std.specs.Prelude.{◌≡◌, ◌≤◌, length, IfOk, IfErr};
+ghost use Rattle.planner_cli.specs.Words.{evaluate};
+ghost use Rattle.planner_cli.specs.Asked.{source_view};
 ghost use Rattle.planner_cli.specs.Answers.{Judges};
-ghost use Rattle.planner_cli.specs.Outcome.{ReadsInstance};
-ghost use Rattle.planner_cli.specs.Refusals.{IsInstanceCause, IsPlanCause, IsCause, ReadsPlan, IsVerdictOn};
+ghost use Rattle.planner_cli.specs.Due.{IsDueFor};
+ghost use Rattle.planner_cli.specs.Refusals.{IsDueAs};
 
+use crate::reading::{instance_of, plan_of};
 use crate::refusal::Refusal;
 use crate::report::{feasible_text, infeasible_text};
 use crate::text::Text;
-use crate::words::Files;
-use fixed_num::Fixed;
-use instance_model::{Instance, Limits};
-use instance_read::{StreamFault, read_instance_from};
-use plan_desk::{Desk, ReadFault, read_all};
+use crate::words::Source;
+use instance_model::Instance;
+use plan_desk::Desk;
 use plan_score::{Verdict, judge};
-use plan_text::{Plan, PlanFault, read_plan};
+use plan_text::Plan;
 use std::alloc::{AllocError, Global};
-
-/// How many bytes a plan file may have.
-const PLAN_BYTES: u64 = 1 << 24;
 
 /// What is said of a plan, and with which status.
 #[derive(Drop)]
@@ -28,79 +24,26 @@ pub struct Report {
     pub text: Text,
 }
 
-/// Reads the instance, then the plan, and judges it.
-pub fn evaluate<D: Desk>(alloc: Global, files: &Files<'_>, desk: &mut D) -> Result<Report, Refusal>
-    requires small { files.now.slack ≤ 1_000_000_000 }
-    ensures ok { IfOk result (λ report. IsVerdictOn (record { instance = files.now.instance.now; plan = files.now.plan.now; slack = files.now.slack }) (D.shows desk.old) report.status report.text) }
-    ensures err { IfErr result (IsCause (record { instance = files.now.instance.now; plan = files.now.plan.now; slack = files.now.slack }) (D.shows desk.old) (D.shows desk.new)) }
-
-    // No file is changed, and nothing is said.
+/// Reads the instance, then the plan, and judges it. No file is changed, and nothing is said.
+pub fn evaluate<D: Desk>(
+    alloc: Global,
+    source: &Source<'_>,
+    plan: &str,
+    desk: &mut D,
+) -> Result<Report, Refusal>
+    requires small { source.now.slack ≤ 1_000_000_000 }
+    ensures ok { IfOk result (λ report.
+        IsDueFor (evaluate (source_view source.now) plan.now) (D.shows desk.old) (D.shows desk.new) report.status report.text) }
+    ensures err { IfErr result (IsDueAs (IsDueFor (evaluate (source_view source.now) plan.now) (D.shows desk.old) (D.shows desk.new))) }
     ensures output { (D.shows desk.new).output ≡ (D.shows desk.old).output }
     ensures said { (D.shows desk.new).said ≡ (D.shows desk.old).said }
     ensures later { (D.shows desk.old).faults ≤ (D.shows desk.new).faults }
 {
-    let inst = instance_of(alloc, files, desk)?;
-    let plan = plan_of(alloc, &inst, files.plan, desk)?;
+    let inst = instance_of(alloc, source, desk)?;
+    let plan = plan_of(alloc, &inst, plan, desk)?;
     match report_on(alloc, &inst, &plan) {
         Ok(report) => Ok(report),
         Err(_) => Err(Refusal::Memory),
-    }
-}
-
-// The instance of the first file, its bands widened by the slack.
-fn instance_of<D: Desk>(alloc: Global, files: &Files<'_>, desk: &mut D) -> Result<Instance, Refusal>
-    requires small { files.now.slack ≤ 1_000_000_000 }
-    ensures ok { IfOk result (λ inst. ReadsInstance (record { instance = files.now.instance.now; plan = files.now.plan.now; slack = files.now.slack }) (D.shows desk.old) inst) }
-    ensures err { IfErr result (IsInstanceCause files.now.instance.now (D.shows desk.old) (D.shows desk.new)) }
-    ensures read { OnOk result (ShowsSame (D.shows desk.new) (after_take_in files.now.instance.now [] (D.shows desk.old))) }
-    ensures output { (D.shows desk.new).output ≡ (D.shows desk.old).output }
-    ensures said { (D.shows desk.new).said ≡ (D.shows desk.old).said }
-    ensures later { (D.shows desk.old).faults ≤ (D.shows desk.new).faults }
-{
-    let limits = Limits::standard();
-    match read_instance_from(alloc, &limits, widening(files.slack), desk, files.instance) {
-        Ok(inst) => Ok(inst),
-        Err(StreamFault::Failed) => Err(Refusal::Unread { word: 2 }),
-        Err(StreamFault::TooLong) => Err(Refusal::LongInstance),
-        Err(StreamFault::Text(fault)) => Err(Refusal::Instance(fault)),
-        Err(StreamFault::Memory) => Err(Refusal::Memory),
-    }
-}
-
-// So many counts of 10^-12.
-fn widening(count: u32) -> Fixed
-    requires small { count ≤ 1_000_000_000 }
-    ensures { result ≡ pos count }
-{
-    match Fixed::from_count(i128::from(count)) {
-        Ok(slack) => slack,
-        Err(_) => unreachable!(),
-    }
-}
-
-// The plan of the file of this name.
-fn plan_of<D: Desk>(
-    alloc: Global,
-    inst: &Instance,
-    name: &str,
-    desk: &mut D,
-) -> Result<Plan, Refusal>
-    ensures ok { IfOk result (λ plan. ReadsPlan name.now inst.now (D.shows desk.old) plan) }
-    ensures err { IfErr result (IsPlanCause name.now inst.now (D.shows desk.old) (D.shows desk.new)) }
-    ensures output { (D.shows desk.new).output ≡ (D.shows desk.old).output }
-    ensures said { (D.shows desk.new).said ≡ (D.shows desk.old).said }
-    ensures later { (D.shows desk.old).faults ≤ (D.shows desk.new).faults }
-{
-    let bytes = match read_all(alloc, desk, name, PLAN_BYTES) {
-        Ok(bytes) => bytes,
-        Err(ReadFault::Failed) => return Err(Refusal::Unread { word: 3 }),
-        Err(ReadFault::TooLong) => return Err(Refusal::LongPlan),
-        Err(ReadFault::Memory) => return Err(Refusal::Memory),
-    };
-    match read_plan(alloc, inst, bytes.as_slice()) {
-        Ok(plan) => Ok(plan),
-        Err(PlanFault::Memory) => Err(Refusal::Memory),
-        Err(fault) => Err(Refusal::Plan(fault)),
     }
 }
 

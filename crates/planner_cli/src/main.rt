@@ -1,20 +1,25 @@
-//! The program: judges plans of maintenance, as its words ask.
+//! The program: judges and replays plans of maintenance, as its words ask.
 //!
 //! `run` is the whole program over any device; `main` runs it over real files and standard output.
 #![tactic(auto)]
 
 mod evaluate;
 mod instance_line;
+mod reading;
 mod refusal;
+mod replay;
+#[cfg(test)]
+mod replay_tests;
 mod report;
 mod run;
+mod say;
 #[cfg(test)]
 mod tests;
 mod text;
 mod words;
 
 use plan_desk::RealDesk;
-pub use run::run;
+pub use run::{run, run_with};
 use std::alloc::Global;
 use std::process::ExitCode;
 use std::{env, io};

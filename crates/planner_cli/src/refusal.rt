@@ -1,11 +1,12 @@
 // Why a run refuses, and what it then says.
 ghost use Rattle.std.specs.Prelude.{◌≡◌, ◌++◌, IfOk, OnOk};
-ghost use Rattle.planner_cli.specs.Lines.{numbered_line, plan_fault_line};
+ghost use Rattle.planner_cli.specs.Lines.{numbered_line, plan_fault_line, script_fault_line};
 ghost use Rattle.planner_cli.specs.Refusals.{status_of, line_of};
 
 use crate::instance_line::push_instance_fault;
 use crate::text::Text;
 use instance_read::InstanceFault;
+use move_script::ScriptFault;
 use plan_text::PlanFault;
 use std::alloc::{AllocError, Global};
 
@@ -15,7 +16,7 @@ pub const WORDS_LINE: &str = "refused words\n";
 /// The line where memory ran out.
 pub const MEMORY_LINE: &str = "refused memory\n";
 
-/// Why the files that the words name are not evaluated.
+/// Why the files that the words name are refused.
 #[derive(Debug, Drop)]
 pub enum Refusal {
     /// The file of this word could not be read. Words count from 1, and the command is word 1.
@@ -26,6 +27,9 @@ pub enum Refusal {
     LongPlan,
     /// The first fault of the plan's text.
     Plan(PlanFault),
+    LongScript,
+    /// The first fault of the script's text.
+    Script(ScriptFault),
     Memory,
 }
 
@@ -46,6 +50,7 @@ impl Refusal {
         match self {
             Refusal::LongInstance | Refusal::Instance(_) => 3,
             Refusal::LongPlan | Refusal::Plan(_) => 4,
+            Refusal::LongScript | Refusal::Script(_) => 6,
             Refusal::Unread { .. } => 7,
             Refusal::Memory => 11,
         }
@@ -61,6 +66,8 @@ impl Refusal {
             Refusal::Instance(fault) => push_instance_fault(&mut line, fault)?,
             Refusal::LongPlan => line.push("refused plan too long\n")?,
             Refusal::Plan(fault) => push_plan_fault(&mut line, *fault)?,
+            Refusal::LongScript => line.push("refused script too long\n")?,
+            Refusal::Script(fault) => push_script_fault(&mut line, *fault)?,
             Refusal::Unread { word } => push_numbered(&mut line, "refused read ", *word)?,
             Refusal::Memory => line.push(MEMORY_LINE)?,
         }
@@ -77,6 +84,17 @@ fn push_plan_fault(line: &mut Text, fault: PlanFault) -> Result<(), AllocError>
         PlanFault::UnknownName { n } => push_numbered(line, "refused plan unknown name ", n),
         PlanFault::Twice { n } => push_numbered(line, "refused plan twice ", n),
         PlanFault::Memory => line.push(MEMORY_LINE),
+    }
+}
+
+// Adds the line of a script's fault.
+fn push_script_fault(line: &mut Text, fault: ScriptFault) -> Result<(), AllocError>
+    ensures { OnOk result (line.new ≡ line.old ++ script_fault_line fault) }
+{
+    match fault {
+        ScriptFault::BadLine { n } => push_numbered(line, "refused script bad line ", n),
+        ScriptFault::UnknownName { n } => push_numbered(line, "refused script unknown name ", n),
+        ScriptFault::Memory => line.push(MEMORY_LINE),
     }
 }
 

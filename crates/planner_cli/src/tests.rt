@@ -5,7 +5,7 @@ use std::alloc::{AllocError, Global};
 use std::test::Fail;
 
 /// Two interventions, and no resources, seasons and exclusions.
-const PLAIN: &str = r#"{"Resources":{},"Seasons":{},
+pub(crate) const PLAIN: &str = r#"{"Resources":{},"Seasons":{},
 "Interventions":{
 "I1":{"tmax":2,"Delta":[1,1],
 "workload":{},
@@ -29,7 +29,7 @@ const STEEP: &str = r#"{"Resources":{},"Seasons":{},
 "Quantile":0.95,"Alpha":0.5}"#;
 
 /// The same where the second start of I1 runs past the horizon.
-const LATE: &str = r#"{"Resources":{},"Seasons":{},
+pub(crate) const LATE: &str = r#"{"Resources":{},"Seasons":{},
 "Interventions":{
 "I1":{"tmax":2,"Delta":[1,2],
 "workload":{},
@@ -41,7 +41,7 @@ const LATE: &str = r#"{"Resources":{},"Seasons":{},
 "Quantile":0.5,"Alpha":0.5}"#;
 
 /// The same with a resource.
-const BANDED: &str = r#"{"Resources":{"c":{"max":[10,10],"min":[0,0]}},"Seasons":{},
+pub(crate) const BANDED: &str = r#"{"Resources":{"c":{"max":[10,10],"min":[0,0]}},"Seasons":{},
 "Interventions":{
 "I1":{"tmax":2,"Delta":[1,1],
 "workload":{"c":{"1":{"1":6},"2":{"2":6}}},
@@ -99,12 +99,12 @@ const NEGATIVE: &str = r#"{"Resources":{},"Seasons":{},
 const EMPTY: &str = r#"{"Resources":{},"Seasons":{},"Interventions":{},"Exclusions":{},
 "T":1,"Scenarios_number":[1],"Quantile":1,"Alpha":1}"#;
 
-const BOTH: &str = "I1 1\nI2 2\n";
+pub(crate) const BOTH: &str = "I1 1\nI2 2\n";
 
 /// Both in the first period.
 const TOGETHER: &str = "I1 1\nI2 1\n";
 
-const PLAIN_REPORT: &str =
+pub(crate) const PLAIN_REPORT: &str =
     "feasible\nscore 2000000000000000000\ncost 1.000000000000 1.000000000000\nmean 2.000000000000 2.000000000000\nexcess 0.000000000000 0.000000000000\nrounded 0\n";
 
 const STEEP_REPORT: &str =
@@ -119,7 +119,7 @@ const NEGATIVE_REPORT: &str =
 const EMPTY_REPORT: &str =
     "feasible\nscore 0\ncost 0.000000000000 0.000000000000\nmean 0.000000000000 0.000000000000\nexcess 0.000000000000 0.000000000000\nrounded 0\n";
 
-fn owned(alloc: Global, list: &[&str]) -> Result<Vec<String>, AllocError> {
+pub(crate) fn owned(alloc: Global, list: &[&str]) -> Result<Vec<String>, AllocError> {
     let mut words = Vec::new(alloc);
     for word in list {
         words.push(String::from_str(alloc, word)?)?;
@@ -128,7 +128,7 @@ fn owned(alloc: Global, list: &[&str]) -> Result<Vec<String>, AllocError> {
 }
 
 // A desk with the files I and P.
-fn desk(alloc: Global, instance: &str, plan: &[u8]) -> Result<MemDesk, AllocError> {
+pub(crate) fn desk(alloc: Global, instance: &str, plan: &[u8]) -> Result<MemDesk, AllocError> {
     let mut desk = MemDesk::make(alloc);
     desk.put_file("I", instance.as_bytes())?;
     desk.put_file("P", plan)?;
@@ -284,7 +284,7 @@ fn each_fault_of_an_instance_is_told(rt: HostRuntime) -> Result<(), Fail> {
 #[test]
 fn words_are_refused(rt: HostRuntime) -> Result<(), Fail> {
     let alloc = rt.alloc();
-    let lists: [&[&str]; 13] = [
+    let lists: [&[&str]; 18] = [
         &[],
         &["--help"],
         &["evaluate", "I"],
@@ -298,6 +298,11 @@ fn words_are_refused(rt: HostRuntime) -> Result<(), Fail> {
         &["evaluate", "I", "P", "slack"],
         &["evaluate", "slack=0", "I", "P", "P"],
         &["judge", "I", "P"],
+        &["evaluate", "I", "P", "S"],
+        &["replay", "I", "P"],
+        &["replay", "I", "P", ""],
+        &["replay", "I", "P", "S", "slack=1"],
+        &["replay", "I", "P", "S", "slack=0", "S"],
     ];
     for words in lists {
         let mut desk = desk(alloc, PLAIN, BOTH.as_bytes())?;

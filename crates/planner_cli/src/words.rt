@@ -1,58 +1,117 @@
 // The command line.
-ghost use Rattle.std.specs.Prelude.{◌≡◌, ◌≤◌, ◌<◌, ◌^◌, length, map, string_bytes, pos, IfSome, IfNone, Some, None, IsTrue, false};
-ghost use Rattle.planner_cli.specs.Words.{evaluation, evaluation_with, slack_of, slack_count, fraction, are_decimals};
+ghost use Rattle.std.specs.Prelude.{◌≡◌, ◌≤◌, map, string_bytes, IfSome, IfNone, Some, None, IsTrue, false};
+ghost use Rattle.planner_cli.specs.Words.{command_of, evaluation, replaying, source_of, slack_of, slack_count, fraction, are_decimals};
+ghost use Rattle.instance_model.specs.Rules.{or_else};
+ghost use Rattle.planner_cli.specs.Asked.{command_view};
 
 /// How many counts of 10^-12 a slack has at most.
 const MOST_SLACK: u64 = 1_000_000_000;
 
-/// The names of the two files of `evaluate`, words 2 and 3, and how far the bands are widened, in counts of 10^-12.
+/// The name of the instance file, word 2, and how far its bands are widened, in counts of 10^-12.
 #[derive(Clone, Copy)]
-pub struct Files<'a> {
+pub struct Source<'a> {
     pub instance: &'a str,
-    pub plan: &'a str,
     pub slack: u32,
 }
 
-/// What the words ask to evaluate, if the words are in the grammar.
-pub fn evaluation(words: &[String]) -> Option<Files<'_>>
-    ensures found { IfSome result (λ files. evaluation (map string_bytes words.now) ≡ Some (record { instance = files.instance.now; plan = files.plan.now; slack = files.slack })) }
-    ensures none { IfNone result (evaluation (map string_bytes words.now) ≡ None) }
-    ensures small { IfSome result (λ files. files.slack ≤ 1_000_000_000) }
+/// What the words ask for, with the names of its files: the plan is word 3, the script word 4.
+#[derive(Clone, Copy)]
+pub enum Command<'a> {
+    Evaluate {
+        source: Source<'a>,
+        plan: &'a str,
+    },
+    Replay {
+        source: Source<'a>,
+        plan: &'a str,
+        script: &'a str,
+    },
+}
+
+/// The command of the words, if they are in the grammar.
+pub fn command_of(words: &[String]) -> Option<Command<'_>>
+    ensures found { IfSome result (λ asked. command_of (map string_bytes words.now) ≡ Some (command_view asked)) }
+    ensures none { IfNone result (command_of (map string_bytes words.now) ≡ None) }
+    ensures small { IfSome result (λ asked. (source_of (command_view asked)).slack ≤ 1_000_000_000) }
 {
     match words {
-        [command, instance, plan] => {
-            files_of(command.as_str(), instance.as_str(), plan.as_str(), Some(0))
+        [name, instance, plan] => {
+            evaluation(name.as_str(), instance.as_str(), plan.as_str(), Some(0))
         }
-        [command, instance, plan, slack] => files_of(
-            command.as_str(),
+        [name, instance, plan, last] => with_last(
+            name.as_str(),
             instance.as_str(),
             plan.as_str(),
+            last.as_str(),
+        ),
+        [name, instance, plan, script, slack] => replaying(
+            name.as_str(),
+            instance.as_str(),
+            plan.as_str(),
+            script.as_str(),
             slack_of(slack.as_str()),
         ),
         _ => None,
     }
 }
 
-// The files of these words, with this slack.
-fn files_of<'a>(
-    command: &str,
+// The command of four words: the last one is a slack, or a file.
+fn with_last<'a>(name: &str, instance: &'a str, plan: &'a str, last: &'a str) -> Option<Command<'a>>
+    ensures found { IfSome result (λ asked. or_else (evaluation name.now instance.now plan.now (slack_of last.now))
+        (replaying name.now instance.now plan.now last.now (Some 0)) ≡ Some (command_view asked)) }
+    ensures none { IfNone result (or_else (evaluation name.now instance.now plan.now (slack_of last.now))
+        (replaying name.now instance.now plan.now last.now (Some 0)) ≡ None) }
+    ensures small { IfSome result (λ asked. (source_of (command_view asked)).slack ≤ 1_000_000_000) }
+{
+    match evaluation(name, instance, plan, slack_of(last)) {
+        Some(command) => Some(command),
+        None => replaying(name, instance, plan, last, Some(0)),
+    }
+}
+
+// `evaluate` of these files, with this slack.
+fn evaluation<'a>(
+    name: &str,
     instance: &'a str,
     plan: &'a str,
     slack: Option<u32>,
-) -> Option<Files<'a>>
+) -> Option<Command<'a>>
     requires small { IfSome slack (λ count. count ≤ 1_000_000_000) }
-    ensures found { IfSome result (λ files. evaluation_with command.now instance.now plan.now slack ≡ Some (record { instance = files.instance.now; plan = files.plan.now; slack = files.slack })) }
-    ensures none { IfNone result (evaluation_with command.now instance.now plan.now slack ≡ None) }
-    ensures small { IfSome result (λ files. files.slack ≤ 1_000_000_000) }
+    ensures found { IfSome result (λ asked. evaluation name.now instance.now plan.now slack ≡ Some (command_view asked)) }
+    ensures none { IfNone result (evaluation name.now instance.now plan.now slack ≡ None) }
+    ensures small { IfSome result (λ asked. (source_of (command_view asked)).slack ≤ 1_000_000_000) }
 {
     let slack = slack?;
-    if command != "evaluate" || instance.is_empty() || plan.is_empty() {
+    if name != "evaluate" || instance.is_empty() || plan.is_empty() {
         return None;
     }
-    Some(Files {
-        instance,
+    Some(Command::Evaluate {
+        source: Source { instance, slack },
         plan,
-        slack,
+    })
+}
+
+// `replay` of these files, with this slack.
+fn replaying<'a>(
+    name: &str,
+    instance: &'a str,
+    plan: &'a str,
+    script: &'a str,
+    slack: Option<u32>,
+) -> Option<Command<'a>>
+    requires small { IfSome slack (λ count. count ≤ 1_000_000_000) }
+    ensures found { IfSome result (λ asked. replaying name.now instance.now plan.now script.now slack ≡ Some (command_view asked)) }
+    ensures none { IfNone result (replaying name.now instance.now plan.now script.now slack ≡ None) }
+    ensures small { IfSome result (λ asked. (source_of (command_view asked)).slack ≤ 1_000_000_000) }
+{
+    let slack = slack?;
+    if name != "replay" || instance.is_empty() || plan.is_empty() || script.is_empty() {
+        return None;
+    }
+    Some(Command::Replay {
+        source: Source { instance, slack },
+        plan,
+        script,
     })
 }
 

@@ -1,6 +1,6 @@
 use Rattle.std.proofs.Common.{List, ℕ, inr, subst}
 use Rattle.planner_cli.specs.Refusals.{SaysOrFails}
-use Rattle.planner_cli.proofs.run.refuse.Goals as goal
+use Rattle.planner_cli.proofs.say.refuse.Goals as goal
 
 pub returns-in-Err-clause-ends : goal.returns-in-Err-clause-ends
 returns-in-Err-clause-ends g c =

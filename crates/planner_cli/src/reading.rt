@@ -1,0 +1,119 @@
+// The files of a command are read. None is changed, and nothing is said.
+ghost use Rattle.std.specs.Prelude.{◌≡◌, ◌≤◌, [], length, pos, All, IfOk, IfErr, OnOk};
+ghost use Rattle.plan_desk.specs.Desk.{ShowsSame, after_take_in};
+ghost use Rattle.plan_moves.specs.Scripts.{NamesKnown};
+ghost use Rattle.planner_cli.specs.Asked.{source_view};
+ghost use Rattle.planner_cli.specs.Reading.{ReadsInstance, ReadsPlan, ReadsScript};
+ghost use Rattle.planner_cli.specs.Refusals.{IsInstanceCause, IsPlanCause, IsScriptCause};
+
+use crate::refusal::Refusal;
+use crate::words::Source;
+use fixed_num::Fixed;
+use instance_model::{Instance, Limits};
+use instance_read::{StreamFault, read_instance_from};
+use move_script::{Script, ScriptFault, read_script};
+use plan_desk::{Desk, ReadFault, read_all};
+use plan_text::{Plan, PlanFault, read_plan};
+use std::alloc::Global;
+
+/// How many bytes a plan file may have.
+const PLAN_BYTES: u64 = 1 << 24;
+
+/// How many bytes a script file may have.
+const SCRIPT_BYTES: u64 = 1 << 29;
+
+/// The instance of a command, its bands widened by the slack.
+pub fn instance_of<D: Desk>(
+    alloc: Global,
+    source: &Source<'_>,
+    desk: &mut D,
+) -> Result<Instance, Refusal>
+    requires small { source.now.slack ≤ 1_000_000_000 }
+    ensures ok { IfOk result (ReadsInstance (source_view source.now) (D.shows desk.old)) }
+    ensures err { IfErr result (IsInstanceCause source.now.instance.now (D.shows desk.old) (D.shows desk.new)) }
+    ensures read { OnOk result (ShowsSame (D.shows desk.new) (after_take_in source.now.instance.now [] (D.shows desk.old))) }
+    ensures output { (D.shows desk.new).output ≡ (D.shows desk.old).output }
+    ensures said { (D.shows desk.new).said ≡ (D.shows desk.old).said }
+    ensures later { (D.shows desk.old).faults ≤ (D.shows desk.new).faults }
+{
+    let limits = Limits::standard();
+    match read_instance_from(
+        alloc,
+        &limits,
+        widening(source.slack),
+        desk,
+        source.instance,
+    ) {
+        Ok(inst) => Ok(inst),
+        Err(StreamFault::Failed) => Err(Refusal::Unread { word: 2 }),
+        Err(StreamFault::TooLong) => Err(Refusal::LongInstance),
+        Err(StreamFault::Text(fault)) => Err(Refusal::Instance(fault)),
+        Err(StreamFault::Memory) => Err(Refusal::Memory),
+    }
+}
+
+// So many counts of 10^-12.
+fn widening(count: u32) -> Fixed
+    requires small { count ≤ 1_000_000_000 }
+    ensures { result ≡ pos count }
+{
+    match Fixed::from_count(i128::from(count)) {
+        Ok(slack) => slack,
+        Err(_) => unreachable!(),
+    }
+}
+
+/// The plan of the file of this name, which is word 3.
+pub fn plan_of<D: Desk>(
+    alloc: Global,
+    inst: &Instance,
+    name: &str,
+    desk: &mut D,
+) -> Result<Plan, Refusal>
+    ensures ok { IfOk result (ReadsPlan name.now inst.now (D.shows desk.old)) }
+    ensures each { IfOk result (λ plan. length plan ≡ length inst.now.names) }
+    ensures err { IfErr result (IsPlanCause name.now inst.now (D.shows desk.old) (D.shows desk.new)) }
+    ensures read { OnOk result (ShowsSame (D.shows desk.new) (after_take_in name.now [] (D.shows desk.old))) }
+    ensures output { (D.shows desk.new).output ≡ (D.shows desk.old).output }
+    ensures said { (D.shows desk.new).said ≡ (D.shows desk.old).said }
+    ensures later { (D.shows desk.old).faults ≤ (D.shows desk.new).faults }
+{
+    let bytes = match read_all(alloc, desk, name, PLAN_BYTES) {
+        Ok(bytes) => bytes,
+        Err(ReadFault::Failed) => return Err(Refusal::Unread { word: 3 }),
+        Err(ReadFault::TooLong) => return Err(Refusal::LongPlan),
+        Err(ReadFault::Memory) => return Err(Refusal::Memory),
+    };
+    match read_plan(alloc, inst, bytes.as_slice()) {
+        Ok(plan) => Ok(plan),
+        Err(PlanFault::Memory) => Err(Refusal::Memory),
+        Err(fault) => Err(Refusal::Plan(fault)),
+    }
+}
+
+/// The script of the file of this name, which is word 4.
+pub fn script_of<D: Desk>(
+    alloc: Global,
+    inst: &Instance,
+    name: &str,
+    desk: &mut D,
+) -> Result<Script, Refusal>
+    ensures ok { IfOk result (ReadsScript name.now inst.now (D.shows desk.old)) }
+    ensures known { IfOk result (All (NamesKnown inst.now)) }
+    ensures err { IfErr result (IsScriptCause name.now inst.now (D.shows desk.old) (D.shows desk.new)) }
+    ensures output { (D.shows desk.new).output ≡ (D.shows desk.old).output }
+    ensures said { (D.shows desk.new).said ≡ (D.shows desk.old).said }
+    ensures later { (D.shows desk.old).faults ≤ (D.shows desk.new).faults }
+{
+    let bytes = match read_all(alloc, desk, name, SCRIPT_BYTES) {
+        Ok(bytes) => bytes,
+        Err(ReadFault::Failed) => return Err(Refusal::Unread { word: 4 }),
+        Err(ReadFault::TooLong) => return Err(Refusal::LongScript),
+        Err(ReadFault::Memory) => return Err(Refusal::Memory),
+    };
+    match read_script(alloc, inst, bytes.as_slice()) {
+        Ok(script) => Ok(script),
+        Err(ScriptFault::Memory) => Err(Refusal::Memory),
+        Err(fault) => Err(Refusal::Script(fault)),
+    }
+}

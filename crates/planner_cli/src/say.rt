@@ -1,0 +1,78 @@
+// What is due is said.
+ghost use Rattle.std.specs.Prelude.{◌≡◌, ◌⊎◌, ◌≤◌, OnOk, OnErr, decimal};
+ghost use Rattle.plan_desk.specs.Contents.{Says};
+ghost use Rattle.planner_cli.specs.Lines.{memory_line, numbered_line};
+ghost use Rattle.planner_cli.specs.Refusals.{SaysSome, SaysOrFails, status_of, line_of};
+
+use crate::refusal::{MEMORY_LINE, Refusal};
+use fixed_num::Line;
+use plan_desk::{Desk, Failed, say_all};
+use std::alloc::Global;
+
+/// Says a text whole, and answers the status that is due with it; 8 where that failed.
+pub fn say<D: Desk>(desk: &mut D, status: u8, text: &[u8]) -> u8
+    ensures ends { SaysOrFails status text.now (D.shows desk.old) (D.shows desk.new) result }
+    ensures output { (D.shows desk.new).output ≡ (D.shows desk.old).output }
+    ensures later { (D.shows desk.old).faults ≤ (D.shows desk.new).faults }
+{
+    match say_all(desk, text) {
+        Ok(()) => status,
+        Err(_) => 8,
+    }
+}
+
+/// Says the line of a refusal, or that memory ran out for it.
+pub fn refuse<D: Desk>(alloc: Global, desk: &mut D, refusal: &Refusal) -> u8
+    ensures ends { SaysOrFails (status_of refusal.now) (line_of refusal.now) (D.shows desk.old) (D.shows desk.new) result
+        ⊎ SaysOrFails 11 memory_line (D.shows desk.old) (D.shows desk.new) result }
+    ensures output { (D.shows desk.new).output ≡ (D.shows desk.old).output }
+    ensures later { (D.shows desk.old).faults ≤ (D.shows desk.new).faults }
+{
+    match refusal.line(alloc) {
+        Ok(line) => say(desk, refusal.status(), line.as_slice()),
+        Err(_) => say(desk, 11, MEMORY_LINE.as_bytes()),
+    }
+}
+
+/// Says a line that ends with a number, and answers the status that is due with it; 8 where that failed. Takes no memory.
+pub fn say_numbered<D: Desk>(desk: &mut D, status: u8, words: &str, n: u64) -> u8
+    ensures ends { SaysOrFails status (numbered_line words.now n) (D.shows desk.old) (D.shows desk.new) result }
+    ensures output { (D.shows desk.new).output ≡ (D.shows desk.old).output }
+    ensures later { (D.shows desk.old).faults ≤ (D.shows desk.new).faults }
+{
+    match say_line(desk, words, n) {
+        Ok(()) => status,
+        Err(_) => 8,
+    }
+}
+
+// Says a line that ends with a number.
+fn say_line<D: Desk>(desk: &mut D, words: &str, n: u64) -> Result<(), Failed>
+    ensures ok { OnOk result (Says (numbered_line words.now n) (D.shows desk.old) (D.shows desk.new)) }
+    ensures same { OnOk result ((D.shows desk.new).last ≡ (D.shows desk.old).last) }
+    ensures err { OnErr result (SaysSome (numbered_line words.now n) (D.shows desk.old) (D.shows desk.new) 8) }
+    ensures output { (D.shows desk.new).output ≡ (D.shows desk.old).output }
+    ensures later { (D.shows desk.old).faults ≤ (D.shows desk.new).faults }
+{
+    say_piece(desk, words.as_bytes())?;
+    say_piece(desk, digits_of(n).bytes())?;
+    say_piece(desk, b"\n")
+}
+
+// Says a piece whole.
+fn say_piece<D: Desk>(desk: &mut D, piece: &[u8]) -> Result<(), Failed>
+    ensures ok { OnOk result (Says piece.now (D.shows desk.old) (D.shows desk.new)) }
+    ensures same { OnOk result ((D.shows desk.new).last ≡ (D.shows desk.old).last) }
+    ensures err { OnErr result (SaysSome piece.now (D.shows desk.old) (D.shows desk.new) 8) }
+    ensures output { (D.shows desk.new).output ≡ (D.shows desk.old).output }
+    ensures later { (D.shows desk.old).faults ≤ (D.shows desk.new).faults }
+{
+    say_all(desk, piece)
+}
+
+// A number in decimal digits.
+fn digits_of(n: u64) -> Line
+    ensures { result ≡ decimal n }
+{
+    Line::of_int(n.into())
+}
