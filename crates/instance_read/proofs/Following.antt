@@ -64,18 +64,20 @@ follow_more limits old new walk walk' keeper keeper' bytes e stands next taken h
 }
 
 -- the same of a number of which the value alone is told
-pub follow_count : (limits : Limits) (old new : PullView) (walk walk' : Walk) (keeper keeper' : Keeper) (bytes : List ℕ) (at : ℕ) (count : ℤ)
+pub follow_count : (limits : Limits) (old new : PullView) (walk walk' : Walk) (keeper keeper' : Keeper) (bytes : List ℕ) (at : ℕ) (count : ℤ) (s : Spot) → walk.fault ≡ None
     → ((given : ℕ) → Stands old bytes given false → Stands new bytes (given + 1) false)
     → ((given : ℕ) → Stands old bytes given false → IsNextCount bytes given at count)
-    → ((es : List Event) (token : List ℕ) → fixed token ≡ Some (count, false) → HaveTaken limits walk keeper es → HaveTaken limits walk' keeper' (es ++ Event.number at token ∷ []))
+    → ((es : List Event) (token : List ℕ) → fixed token ≡ Some (count, false) → StandsAfter limits walk es → StandsAfter limits walk' (es ++ Event.number at token ∷ []))
+    → ((es : List Event) (token : List ℕ) → StandsAfter limits walk es → s ≡ spot_after es (Event.number at token))
+    → ((token : List ℕ) → fixed token ≡ Some (count, false) → kept_of keeper' ≡ keep s (Event.number at token) (kept_of keeper))
     → IsFollowing limits old walk keeper bytes → IsFollowing limits new walk' keeper' bytes
-follow_count limits old new walk walk' keeper keeper' bytes at count stands next taken h =
+follow_count limits old new walk walk' keeper keeper' bytes at count s none stands next walks spot keeps h =
     let number = next (length h.events) h.pulled in
     let e = Event.number at number.token in
     record {
       events = h.events ++ e ∷ [];
       pulled = subst (λ (n : ℕ). Stands new bytes n false) (sym (length_push h.events e)) (stands (length h.events) h.pulled);
-      taken = taken h.events number.token number.exact h.taken;
+      taken = taken_more limits walk walk' keeper keeper' h.events e s h.taken (walks h.events number.token number.exact h.taken.stands) none (spot h.events number.token h.taken.stands) (keeps number.token number.exact);
       first = λ rest root t. one_more (events_of root) h.events e (h.first rest root t) (number.next rest root t);
     }
 

@@ -32,15 +32,17 @@ fn take_counts(pull: &mut Pull, walk: &mut ShapeWalk, keeper: &mut Keeper) -> Re
         → OnOk result (IsFollowing limits pull.new walk.new keeper.new bytes) }
     ensures unfinished { IsUnfinished pull.new }
 {
+    let Some(spot) = walk.awaits_count() else {
+        return Ok(());
+    };
     'counts: for _ in 0..u64::MAX {
-        let Some(spot) = walk.awaits_count() else {
-            return Ok(());
-        };
         let Some(number) = pull.next_short() else {
             return Ok(());
         };
-        walk.take_count(number.at, spot);
         keeper.take_count(spot, number.count)?;
+        if !walk.take_count(number.at, spot) {
+            return Ok(());
+        }
     }
     Ok(())
 }

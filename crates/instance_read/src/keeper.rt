@@ -91,7 +91,11 @@ impl Keeper {
         ensures { (at : ℕ) (token : List ℕ) → read_of spot (json.Event.number at token) ≡ reads.Count count false
             → OnOk result (kept_of self.new ≡ spec.keep spot (json.Event.number at token) (kept_of self.old)) }
     {
-        self.add_count(spot, count, false)
+        match spot {
+            // the case of most numbers by far
+            Spot::RiskNumber => self.work.risks.add(count, false),
+            _ => self.add_count(spot, count, false),
+        }
     }
 
     /// Counts a number that is rounded.

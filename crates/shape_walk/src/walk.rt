@@ -1,6 +1,6 @@
 //! The walk over the events of a text.
 
-ghost use Rattle.std.specs.Prelude.{◌≡◌, ◌∷◌, [], ◌++◌, ◌↔◌, ℕ, ℤ, List, Bool, false, None, Some, IfOk, OnOk, IfSome};
+ghost use Rattle.std.specs.Prelude.{◌≡◌, ◌∷◌, [], ◌++◌, ◌↔◌, ℕ, ℤ, List, Bool, false, None, Some, IfOk, OnOk, IfSome, IsTrue, is_none};
 ghost use Rattle.decimal_json.specs.Tree as json;
 ghost use Rattle.decimal_json.specs.Tree.{events_of};
 ghost use Rattle.decimal_json.specs.Events.{event_view};
@@ -122,9 +122,10 @@ impl ShapeWalk {
     }
 
     /// Takes the next event of a text, which is a number at the spot and whose value is exactly a count of 10^-12: what
-    /// `take` does with each such event. It takes no memory.
+    /// `take` does with each such event. Tells whether numbers are still awaited at the spot, which only a fault ends. It
+    /// takes no memory.
     #[inline]
-    pub fn take_count(&mut self, at: u64, spot: Spot)
+    pub fn take_count(&mut self, at: u64, spot: Spot) -> bool
         requires { AwaitsCount self.old spot }
         ensures stands { (limits : Sizes) (es : List json.Event) (token : List ℕ) (count : ℤ) → fixed token ≡ Some (count, false) → StandsAfter limits self.old es
             → StandsAfter limits self.new (es ++ json.Event.number at token ∷ []) }
@@ -132,10 +133,16 @@ impl ShapeWalk {
             → spot ≡ spot_after es (json.Event.number at token) }
         ensures read { (token : List ℕ) (count : ℤ) → fixed token ≡ Some (count, false)
             → read_of spot (json.Event.number at token) ≡ reads.Count count false }
+        ensures fault { result ≡ is_none self.new.fault }
+        ensures awaits { IsTrue result → AwaitsCount self.new spot }
     {
         self.top.pass();
-        if let Some(flaw) = self.counts.count(&self.limits, spot) {
-            self.fault = Some(Fault { at, flaw });
+        match self.counts.count(&self.limits, spot) {
+            None => true,
+            Some(flaw) => {
+                self.fault = Some(Fault { at, flaw });
+                false
+            }
         }
     }
 
