@@ -1,12 +1,13 @@
 #!/usr/bin/env python3
 """Times the moves of `replay` on a drawn instance, and compares every key that it says with a plain computation from scratch.
 
-    bench/replay.py [--scenarios "100 200 1000"] [--moves 20000] [--rounds 3] [--seed 1] [--program PATH] [--flat PATH]
+    bench/replay.py [--scenarios "100 200 1000"] [--moves 20000] [--rounds 9] [--seed 1] [--program PATH] [--flat PATH]
     bench/replay.py --compare [--moves 5000] [--seed 1] [--program PATH]
 
 The first form draws instances of 100 interventions over 100 periods with two resources, seasons and exclusions, one for each number of
-scenarios a period, and a script of random moves. A row has the microseconds of a move (the time of the whole script less that of an empty one,
-by its lines) and of a key from scratch (the time of `evaluate` less that of `evaluate` with a plan whose text is refused), and their ratio.
+scenarios a period, and a script of random moves. A row has the microseconds of a move (the processor time of the whole script less that of an
+empty one, by its lines) and of a key from scratch (the time of `evaluate` less that of `evaluate` with a plan whose text is refused), and their
+ratio. Each is a median over the rounds.
 With --flat, another built program, such as one whose `run` keeps its plans over `FlatRow`, is timed beside it.
 
 The second form draws a smaller instance with bands on both sides, seasons, exclusions and risks below 0, and a script of random moves, exchanges and
@@ -19,7 +20,6 @@ import statistics
 import subprocess
 import sys
 import tempfile
-import time
 from fractions import Fraction
 
 TOP = os.path.dirname(os.path.dirname(os.path.abspath(__file__)))
@@ -54,6 +54,16 @@ class Instance:
 
     def run(self, i, s):
         return range(s, s + self.duration[i][s - 1])
+
+    def clashes(self, exclusion, starts):
+        i, j, q = exclusion
+        return any(t in self.run(i, starts[i]) and t in self.run(j, starts[j]) for t in self.seasons[q])
+
+    def admit(self, starts):
+        """Widens the bands and leaves out exclusions, so that the plan with these starts keeps every rule and `evaluate` computes its score."""
+        self.upper = [["1000000"] * self.periods for _ in range(2)]
+        self.lower = [["-1000000"] * self.periods for _ in range(2)]
+        self.exclusions = [exclusion for exclusion in self.exclusions if not self.clashes(exclusion, starts)]
 
     def write(self, out):
         quoted = lambda items: ", ".join(items)
@@ -101,8 +111,7 @@ class Plain:
             for t in range(1, inst.periods + 1):
                 load = sum(self.loads[c][i, s, t] for i, s in enumerate(starts) if t in inst.run(i, s))
                 total += max(0, load - self.upper[c][t - 1]) + max(0, self.lower[c][t - 1] - load)
-        broken = sum(1 for i, j, q in inst.exclusions
-                     if any(t in inst.run(i, starts[i]) and t in inst.run(j, starts[j]) for t in inst.seasons[q]))
+        broken = sum(1 for exclusion in inst.exclusions if inst.clashes(exclusion, starts))
         return total + broken * COUNTS
 
     def score(self, starts):
@@ -147,10 +156,13 @@ def write_lines(path, lines):
 
 
 def run(words):
-    """The seconds of one run, and what it printed."""
-    began = time.perf_counter()
-    done = subprocess.run(words, stdout=subprocess.PIPE, stdin=subprocess.DEVNULL)
-    return time.perf_counter() - began, done.stdout.decode()
+    """The processor seconds of one run, which other work on the machine hardly changes, and what it printed."""
+    process = subprocess.Popen(words, stdout=subprocess.PIPE, stdin=subprocess.DEVNULL)
+    with process.stdout as out:
+        said = out.read()
+    _, status, usage = os.wait4(process.pid, 0)
+    process.returncode = os.waitstatus_to_exitcode(status)
+    return usage.ru_utime + usage.ru_stime, said.decode()
 
 
 def compare(program, moves, seed, folder):
@@ -177,10 +189,11 @@ def compare(program, moves, seed, folder):
 def measure(programs, scenarios, moves, rounds, seed, folder):
     source = random.Random(seed)
     inst = Instance(source, 100, 100, scenarios, 3, 0)
+    starts = [source.choice(allowed) for allowed in inst.starts]
+    inst.admit(starts)
     path = {name: os.path.join(folder, name) for name in ("instance", "plan", "script", "none", "bad")}
     with open(path["instance"], "w") as out:
         inst.write(out)
-    starts = [source.choice(allowed) for allowed in inst.starts]
     write_lines(path["plan"], [f"I{i} {s}" for i, s in enumerate(starts)])
     write_lines(path["script"], draw_script(source, inst, starts, moves, True)[0])
     write_lines(path["none"], [])
@@ -190,11 +203,12 @@ def measure(programs, scenarios, moves, rounds, seed, folder):
         for _ in range(rounds):
             for kind in ("script", "none"):
                 spent[kind].append(run([program, "replay", path["instance"], path["plan"], path[kind]])[0])
-            spent["judged"].append(run([program, "evaluate", path["instance"], path["plan"]])[0])
+            seconds, said = run([program, "evaluate", path["instance"], path["plan"]])
+            assert said.startswith("feasible")
+            spent["judged"].append(seconds)
             spent["bad"].append(run([program, "evaluate", path["instance"], path["bad"]])[0])
-        median = {kind: statistics.median(seconds) for kind, seconds in spent.items()}
-        move = (median["script"] - median["none"]) / moves
-        scratch = median["judged"] - median["bad"]
+        move = statistics.median(a - b for a, b in zip(spent["script"], spent["none"])) / moves
+        scratch = statistics.median(a - b for a, b in zip(spent["judged"], spent["bad"]))
         print(f"| {scenarios} | {name} | {1 / move:.0f} | {move * 1e6:.1f} | {scratch * 1e6:.0f} | {scratch / move:.1f} |")
 
 
@@ -202,7 +216,7 @@ def main():
     parser = argparse.ArgumentParser(description=__doc__.split("\n")[0])
     parser.add_argument("--scenarios", default="100 200 1000")
     parser.add_argument("--moves", type=int, default=0)
-    parser.add_argument("--rounds", type=int, default=3)
+    parser.add_argument("--rounds", type=int, default=9)
     parser.add_argument("--seed", type=int, default=1)
     parser.add_argument("--program", default=os.path.join(TOP, "planner"))
     parser.add_argument("--flat")
