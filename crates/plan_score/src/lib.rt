@@ -17,4 +17,4 @@ mod verdict;
 pub use instance_model::Rule;
 pub use starts::broken_start;
 pub use values::Values;
-pub use verdict::{Verdict, judge};
+pub use verdict::{Verdict, broken_rule, judge, plan_values};

@@ -1,4 +1,4 @@
-ghost use Rattle.std.specs.Prelude.{◌≡◌, ◌+◌, ◌*◌, ◌<◌, ◌≤◌, length, IfOk};
+ghost use Rattle.std.specs.Prelude.{◌≡◌, ◌+◌, ◌*◌, ◌^◌, ◌<◌, ◌≤◌, length, IfOk, unsigned_abs};
 ghost use Rattle.instance_model.specs.Naturals.{ceil_div_of};
 ghost use Rattle.instance_model.specs.Plans.{RunsAreAllowed};
 ghost use Rattle.plan_score.specs.Values.{values_of};
@@ -93,7 +93,8 @@ pub(crate) fn values_on<L: Ledger>(
     requires some { 0 < blank.parts }
     requires each { length plan.now ≡ length inst.now.names }
     requires allowed { RunsAreAllowed inst.now plan.now }
-    ensures { IfOk result (λ values. values ≡ values_of inst.now plan.now) }
+    ensures value { IfOk result (λ values. values ≡ values_of inst.now plan.now) }
+    ensures small { IfOk result (λ values. unsigned_abs values.score < 10 ^ 36) }
 {
     let mut steps: Steps<L> = Steps::zero(blank);
     let totals = totals_of(alloc, inst, plan, &mut steps)?;

@@ -1,5 +1,6 @@
-ghost use Rattle.std.specs.Prelude.{◌≡◌, ℕ, ℤ, List, length, None, Some, IfOk, OnErr};
+ghost use Rattle.std.specs.Prelude.{◌≡◌, ◌<◌, ◌^◌, ℕ, ℤ, List, length, None, Some, IfOk, OnErr, unsigned_abs};
 ghost use Rattle.instance_model.specs.Exact.{IsReading, EnclosesReading};
+ghost use Rattle.instance_model.specs.Plans.{RunsAreAllowed};
 ghost use Rattle.instance_model.specs.Rules.{first_rule};
 ghost use Rattle.plan_score.specs.Values.{values_of};
 ghost use Rattle.plan_score.specs.Verdict.{IfFeasible, IfBroken};
@@ -20,8 +21,8 @@ pub enum Verdict {
     Broken(Rule),
 }
 
-/// The first broken rule: starts, then bands, then exclusions.
-fn broken_rule(inst: &Instance, plan: &[Option<u32>]) -> Option<Rule>
+/// The first broken rule: starts, then bands, then exclusions. Takes no memory.
+pub fn broken_rule(inst: &Instance, plan: &[Option<u32>]) -> Option<Rule>
     requires { length plan.now ≡ length inst.now.names }
     ensures { result ≡ first_rule inst.now plan.now }
 {
@@ -32,6 +33,20 @@ fn broken_rule(inst: &Instance, plan: &[Option<u32>]) -> Option<Rule>
         return Some(rule);
     }
     broken_exclusion(inst, plan)
+}
+
+/// The values of a plan of allowed starts, from scratch. Takes memory for the scenario sums of one period.
+pub fn plan_values(
+    alloc: Global,
+    inst: &Instance,
+    plan: &[Option<u32>],
+) -> Result<Values, AllocError>
+    requires each { length plan.now ≡ length inst.now.names }
+    requires allowed { RunsAreAllowed inst.now plan.now }
+    ensures values { IfOk result (λ values. values ≡ values_of inst.now plan.now) }
+    ensures small { IfOk result (λ values. unsigned_abs values.score < 10 ^ 36) }
+{
+    values_on::<Brand>(alloc, inst, plan, Blank::new(1))
 }
 
 /// The verdict on a plan, from scratch: one of the two, so each comes exactly where its clause says.
@@ -57,6 +72,6 @@ pub fn judge(alloc: Global, inst: &Instance, plan: &[Option<u32>]) -> Result<Ver
         return Ok(Verdict::Broken(rule));
     }
     inst.printed_values_enclose();
-    let values = values_on::<Brand>(alloc, inst, plan, Blank::new(1))?;
+    let values = plan_values(alloc, inst, plan)?;
     Ok(Verdict::Feasible(values))
 }

@@ -4,9 +4,9 @@ use Rattle.plan_score.specs.Values.{values_of}
 use Rattle.plan_score.proofs.TotalLemmas.{kept, score_low_is, score_high_is, excess_low_is, excess_high_is, cost_slack_is, mean_slack_is, no_margin, no_margin_more, values_same}
 use Rattle.plan_score.proofs.values.values_on.Goals as goal
 
-pub returns : goal.returns
+pub returns-clause-value : goal.returns-clause-value
 unfolding values_of
-returns g c =
+returns-clause-value g c =
     let i = c.args.inst.now in
     let p = c.args.plan.now in
     let s = c.in_ok-totals in
