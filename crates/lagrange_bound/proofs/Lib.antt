@@ -1,0 +1,14 @@
+pub mod PriceLemmas
+pub mod ExListLemmas
+pub mod ExSetLemmas
+pub mod PricingLemmas
+pub mod ExCountLemmas
+pub mod ExLemmas
+pub mod DualityLemmas
+pub mod WorthLemmas
+pub mod BaseLemmas
+pub mod LeastLemmas
+pub mod LimitLemmas
+pub mod ExSumsLemmas
+pub mod RowLemmas
+pub mod TableLemmas

@@ -1,0 +1,36 @@
+//! Prices on the limits of bands and on exclusions, and the bound that they give: no feasible plan in a box of starts has
+//! a value below the box's worth, whatever the prices are.
+//!
+//! Interventions, resources and exclusions count from 0; periods, starts and scenarios count from 1. Prices, bases,
+//! worths and scores are in parts of 10^-18, which are counts of 10^-12 times millionths.
+#![tactic(auto)]
+
+mod band_cost;
+mod ex_cost;
+mod ex_list;
+mod ex_price;
+mod ex_sums;
+mod goal;
+mod laws;
+mod least_price;
+mod limit_cost;
+mod places;
+mod price_rows;
+mod prices;
+mod pricing;
+mod risk_goal;
+mod span;
+mod table;
+mod tail;
+mod term;
+
+pub use ex_price::ExPrice;
+pub use goal::Goal;
+pub use laws::worth_bounds_plans;
+pub use places::Places;
+pub use prices::Prices;
+pub use pricing::price;
+pub use risk_goal::RiskGoal;
+pub use span::Span;
+pub use table::{PriceTable, tabulate, worth};
+pub use tail::Tail;

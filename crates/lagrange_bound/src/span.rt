@@ -1,0 +1,6 @@
+/// An interval of starts, with both ends.
+#[derive(Clone, Copy, Debug, PartialEq, Eq)]
+pub struct Span {
+    pub from: u32,
+    pub to: u32,
+}

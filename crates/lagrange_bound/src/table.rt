@@ -1,0 +1,87 @@
+ghost use Rattle.std.specs.Prelude.{◌≡◌, ◌<◌, ◌≤◌, ◌*◌, ◌^◌, List, IfOk, length, pos, unsigned_abs, unwrap_or};
+ghost use Rattle.fixed_num.specs.Sums.{sum_below};
+ghost use Rattle.lagrange_bound.specs.Least.{least_over};
+ghost use Rattle.lagrange_bound.specs.declared.span.Span.{Span};
+ghost use Rattle.lagrange_bound.specs.Prices.{IsPriceList};
+ghost use Rattle.lagrange_bound.specs.Boxes.{IsBox, HasStarts, span_of};
+ghost use Rattle.lagrange_bound.specs.Worth.{worth_of};
+ghost use Rattle.lagrange_bound.specs.Tabulated.{table_of, entry_of, priced_in, IsPricedBox, worth_in};
+
+use crate::least_price::least_price;
+use crate::limit_cost::fixed_cost;
+use crate::price_rows::price_rows;
+use crate::{Goal, Prices, Span};
+use instance_model::Instance;
+use std::alloc::{AllocError, Global};
+use std::marker::Model;
+
+/// The prices of all allowed starts, and what the prices add whatever the starts are.
+///
+/// Seen as one entry per intervention and start from 1 to tmax, the price or nothing where the start isn't allowed, beside
+/// one number.
+#[derive(Drop)]
+pub struct PriceTable {
+    rows: Vec<Vec<Option<i128>>>,
+    fixed: i128,
+}
+
+impl Model for PriceTable {
+    ghost use Rattle.lagrange_bound.specs.Tabulated.{PriceRows};
+
+    ghost Value = { PriceRows };
+
+    ghost use Rattle.lagrange_bound.specs.Small.{view_of, IsSmallTable};
+
+    ghost view = { view_of };
+
+    ghost invariant = { IsSmallTable };
+}
+
+/// The prices of all allowed starts.
+pub fn tabulate<G: Goal>(
+    alloc: Global,
+    goal: &G,
+    inst: &Instance,
+    prices: &Prices,
+) -> Result<PriceTable, AllocError>
+    requires { IsPriceList inst.now prices.now }
+    ensures value { IfOk result (λ table.
+        table ≡ table_of (G.base_gives goal.now inst.now prices.now) inst.now prices.now) }
+
+    // Over a box of the instance with an allowed start in each interval, the table's worth is that of the prices.
+    ensures boxes { IfOk result (λ table.
+        (box : List Span) → IsBox inst.now box → HasStarts inst.now box → IsPricedBox table box) }
+    ensures worths { IfOk result (λ table.
+        (box : List Span) → IsBox inst.now box → HasStarts inst.now box →
+        worth_in table box ≡ worth_of (G.base_gives goal.now inst.now prices.now) inst.now prices.now box) }
+{
+    inst.fits();
+    let rows = price_rows(alloc, goal, inst, prices)?;
+    Ok(PriceTable {
+        rows,
+        fixed: fixed_cost(inst, prices),
+    })
+}
+
+/// The worth of a box with a price in each interval. Takes no memory.
+pub fn worth(table: &PriceTable, spans: &[Span]) -> i128
+    requires { IsPricedBox table.now spans.now }
+    ensures value { result ≡ worth_in table.now spans.now }
+    ensures small { unsigned_abs result < 10 ^ 37 }
+{
+    least_prices(table, spans) + table.fixed
+}
+
+/// The sum of the least prices of all intervals.
+fn least_prices(table: &PriceTable, spans: &[Span]) -> i128
+    requires { IsPricedBox table.now spans.now }
+    ensures value { result ≡ sum_below (length table.now.rows) (λ i.
+        least_over (λ s. unwrap_or (entry_of table.now i s) (pos 0)) (priced_in table.now i (span_of spans.now i))) }
+    ensures small { unsigned_abs result ≤ 1024 * 2_000_000_000_000_000_000_000_000_000_000_000 }
+{
+    let mut sum: i128 = 0;
+    for i in 0..table.rows.len() {
+        sum += least_price(table.rows[i].as_slice(), spans[i]);
+    }
+    sum
+}
