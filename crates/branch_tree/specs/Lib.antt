@@ -1,0 +1,9 @@
+pub mod Trees
+pub mod Loads
+pub mod Extremes
+pub mod Meetings
+pub mod Ranges
+pub mod Holding
+pub mod Validity
+pub mod Laws
+pub mod Walk

@@ -1,0 +1,27 @@
+// Laws of trees and certificates. The functions do nothing: the contract is the law.
+ghost use Rattle.branch_tree.specs.Laws.{PartsHoldPlans, PartsAreBoxes, NodesAreOneTree, ValidBoundsPlans};
+
+use lagrange_bound::{Goal, worth_bounds_plans};
+
+/// Each plan of a box lies in one of the two parts of its split.
+pub fn parts_hold_plans()
+    ensures { PartsHoldPlans }
+{}
+
+/// The two parts of a box of an instance are such boxes.
+pub fn parts_are_boxes()
+    ensures { PartsAreBoxes }
+{}
+
+/// The same nodes are those of one tree.
+pub fn nodes_are_one_tree()
+    ensures { NodesAreOneTree }
+{}
+
+/// A valid certificate in range bounds every feasible plan, whatever the goal is: each has a value of at least the bound, and
+/// where the bound is none, there is no feasible plan.
+pub fn valid_bounds_plans<G: Goal>(goal: &G)
+    ensures { ValidBoundsPlans (G.base_gives goal.now) (G.value_gives goal.now) }
+{
+    worth_bounds_plans(goal);
+}
