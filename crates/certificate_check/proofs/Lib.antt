@@ -1,0 +1,5 @@
+pub mod TableLemmas
+pub mod LeafLemmas
+pub mod FlatLemmas
+pub mod StepLemmas
+pub mod VerdictLemmas
