@@ -1,0 +1,11 @@
+pub mod KeyLemmas
+pub mod LimitLemmas
+pub mod TailLemmas
+pub mod ExLemmas
+pub mod SplitLemmas
+pub mod GrowLemmas
+pub mod CutLemmas
+pub mod TellLemmas
+pub mod LeadLemmas
+pub mod FormLemmas
+pub mod WriteLemmas

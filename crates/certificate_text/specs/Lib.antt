@@ -1,0 +1,5 @@
+pub mod Text
+pub mod Grammar
+pub mod Entries
+pub mod Laws
+pub mod Steps
