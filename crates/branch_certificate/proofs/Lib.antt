@@ -1,0 +1,9 @@
+pub mod StepLemmas
+pub mod NodeLemmas
+pub mod FitLemmas
+pub mod EntryLemmas
+pub mod ListLemmas
+pub mod WholeLemmas
+pub mod CompleteLemmas
+pub mod TreeLemmas
+pub mod FaultLemmas
