@@ -1,26 +1,26 @@
 -- Which statuses the words and the files allow.
-use Rattle.std.proofs.Common.{◌≡◌, ℕ, ◌⊎◌, inl, inr, List, [], ◌∷◌, length, Option, Some, None, refl, sym, ◌∙◌, subst, arith}
+use Rattle.std.proofs.Common.{◌≡◌, ℕ, ◌⊎◌, inl, inr, List, [], ◌∷◌, Option, Some, None, refl, sym, subst}
 use Rattle.std.specs.Prelude.{IsSome}
 use Rattle.plan_desk.specs.Desk.{Shown}
-use Rattle.plan_desk.specs.Contents.{TellsSuch, WhereToldHolds}
+use Rattle.plan_desk.specs.Contents.{TellsSuch}
 use Rattle.plan_moves.specs.declared.script_line.ScriptLine.{ScriptLine}
 use Rattle.plan_moves.specs.Scripts.{Succeeds, FailsAt}
 use Rattle.move_script.specs.Replays.{FailsByStart, FailsByUndo}
 use Rattle.instance_model.specs.Tables.{Tables}
 use Rattle.instance_model.specs.Rules.{first_start_rule, KeepsRules}
-use Rattle.planner_cli.specs.Words.{Source, Command, evaluate, replay, source_of, plan_of}
+use Rattle.planner_cli.specs.Words.{Source, Command, evaluate, replay, check, source_of, plan_of}
 use Rattle.planner_cli.specs.Answers.{Takes, IsLongInstance, Spells, IsLongPlan, SpellsScript, IsLongScript, IsOpeningOf, Judges, Replays}
 use Rattle.planner_cli.specs.Answers.Judges.{feasible, infeasible}
 use Rattle.planner_cli.specs.Answers.Replays.{broken_start, ended, not_allowed, nothing_to_undo}
-use Rattle.planner_cli.specs.Reading.{ReadsBytes, ReadsInstance, ReadsPlan, ReadsScript, RefusesInstance, RefusesPlan, RefusesScript}
+use Rattle.planner_cli.specs.Reading.{ReadsBytes}
 use Rattle.planner_cli.specs.Reading.RefusesInstance.{unread_instance, long_instance, faulty_instance}
 use Rattle.planner_cli.specs.Reading.RefusesPlan.{unread_plan, long_plan, faulty_plan}
 use Rattle.planner_cli.specs.Reading.RefusesScript.{unread_script, long_script, faulty_script}
-use Rattle.planner_cli.specs.Due.{OnInstance, OnPlan, OnScript, IsDueFor, Asks, Ends}
-use Rattle.planner_cli.specs.Outcome.{IsOneOf, TellsMissing, TellsInstance, TellsPlan, TellsScript, ScriptedPlan, TellsScripted, IsRefusedInstance, IsRefusedPlan, IsRefusedScript}
+use Rattle.planner_cli.specs.Due.{OnInstance, OnPlan, OnScript, OnGiven, IsDueFor, Asks, Ends}
+use Rattle.planner_cli.specs.Premises.{IsOneOf, TellsMissing, TellsInstance, TellsPlan, TellsScript, ScriptedPlan, TellsScripted, IsRefusedInstance, IsRefusedPlan, IsRefusedScript}
 use Rattle.planner_cli.proofs.ToldLemmas.{told_both, told_missing}
-use Rattle.planner_cli.proofs.AnswerLemmas.{same_instance, sound_instance, short_instance, same_plan, sound_plan, short_plan, same_script, sound_script, short_script, same_opening, no_broken_start, no_failure}
-use Rattle.planner_cli.proofs.StatusLemmas.{ends_of}
+use Rattle.planner_cli.proofs.AnswerLemmas.{sound_instance, short_instance, same_plan, sound_plan, short_plan, same_script, sound_script, short_script, same_opening, no_broken_start, no_failure}
+use Rattle.planner_cli.proofs.CommandLemmas.{OnChecked, ends_of}
 
 -- what is told of the bytes of a file holds of the bytes that were read
 pub read_such : (s : Shown) (name bytes : List ℕ) (P : List ℕ → Type 0) → ReadsBytes name s bytes → TellsSuch s name P → P bytes
@@ -46,7 +46,7 @@ refused_instance source old new Next s t (inr (inst, reads, due)) tells =
     absurd (refused_bytes source.slack reads.bytes inst reads.takes (read_such old source.instance reads.bytes IsRefusedInstance reads.held tells))
 
 -- where the bytes stand for an instance, the next thing is due for it
-on_taken : (source : Source) (old new : Shown) (Next : Tables → ℕ → List ℕ → Type 0) (s : ℕ) (t : List ℕ) (inst : Tables) → OnInstance source old new Next s t → TellsInstance old source inst → (s ≡ 7) ⊎ Next inst s t
+pub on_taken : (source : Source) (old new : Shown) (Next : Tables → ℕ → List ℕ → Type 0) (s : ℕ) (t : List ℕ) (inst : Tables) → OnInstance source old new Next s t → TellsInstance old source inst → (s ≡ 7) ⊎ Next inst s t
 on_taken source old new Next s t inst (inl (unread_instance fails)) tells = inl refl
 on_taken source old new Next s t inst (inl (long_instance held)) tells =
     let both = told_both old source.instance (λ bytes. Takes source.slack bytes inst) IsLongInstance tells held in absurd (short_instance source.slack both.0 inst both.1 both.2)
@@ -75,7 +75,7 @@ refused_plan name inst old new Next s t (inr (plan, reads, due)) tells =
     absurd (refused_plan_bytes inst reads.bytes plan reads.spells (read_such old name reads.bytes (IsRefusedPlan inst) reads.held tells))
 
 -- where the bytes spell a plan, the next thing is due for it
-on_spelled : (name : List ℕ) (inst : Tables) (old new : Shown) (Next : List (Option ℕ) → ℕ → List ℕ → Type 0) (s : ℕ) (t : List ℕ) (plan : List (Option ℕ)) → OnPlan name inst old new Next s t → TellsPlan old name inst plan → (s ≡ 7) ⊎ Next plan s t
+pub on_spelled : (name : List ℕ) (inst : Tables) (old new : Shown) (Next : List (Option ℕ) → ℕ → List ℕ → Type 0) (s : ℕ) (t : List ℕ) (plan : List (Option ℕ)) → OnPlan name inst old new Next s t → TellsPlan old name inst plan → (s ≡ 7) ⊎ Next plan s t
 on_spelled name inst old new Next s t plan (inl (unread_plan fails)) tells = inl refl
 on_spelled name inst old new Next s t plan (inl (long_plan held)) tells =
     let both = told_both old name (λ bytes. Spells inst bytes plan) IsLongPlan tells held in absurd (short_plan inst both.0 plan both.1 both.2)
@@ -154,27 +154,27 @@ failing_line inst plan script s t opening n opens fails (nothing_to_undo other m
 -- ---- a run
 
 -- the status is this one, or a file could not be read
-or_unread : (a s : ℕ) → (s ≡ 7) ⊎ (s ≡ a) → IsOneOf (a ∷ 7 ∷ 8 ∷ 11 ∷ []) s
+pub or_unread : (a s : ℕ) → (s ≡ 7) ⊎ (s ≡ a) → IsOneOf (a ∷ 7 ∷ 8 ∷ 11 ∷ []) s
 or_unread a s (inl e) = inr (inl e)
 or_unread a s (inr e) = inl e
 
-then_status : (P : Type 0) (a s : ℕ) → (P → s ≡ a) → (s ≡ 7) ⊎ P → (s ≡ 7) ⊎ (s ≡ a)
+pub then_status : (P : Type 0) (a s : ℕ) → (P → s ≡ a) → (s ≡ 7) ⊎ P → (s ≡ 7) ⊎ (s ≡ a)
 then_status P a s f (inl e) = inl e
 then_status P a s f (inr p) = inr (f p)
 
-then_more : (P Q : Type 0) (s : ℕ) → (P → (s ≡ 7) ⊎ Q) → (s ≡ 7) ⊎ P → (s ≡ 7) ⊎ Q
+pub then_more : (P Q : Type 0) (s : ℕ) → (P → (s ≡ 7) ⊎ Q) → (s ≡ 7) ⊎ P → (s ≡ 7) ⊎ Q
 then_more P Q s f (inl e) = inl e
 then_more P Q s f (inr p) = f p
 
-flipped : (a s : ℕ) → (s ≡ a) ⊎ (s ≡ 7) → (s ≡ 7) ⊎ (s ≡ a)
+pub flipped : (a s : ℕ) → (s ≡ a) ⊎ (s ≡ 7) → (s ≡ 7) ⊎ (s ≡ a)
 flipped a s (inl e) = inr e
 flipped a s (inr e) = inl e
 
-ends_as : (words : List (List ℕ)) (old new : Shown) (n : ℕ) (c : Command) (a : ℕ) → Ends words old new n → Asks words c → ((s : ℕ) (t : List ℕ) → IsDueFor c old new s t → (s ≡ 7) ⊎ (s ≡ a)) → IsOneOf (a ∷ 7 ∷ 8 ∷ 11 ∷ []) n
+pub ends_as : (words : List (List ℕ)) (old new : Shown) (n : ℕ) (c : Command) (a : ℕ) → Ends words old new n → Asks words c → ((s : ℕ) (t : List ℕ) → IsDueFor c old new s t → (s ≡ 7) ⊎ (s ≡ a)) → IsOneOf (a ∷ 7 ∷ 8 ∷ 11 ∷ []) n
 ends_as words old new n c a ends asks due =
     ends_of words old new n c (IsOneOf (a ∷ 7 ∷ 8 ∷ 11 ∷ [])) ends asks (λ s t is says. or_unread a s (due s t is)) (λ says. inr (inr (inr (inl refl)))) (λ part. inr (inr (inl refl)))
 
-ends_unread : (words : List (List ℕ)) (old new : Shown) (n : ℕ) (c : Command) → Ends words old new n → Asks words c → ((s : ℕ) (t : List ℕ) → IsDueFor c old new s t → s ≡ 7) → IsOneOf (7 ∷ 8 ∷ 11 ∷ []) n
+pub ends_unread : (words : List (List ℕ)) (old new : Shown) (n : ℕ) (c : Command) → Ends words old new n → Asks words c → ((s : ℕ) (t : List ℕ) → IsDueFor c old new s t → s ≡ 7) → IsOneOf (7 ∷ 8 ∷ 11 ∷ []) n
 ends_unread words old new n c ends asks due =
     ends_of words old new n c (IsOneOf (7 ∷ 8 ∷ 11 ∷ [])) ends asks (λ s t is says. inl (due s t is)) (λ says. inr (inr (inl refl))) (λ part. inr (inl refl))
 
@@ -183,36 +183,52 @@ ends_unread words old new n c ends asks due =
 no_instance_due : (c : Command) (old new : Shown) → TellsMissing old (source_of c).instance → (s : ℕ) (t : List ℕ) → IsDueFor c old new s t → s ≡ 7
 no_instance_due (evaluate source name) old new missing s t due = missing_instance source old new (λ inst. OnPlan name inst old new (Judges inst)) s t due missing
 no_instance_due (replay source name script) old new missing s t due = missing_instance source old new (λ inst. OnPlan name inst old new (λ p. OnScript script inst old new (Replays inst p))) s t due missing
+no_instance_due (check source name cert_name) old new missing s t due = missing_instance source old new (λ inst. OnGiven name inst old new (OnChecked cert_name inst old new)) s t due missing
 
 refused_instance_due : (c : Command) (old new : Shown) → TellsSuch old (source_of c).instance IsRefusedInstance → (s : ℕ) (t : List ℕ) → IsDueFor c old new s t → (s ≡ 7) ⊎ (s ≡ 3)
 refused_instance_due (evaluate source name) old new tells s t due = flipped 3 s (refused_instance source old new (λ inst. OnPlan name inst old new (Judges inst)) s t due tells)
 refused_instance_due (replay source name script) old new tells s t due =
     flipped 3 s (refused_instance source old new (λ inst. OnPlan name inst old new (λ p. OnScript script inst old new (Replays inst p))) s t due tells)
+refused_instance_due (check source name cert_name) old new tells s t due = flipped 3 s (refused_instance source old new (λ inst. OnGiven name inst old new (OnChecked cert_name inst old new)) s t due tells)
 
 -- what is due for the plan of an instance that is told
 plan_next : Command → Tables → (old new : Shown) → List (Option ℕ) → ℕ → List ℕ → Type 0
 plan_next (evaluate source name) inst old new = Judges inst
 plan_next (replay source name script) inst old new = λ p. OnScript script inst old new (Replays inst p)
+plan_next (check source name cert_name) inst old new = λ p. OnChecked cert_name inst old new (Some p)
 
-plan_due_of : (c : Command) (inst : Tables) (old new : Shown) → TellsInstance old (source_of c) inst → (s : ℕ) (t : List ℕ) → IsDueFor c old new s t → (s ≡ 7) ⊎ OnPlan (plan_of c) inst old new (plan_next c inst old new) s t
+same_name : (a b : List ℕ) → Some a ≡ Some b → a ≡ b
+same_name a b e = cc
+
+on_named : (name : Option (List ℕ)) (plan cert_name : List ℕ) (inst : Tables) (old new : Shown) (s : ℕ) (t : List ℕ) → name ≡ Some plan → OnGiven name inst old new (OnChecked cert_name inst old new) s t
+    → OnPlan plan inst old new (λ p. OnChecked cert_name inst old new (Some p)) s t
+on_named name plan cert_name inst old new s t is due = subst (λ (o : Option (List ℕ)). OnGiven o inst old new (OnChecked cert_name inst old new) s t) is due
+
+plan_due_of : (c : Command) (name : List ℕ) (inst : Tables) (old new : Shown) → plan_of c ≡ Some name → TellsInstance old (source_of c) inst → (s : ℕ) (t : List ℕ) → IsDueFor c old new s t
+    → (s ≡ 7) ⊎ OnPlan name inst old new (plan_next c inst old new) s t
 unfolding plan_next
-plan_due_of (evaluate source name) inst old new tells s t due = on_taken source old new (λ i. OnPlan name i old new (Judges i)) s t inst due tells
-plan_due_of (replay source name script) inst old new tells s t due =
-    on_taken source old new (λ i. OnPlan name i old new (λ p. OnScript script i old new (Replays i p))) s t inst due tells
+plan_due_of (evaluate source plan) name inst old new is tells s t due =
+    subst (λ (x : List ℕ). (s ≡ 7) ⊎ OnPlan x inst old new (Judges inst) s t) (same_name plan name is) (on_taken source old new (λ i. OnPlan plan i old new (Judges i)) s t inst due tells)
+plan_due_of (replay source plan script) name inst old new is tells s t due =
+    subst (λ (x : List ℕ). (s ≡ 7) ⊎ OnPlan x inst old new (λ p. OnScript script inst old new (Replays inst p)) s t) (same_name plan name is)
+    (on_taken source old new (λ i. OnPlan plan i old new (λ p. OnScript script i old new (Replays i p))) s t inst due tells)
+plan_due_of (check source plan cert_name) name inst old new is tells s t due =
+    then_more (OnGiven plan inst old new (OnChecked cert_name inst old new) s t) (OnPlan name inst old new (λ p. OnChecked cert_name inst old new (Some p)) s t) s
+    (λ d. inr (on_named plan name cert_name inst old new s t is d)) (on_taken source old new (λ i. OnGiven plan i old new (OnChecked cert_name i old new)) s t inst due tells)
 
-no_plan_due : (c : Command) (inst : Tables) (old new : Shown) → TellsInstance old (source_of c) inst → TellsMissing old (plan_of c) → (s : ℕ) (t : List ℕ) → IsDueFor c old new s t → s ≡ 7
-no_plan_due c inst old new tells missing s t due = at (plan_due_of c inst old new tells s t due)
+no_plan_due : (c : Command) (name : List ℕ) (inst : Tables) (old new : Shown) → plan_of c ≡ Some name → TellsInstance old (source_of c) inst → TellsMissing old name → (s : ℕ) (t : List ℕ) → IsDueFor c old new s t → s ≡ 7
+no_plan_due c name inst old new is tells missing s t due = at (plan_due_of c name inst old new is tells s t due)
   where
-    at : (s ≡ 7) ⊎ OnPlan (plan_of c) inst old new (plan_next c inst old new) s t → s ≡ 7
+    at : (s ≡ 7) ⊎ OnPlan name inst old new (plan_next c inst old new) s t → s ≡ 7
     at (inl e) = e
-    at (inr p) = missing_plan (plan_of c) inst old new (plan_next c inst old new) s t p missing
+    at (inr p) = missing_plan name inst old new (plan_next c inst old new) s t p missing
 
-refused_plan_due : (c : Command) (inst : Tables) (old new : Shown) → TellsInstance old (source_of c) inst → TellsSuch old (plan_of c) (IsRefusedPlan inst) → (s : ℕ) (t : List ℕ) → IsDueFor c old new s t → (s ≡ 7) ⊎ (s ≡ 4)
-refused_plan_due c inst old new tells refused s t due = at (plan_due_of c inst old new tells s t due)
+refused_plan_due : (c : Command) (name : List ℕ) (inst : Tables) (old new : Shown) → plan_of c ≡ Some name → TellsInstance old (source_of c) inst → TellsSuch old name (IsRefusedPlan inst) → (s : ℕ) (t : List ℕ) → IsDueFor c old new s t → (s ≡ 7) ⊎ (s ≡ 4)
+refused_plan_due c name inst old new is tells refused s t due = at (plan_due_of c name inst old new is tells s t due)
   where
-    at : (s ≡ 7) ⊎ OnPlan (plan_of c) inst old new (plan_next c inst old new) s t → (s ≡ 7) ⊎ (s ≡ 4)
+    at : (s ≡ 7) ⊎ OnPlan name inst old new (plan_next c inst old new) s t → (s ≡ 7) ⊎ (s ≡ 4)
     at (inl e) = inl e
-    at (inr p) = flipped 4 s (refused_plan (plan_of c) inst old new (plan_next c inst old new) s t p refused)
+    at (inr p) = flipped 4 s (refused_plan name inst old new (plan_next c inst old new) s t p refused)
 
 pub no_instance_ends : (words : List (List ℕ)) (old new : Shown) (n : ℕ) → Ends words old new n → (c : Command) → Asks words c → TellsMissing old (source_of c).instance → IsOneOf (7 ∷ 8 ∷ 11 ∷ []) n
 no_instance_ends words old new n ends c asks missing = ends_unread words old new n c ends asks (no_instance_due c old new missing)
@@ -220,11 +236,13 @@ no_instance_ends words old new n ends c asks missing = ends_unread words old new
 pub refused_instance_ends : (words : List (List ℕ)) (old new : Shown) (n : ℕ) → Ends words old new n → (c : Command) → Asks words c → TellsSuch old (source_of c).instance IsRefusedInstance → IsOneOf (3 ∷ 7 ∷ 8 ∷ 11 ∷ []) n
 refused_instance_ends words old new n ends c asks tells = ends_as words old new n c 3 ends asks (refused_instance_due c old new tells)
 
-pub no_plan_ends : (words : List (List ℕ)) (old new : Shown) (n : ℕ) → Ends words old new n → (c : Command) (inst : Tables) → Asks words c → TellsInstance old (source_of c) inst → TellsMissing old (plan_of c) → IsOneOf (7 ∷ 8 ∷ 11 ∷ []) n
-no_plan_ends words old new n ends c inst asks tells missing = ends_unread words old new n c ends asks (no_plan_due c inst old new tells missing)
+pub no_plan_ends : (words : List (List ℕ)) (old new : Shown) (n : ℕ) → Ends words old new n → (c : Command) (name : List ℕ) (inst : Tables) → Asks words c → plan_of c ≡ Some name → TellsInstance old (source_of c) inst
+    → TellsMissing old name → IsOneOf (7 ∷ 8 ∷ 11 ∷ []) n
+no_plan_ends words old new n ends c name inst asks is tells missing = ends_unread words old new n c ends asks (no_plan_due c name inst old new is tells missing)
 
-pub refused_plan_ends : (words : List (List ℕ)) (old new : Shown) (n : ℕ) → Ends words old new n → (c : Command) (inst : Tables) → Asks words c → TellsInstance old (source_of c) inst → TellsSuch old (plan_of c) (IsRefusedPlan inst) → IsOneOf (4 ∷ 7 ∷ 8 ∷ 11 ∷ []) n
-refused_plan_ends words old new n ends c inst asks tells refused = ends_as words old new n c 4 ends asks (refused_plan_due c inst old new tells refused)
+pub refused_plan_ends : (words : List (List ℕ)) (old new : Shown) (n : ℕ) → Ends words old new n → (c : Command) (name : List ℕ) (inst : Tables) → Asks words c → plan_of c ≡ Some name → TellsInstance old (source_of c) inst
+    → TellsSuch old name (IsRefusedPlan inst) → IsOneOf (4 ∷ 7 ∷ 8 ∷ 11 ∷ []) n
+refused_plan_ends words old new n ends c name inst asks is tells refused = ends_as words old new n c 4 ends asks (refused_plan_due c name inst old new is tells refused)
 
 -- ---- `evaluate`
 

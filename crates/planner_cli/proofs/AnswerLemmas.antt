@@ -1,5 +1,5 @@
 -- The bytes of the files of a command have one answer.
-use Rattle.std.proofs.Common.{◌≡◌, ℕ, ◌≤◌, inl, inr, List, [], ◌∷◌, ◌++◌, length, map, Option, Some, None, pos, refl, sym, ◌∙◌, ap, subst, arith}
+use Rattle.std.proofs.Common.{◌≡◌, ℕ, inl, inr, List, [], ◌∷◌, ◌++◌, length, map, Option, Some, None, pos, refl, sym, ◌∙◌, ap, subst, arith}
 use Rattle.plan_text.proofs.LawLemmas.{one_plan, one_fault, not_both}
 use Rattle.plan_moves.specs.declared.script_line.ScriptLine.{ScriptLine}
 use Rattle.plan_moves.specs.Scripts.{Succeeds, FailsAt}
@@ -86,7 +86,7 @@ spelled_script inst bytes script s t spells (faulty_script f h) = sound_script i
 
 -- ---- one answer for what was read
 
-one_rule : (o : Option Rule) (a b : Rule) → o ≡ Some a → o ≡ Some b → a ≡ b
+pub one_rule : (o : Option Rule) (a b : Rule) → o ≡ Some a → o ≡ Some b → a ≡ b
 one_rule o a b e f = let g : Some a ≡ Some b = sym e ∙ f in cc
 
 judged_once : (inst : Tables) (plan : List (Option ℕ)) → IsOneAnswer (Judges inst plan)
@@ -167,14 +167,14 @@ replayed_once inst plan script s t n u (nothing_to_undo a k x fails) (nothing_to
 
 -- ---- one answer for the bytes of the files
 
-instance_once : (slack : ℕ) (bytes : List ℕ) (Next : Tables → ℕ → List ℕ → Type 0) → ((inst : Tables) → IsOneAnswer (Next inst)) → IsOneAnswer (AnswersInstance slack bytes Next)
+pub instance_once : (slack : ℕ) (bytes : List ℕ) (Next : Tables → ℕ → List ℕ → Type 0) → ((inst : Tables) → IsOneAnswer (Next inst)) → IsOneAnswer (AnswersInstance slack bytes Next)
 instance_once slack bytes Next once s t n u (inl x) (inl y) = instance_refused_once bytes s t n u x y
 instance_once slack bytes Next once s t n u (inl x) (inr (inst, takes, y)) = absurd (taken_instance slack bytes inst s t takes x)
 instance_once slack bytes Next once s t n u (inr (inst, takes, x)) (inl y) = absurd (taken_instance slack bytes inst n u takes y)
 instance_once slack bytes Next once s t n u (inr (inst, takes, x)) (inr (other, also, y)) =
     once inst s t n u x (subst (λ (i : Tables). Next i n u) (same_instance slack bytes other inst also takes) y)
 
-plan_once : (inst : Tables) (bytes : List ℕ) (Next : List (Option ℕ) → ℕ → List ℕ → Type 0) → ((plan : List (Option ℕ)) → IsOneAnswer (Next plan)) → IsOneAnswer (AnswersPlan inst bytes Next)
+pub plan_once : (inst : Tables) (bytes : List ℕ) (Next : List (Option ℕ) → ℕ → List ℕ → Type 0) → ((plan : List (Option ℕ)) → IsOneAnswer (Next plan)) → IsOneAnswer (AnswersPlan inst bytes Next)
 plan_once inst bytes Next once s t n u (inl x) (inl y) = plan_refused_once inst bytes s t n u x y
 plan_once inst bytes Next once s t n u (inl x) (inr (plan, spells, y)) = absurd (spelled_plan inst bytes plan s t spells x)
 plan_once inst bytes Next once s t n u (inr (plan, spells, x)) (inl y) = absurd (spelled_plan inst bytes plan n u spells y)

@@ -1,22 +1,23 @@
 -- What is due stays due, and a run ends by saying it.
-use Rattle.std.proofs.Common.{◌≡◌, ℕ, ◌≤◌, ◌⊎◌, inl, inr, List, take, Option, refl, sym, subst, arith}
+use Rattle.std.proofs.Common.{◌≡◌, ℕ, ◌≤◌, ◌⊎◌, inl, inr, List, take, Option, Some, None, sym, subst}
 use Rattle.std.specs.Prelude.{IfSome}
 use Rattle.plan_desk.specs.Desk.{Shown, Fault}
 use Rattle.plan_desk.specs.Faults.{IsReadFaultOf}
 use Rattle.instance_model.specs.Tables.{Tables}
-use Rattle.planner_cli.specs.Words.{Source, Command, evaluate, replay}
+use Rattle.planner_cli.specs.Words.{Source, Command, evaluate, replay, check}
 use Rattle.planner_cli.specs.Lines.{memory_line}
-use Rattle.planner_cli.specs.Reading.{ReadFails, RefusesInstance, RefusesPlan, RefusesScript}
+use Rattle.planner_cli.specs.Reading.{ReadFails, RefusesInstance, RefusesPlan, RefusesScript, RefusesCertificate}
 use Rattle.planner_cli.specs.Reading.RefusesInstance.{unread_instance, long_instance, faulty_instance}
 use Rattle.planner_cli.specs.Reading.RefusesPlan.{unread_plan, long_plan, faulty_plan}
 use Rattle.planner_cli.specs.Reading.RefusesScript.{unread_script, long_script, faulty_script}
+use Rattle.planner_cli.specs.Reading.RefusesCertificate.{unread_certificate, long_certificate, faulty_certificate}
 use Rattle.planner_cli.specs.Due.{IsDueFor, IsDue, Asks, Ends}
 use Rattle.planner_cli.specs.Due.IsDue.{faulty_words, told, no_memory}
 use Rattle.planner_cli.specs.Due.Ends.{said, unsaid}
 use Rattle.planner_cli.specs.declared.refusal.Refusal.{Refusal}
-use Rattle.planner_cli.specs.declared.refusal.Refusal.TheVariants.{Memory}
 use Rattle.planner_cli.specs.Refusals.{status_of, line_of, IsDueAs, SaysOrFails, SaysAnswer}
 use Rattle.planner_cli.proofs.SayLemmas.{rose_later, says_before}
+use Rattle.planner_cli.proofs.CommandLemmas.{RefusesGiven, CheckCases, check_cases, check_from}
 
 -- ---- what does not fail, between two states
 
@@ -43,6 +44,23 @@ script_later name inst old mid new s t first goes (unread_script fails) = unread
 script_later name inst old mid new s t first goes (long_script held) = long_script held
 script_later name inst old mid new s t first goes (faulty_script fault reads) = faulty_script fault reads
 
+certificate_later : (name : List ℕ) (inst : Tables) (old mid new : Shown) (s : ℕ) (t : List ℕ) → old.faults ≤ mid.faults → Goes mid new → RefusesCertificate name inst old mid s t → RefusesCertificate name inst old new s t
+certificate_later name inst old mid new s t first goes (unread_certificate fails) = unread_certificate (fails_later name old mid new first goes fails)
+certificate_later name inst old mid new s t first goes (long_certificate held) = long_certificate held
+certificate_later name inst old mid new s t first goes (faulty_certificate fault reads) = faulty_certificate fault reads
+
+given_later : (name : Option (List ℕ)) (inst : Tables) (old mid new : Shown) (s : ℕ) (t : List ℕ) → old.faults ≤ mid.faults → Goes mid new → RefusesGiven name inst old mid s t → RefusesGiven name inst old new s t
+given_later None inst old mid new s t first goes r = absurd r
+given_later (Some name) inst old mid new s t first goes r = plan_later name inst old mid new s t first goes r
+
+check_later : (source : Source) (name : Option (List ℕ)) (cert_name : List ℕ) (old mid new : Shown) (s : ℕ) (t : List ℕ) → old.faults ≤ mid.faults → Goes mid new → CheckCases source name cert_name old mid s t
+    → CheckCases source name cert_name old new s t
+check_later source name cert_name old mid new s t first goes (inl r) = inl (instance_later source.instance old mid new s t first goes r)
+check_later source name cert_name old mid new s t first goes (inr (inst, reads, inl r)) = inr (inst, reads, inl (given_later name inst old mid new s t first goes r))
+check_later source name cert_name old mid new s t first goes (inr (inst, reads, inr (given, reads_given, inl r))) =
+    inr (inst, reads, inr (given, reads_given, inl (certificate_later cert_name inst old mid new s t first goes r)))
+check_later source name cert_name old mid new s t first goes (inr (inst, reads, inr (given, reads_given, inr rest))) = inr (inst, reads, inr (given, reads_given, inr rest))
+
 due_for_later : (c : Command) (old mid new : Shown) (s : ℕ) (t : List ℕ) → old.faults ≤ mid.faults → Goes mid new → IsDueFor c old mid s t → IsDueFor c old new s t
 due_for_later (evaluate source plan) old mid new s t first goes (inl r) = inl (instance_later source.instance old mid new s t first goes r)
 due_for_later (evaluate source plan) old mid new s t first goes (inr (inst, reads, inl r)) = inr (inst, reads, inl (plan_later plan inst old mid new s t first goes r))
@@ -52,6 +70,7 @@ due_for_later (replay source plan script) old mid new s t first goes (inr (inst,
 due_for_later (replay source plan script) old mid new s t first goes (inr (inst, reads, inr (p, reads_plan, inl r))) =
     inr (inst, reads, inr (p, reads_plan, inl (script_later script inst old mid new s t first goes r)))
 due_for_later (replay source plan script) old mid new s t first goes (inr (inst, reads, inr (p, reads_plan, inr rest))) = inr (inst, reads, inr (p, reads_plan, inr rest))
+due_for_later (check source name cert_name) old mid new s t first goes due = check_from source name cert_name old new s t (check_later source name cert_name old mid new s t first goes (check_cases source name cert_name old mid s t due))
 
 due_later : (words : List (List ℕ)) (old mid new : Shown) (s : ℕ) (t : List ℕ) → old.faults ≤ mid.faults → Goes mid new → IsDue words old mid s t → IsDue words old new s t
 due_later words old mid new s t first goes (faulty_words none) = faulty_words none

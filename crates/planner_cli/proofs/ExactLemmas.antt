@@ -1,10 +1,10 @@
 -- Without a fault, what is said is the answer for the bytes of the files.
-use Rattle.std.proofs.Common.{◌≡◌, ℕ, inl, inr, List, [], ◌∷◌, Option, refl, sym, subst}
+use Rattle.std.proofs.Common.{◌≡◌, ℕ, inl, inr, List, Option, refl, subst}
 use Rattle.plan_desk.specs.Desk.{Shown}
-use Rattle.plan_desk.specs.Contents.{TellsSuch, WhereToldHolds}
+use Rattle.plan_desk.specs.Contents.{WhereToldHolds}
 use Rattle.plan_moves.specs.declared.script_line.ScriptLine.{ScriptLine}
 use Rattle.instance_model.specs.Tables.{Tables}
-use Rattle.planner_cli.specs.Words.{Source, Command, evaluate, replay}
+use Rattle.planner_cli.specs.Words.{Source, evaluate, replay}
 use Rattle.planner_cli.specs.Answers.{Takes, IsLongInstance, IsFaulty, Spells, IsLongPlan, HasFault, SpellsScript, IsLongScript, HasFaultyLine, Judges, Replays, AnswersInstance, AnswersPlan, AnswersScript, AnswersEvaluate, AnswersReplay}
 use Rattle.planner_cli.specs.Answers.RefusesInstanceBytes.{long_instance as long_instance_bytes, faulty_instance as faulty_instance_bytes}
 use Rattle.planner_cli.specs.Answers.RefusesPlanBytes.{long_plan as long_plan_bytes, faulty_plan as faulty_plan_bytes}
@@ -14,20 +14,20 @@ use Rattle.planner_cli.specs.Reading.RefusesInstance.{unread_instance, long_inst
 use Rattle.planner_cli.specs.Reading.RefusesPlan.{unread_plan, long_plan, faulty_plan}
 use Rattle.planner_cli.specs.Reading.RefusesScript.{unread_script, long_script, faulty_script}
 use Rattle.planner_cli.specs.Due.{OnInstance, OnPlan, OnScript, IsDueFor, Asks, Ends}
-use Rattle.planner_cli.specs.Outcome.{TellsBytes, NoFault, IsAnswered}
+use Rattle.planner_cli.specs.Premises.{TellsBytes, NoFault, IsAnswered}
 use Rattle.planner_cli.proofs.ToldLemmas.{told_both}
 use Rattle.planner_cli.proofs.SayLemmas.{rose_before}
 use Rattle.planner_cli.proofs.AllowedLemmas.{read_such}
-use Rattle.planner_cli.proofs.StatusLemmas.{ends_of}
+use Rattle.planner_cli.proofs.CommandLemmas.{ends_of}
 
-same_bytes : (s : Shown) (name bytes held : List ℕ) → ReadsBytes name s bytes → TellsBytes s name held → bytes ≡ held
+pub same_bytes : (s : Shown) (name bytes held : List ℕ) → ReadsBytes name s bytes → TellsBytes s name held → bytes ≡ held
 same_bytes s name bytes held reads tells = read_such s name bytes (λ b. b ≡ held) reads tells
 
 -- what holds of what a file holds, where told, holds of the bytes that are told
-told_bytes : (s : Shown) (name bytes : List ℕ) (P : List ℕ → Type 0) → WhereToldHolds s name P → TellsBytes s name bytes → P bytes
+pub told_bytes : (s : Shown) (name bytes : List ℕ) (P : List ℕ → Type 0) → WhereToldHolds s name P → TellsBytes s name bytes → P bytes
 told_bytes s name bytes P held tells = let both = told_both s name (λ b. b ≡ bytes) P tells held in subst P both.1 both.2
 
-instance_exact : (source : Source) (bytes : List ℕ) (old new : Shown) (Next Then : Tables → ℕ → List ℕ → Type 0) (s : ℕ) (t : List ℕ) → TellsBytes old source.instance bytes → NoFault old new
+pub instance_exact : (source : Source) (bytes : List ℕ) (old new : Shown) (Next Then : Tables → ℕ → List ℕ → Type 0) (s : ℕ) (t : List ℕ) → TellsBytes old source.instance bytes → NoFault old new
     → ((inst : Tables) → Next inst s t → Then inst s t) → OnInstance source old new Next s t → AnswersInstance source.slack bytes Then s t
 instance_exact source bytes old new Next Then s t tells calm f (inl (unread_instance fails)) = absurd (calm fails.rose)
 instance_exact source bytes old new Next Then s t tells calm f (inl (long_instance held)) = inl (long_instance_bytes (told_bytes old source.instance bytes IsLongInstance held tells))
@@ -36,7 +36,7 @@ instance_exact source bytes old new Next Then s t tells calm f (inl (faulty_inst
 instance_exact source bytes old new Next Then s t tells calm f (inr (inst, reads, due)) =
     inr (inst, subst (λ (b : List ℕ). Takes source.slack b inst) (same_bytes old source.instance reads.bytes bytes reads.held tells) reads.takes, f inst due)
 
-plan_exact : (name bytes : List ℕ) (inst : Tables) (old new : Shown) (Next Then : List (Option ℕ) → ℕ → List ℕ → Type 0) (s : ℕ) (t : List ℕ) → TellsBytes old name bytes → NoFault old new
+pub plan_exact : (name bytes : List ℕ) (inst : Tables) (old new : Shown) (Next Then : List (Option ℕ) → ℕ → List ℕ → Type 0) (s : ℕ) (t : List ℕ) → TellsBytes old name bytes → NoFault old new
     → ((plan : List (Option ℕ)) → Next plan s t → Then plan s t) → OnPlan name inst old new Next s t → AnswersPlan inst bytes Then s t
 plan_exact name bytes inst old new Next Then s t tells calm f (inl (unread_plan fails)) = absurd (calm fails.rose)
 plan_exact name bytes inst old new Next Then s t tells calm f (inl (long_plan held)) = inl (long_plan_bytes (told_bytes old name bytes IsLongPlan held tells))

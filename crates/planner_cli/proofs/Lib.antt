@@ -4,8 +4,15 @@ pub mod SayLemmas
 pub mod DueLemmas
 pub mod ReadLemmas
 pub mod ReplayLemmas
+pub mod CheckReading
+pub mod CheckLemmas
 pub mod AnswerLemmas
+pub mod CheckAnswers
+pub mod CommandLemmas
+pub mod CheckStatus
 pub mod StatusLemmas
 pub mod AllowedLemmas
+pub mod CheckAllowed
 pub mod ExactLemmas
+pub mod CheckExact
 pub mod OutcomeLemmas

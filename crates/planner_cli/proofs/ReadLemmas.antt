@@ -1,7 +1,7 @@
 -- What was read of the files of a command, and the verdict on a plan.
 use Rattle.std.proofs.Common.{◌≡◌, ℕ, ◌<◌, ◌≤◌, inl, inr, List, [], length, Option, Some, None, true, false, refl, sym, ◌∙◌, ap, subst, arith}
 use Rattle.std.specs.Prelude.{ℤ, pos, option_map, is_some, All}
-use Rattle.plan_desk.specs.Desk.{Shown, ShowsSame, Output, after_take_in}
+use Rattle.plan_desk.specs.Desk.{Shown, ShowsSame, after_take_in}
 use Rattle.plan_desk.specs.Contents.{WhereToldHolds}
 use Rattle.plan_moves.specs.declared.script_line.ScriptLine.{ScriptLine}
 use Rattle.plan_moves.specs.Scripts.{NamesKnown}
@@ -84,6 +84,8 @@ instance_cause_due name old new refusal.LongPlan cause = absurd cause
 instance_cause_due name old new (refusal.Plan fault) cause = absurd cause
 instance_cause_due name old new refusal.LongScript cause = absurd cause
 instance_cause_due name old new (refusal.Script fault) cause = absurd cause
+instance_cause_due name old new refusal.LongCertificate cause = absurd cause
+instance_cause_due name old new (refusal.Certificate fault) cause = absurd cause
 instance_cause_due name old new refusal.Memory cause = inl refl
 
 pub plan_cause_due : (name : List ℕ) (inst : Tables) (old new : Shown) (r : Refusal) → IsPlanCause name inst old new r → IsDueAs (RefusesPlan name inst old new) r
@@ -94,6 +96,8 @@ plan_cause_due name inst old new refusal.LongPlan held = inr (long_plan held)
 plan_cause_due name inst old new (refusal.Plan fault) reads = inr (faulty_plan fault reads)
 plan_cause_due name inst old new refusal.LongScript cause = absurd cause
 plan_cause_due name inst old new (refusal.Script fault) cause = absurd cause
+plan_cause_due name inst old new refusal.LongCertificate cause = absurd cause
+plan_cause_due name inst old new (refusal.Certificate fault) cause = absurd cause
 plan_cause_due name inst old new refusal.Memory cause = inl refl
 
 pub script_cause_due : (name : List ℕ) (inst : Tables) (old new : Shown) (r : Refusal) → IsScriptCause name inst old new r → IsDueAs (RefusesScript name inst old new) r
@@ -104,6 +108,8 @@ script_cause_due name inst old new refusal.LongPlan cause = absurd cause
 script_cause_due name inst old new (refusal.Plan fault) cause = absurd cause
 script_cause_due name inst old new refusal.LongScript held = inr (long_script held)
 script_cause_due name inst old new (refusal.Script fault) reads = inr (faulty_script fault reads)
+script_cause_due name inst old new refusal.LongCertificate cause = absurd cause
+script_cause_due name inst old new (refusal.Certificate fault) cause = absurd cause
 script_cause_due name inst old new refusal.Memory cause = inl refl
 
 -- ---- later files, after earlier ones were read
@@ -132,10 +138,10 @@ read_both old mid last first second =
       later = omega (arith, first.later, second.later);
     }
 
-held_before : (old mid : Shown) (name : List ℕ) (P : List ℕ → Type 0) → IsRead old mid → WhereToldHolds mid name P → WhereToldHolds old name P
+pub held_before : (old mid : Shown) (name : List ℕ) (P : List ℕ → Type 0) → IsRead old mid → WhereToldHolds mid name P → WhereToldHolds old name P
 held_before old mid name P read held = told_before old mid name P read.unread read.output held
 
-fails_before : (name : List ℕ) (old mid new : Shown) → IsRead old mid → ReadFails name mid new → ReadFails name old new
+pub fails_before : (name : List ℕ) (old mid new : Shown) → IsRead old mid → ReadFails name mid new → ReadFails name old new
 fails_before name old mid new read fails = record { rose = rose_before old.faults mid.faults new.faults read.later fails.rose; own = fails.own }
 
 pub plan_before : (name : List ℕ) (inst : Tables) (old mid : Shown) (plan : List (Option ℕ)) → IsRead old mid → ReadsPlan name inst mid plan → ReadsPlan name inst old plan
@@ -144,7 +150,7 @@ plan_before name inst old mid plan read reads = record { bytes = reads.bytes; he
 pub script_before : (name : List ℕ) (inst : Tables) (old mid : Shown) (script : List ScriptLine) → IsRead old mid → ReadsScript name inst mid script → ReadsScript name inst old script
 script_before name inst old mid script read reads = record { bytes = reads.bytes; held = held_before old mid name (λ held. held ≡ reads.bytes) read reads.held; spells = reads.spells }
 
-plan_refused_before : (name : List ℕ) (inst : Tables) (old mid new : Shown) (s : ℕ) (t : List ℕ) → IsRead old mid → RefusesPlan name inst mid new s t → RefusesPlan name inst old new s t
+pub plan_refused_before : (name : List ℕ) (inst : Tables) (old mid new : Shown) (s : ℕ) (t : List ℕ) → IsRead old mid → RefusesPlan name inst mid new s t → RefusesPlan name inst old new s t
 plan_refused_before name inst old mid new s t read (unread_plan fails) = unread_plan (fails_before name old mid new read fails)
 plan_refused_before name inst old mid new s t read (long_plan held) = long_plan (held_before old mid name IsLongPlan read held)
 plan_refused_before name inst old mid new s t read (faulty_plan fault reads) =
@@ -158,7 +164,7 @@ script_refused_before name inst old mid new s t read (faulty_script fault reads)
 
 -- ---- what is due for a command
 
-due_within : (Inner Outer : ℕ → List ℕ → Type 0) (r : Refusal) → ((s : ℕ) (t : List ℕ) → Inner s t → Outer s t) → IsDueAs Inner r → IsDueAs Outer r
+pub due_within : (Inner Outer : ℕ → List ℕ → Type 0) (r : Refusal) → ((s : ℕ) (t : List ℕ) → Inner s t → Outer s t) → IsDueAs Inner r → IsDueAs Outer r
 due_within Inner Outer r f (inl memory) = inl memory
 due_within Inner Outer r f (inr due) = inr (f _ _ due)
 

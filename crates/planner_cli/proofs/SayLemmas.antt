@@ -1,13 +1,12 @@
 -- What was said, piece by piece.
-use Rattle.std.proofs.Common.{◌≡◌, ℕ, ◌+◌, ◌<◌, ◌≤◌, ◌⊎◌, inl, inr, List, ◌++◌, length, take, Option, Some, None, sym, ◌∙◌, ap, subst, arith, length-append, append_assoc}
+use Rattle.std.proofs.Common.{◌≡◌, ℕ, ◌+◌, ◌≤◌, inl, inr, List, ◌++◌, length, take, Option, Some, None, sym, ◌∙◌, ap, subst, arith, length-append, append_assoc}
 use Rattle.std.specs.Prelude.{option_map, Result, Ok, Err, OnErr}
 use Rattle.std.proofs.Math.Seq.{take-append-add}
 use Rattle.std.proofs.lemmas.List.{take-append-le}
 use Rattle.plan_desk.specs.Desk.{Shown}
 use Rattle.plan_desk.specs.Faults.{Rose}
 use Rattle.plan_desk.specs.Contents.{Says}
-use Rattle.planner_cli.specs.Reading.{SayFails}
-use Rattle.planner_cli.specs.Refusals.{SaysAll, SaysSome, SaysOrFails}
+use Rattle.planner_cli.specs.Refusals.{SaysSome, SaysOrFails}
 
 pub rose_later : (a b c : ℕ) → a ≤ b → b ≤ c → Rose a b → Rose a c
 rose_later a b c ab bc rose = grind (arith, rose)

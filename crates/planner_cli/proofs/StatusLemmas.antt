@@ -1,74 +1,26 @@
 -- What stands behind each status of a run that has ended.
-use Rattle.std.proofs.Common.{◌≡◌, ℕ, ◌+◌, ◌-◌, ◌^◌, ◌<◌, ◌≤◌, ◌⊎◌, inl, inr, List, [], ◌∷◌, Option, Some, None, pos, refl, sym, ◌∙◌, subst, arith}
+use Rattle.std.proofs.Common.{◌≡◌, ℕ, ◌-◌, ◌^◌, ◌⊎◌, inl, inr, List, [], ◌∷◌, Option, Some, None, pos, refl, subst, arith}
 use Rattle.plan_desk.specs.Desk.{Shown}
 use Rattle.plan_desk.specs.Contents.{Says}
 use Rattle.plan_moves.specs.declared.script_line.ScriptLine.{ScriptLine}
 use Rattle.instance_model.specs.Limits.{standard_limits}
 use Rattle.instance_model.specs.Tables.{Tables}
 use Rattle.instance_shape.proofs.OwnReading.{own_numbers}
-use Rattle.planner_cli.specs.Words.{Source, Command, evaluate, replay, source_of, plan_of, command_of}
+use Rattle.planner_cli.specs.Words.{Source, Command, evaluate, replay, check, source_of, plan_of, command_of}
 use Rattle.planner_cli.specs.Lines.{words_line, memory_line}
 use Rattle.planner_cli.specs.Answers.{Judges, Replays}
 use Rattle.planner_cli.specs.Answers.Judges.{feasible, infeasible}
 use Rattle.planner_cli.specs.Answers.Replays.{broken_start, ended, not_allowed, nothing_to_undo}
 use Rattle.planner_cli.specs.Reading.{ReadsInstance, ReadsPlan, ReadsScript, RefusesInstance, RefusesPlan, RefusesScript, SayFails}
-use Rattle.planner_cli.specs.Reading.RefusesInstance.{unread_instance, long_instance, faulty_instance}
-use Rattle.planner_cli.specs.Reading.RefusesPlan.{unread_plan, long_plan, faulty_plan}
-use Rattle.planner_cli.specs.Reading.RefusesScript.{unread_script, long_script, faulty_script}
-use Rattle.planner_cli.specs.Due.{Asks, IsDueFor, IsDue, SaysPart, Ends}
+use Rattle.planner_cli.specs.Due.{Asks, IsDueFor, SaysPart, Ends}
 use Rattle.planner_cli.specs.Due.IsDue.{faulty_words, told, no_memory}
 use Rattle.planner_cli.specs.Due.Ends.{said, unsaid}
-use Rattle.planner_cli.specs.Outcome.{SaysDue, ReportsFeasible, ReportsBroken, ReadsReplay, ReportsKeys, ReportsBrokenStart, SaysFailure, RefusesLine, SaysPlanRefusal, SaysScriptRefusal, FailsToRead, IsOneOf}
-use Rattle.planner_cli.specs.Outcome.SaysFailure.{not_allowed as by_start, nothing_to_undo as by_undo}
+use Rattle.planner_cli.specs.Behind.{SaysDue, ReportsFeasible, ReportsBroken, ReadsReplay, ReportsKeys, ReportsBrokenStart, RefusesLine, SaysPlanRefusal, SaysScriptRefusal, FailsToRead}
+use Rattle.planner_cli.specs.Premises.{IsOneOf}
+use Rattle.planner_cli.specs.Behind.SaysFailure.{not_allowed as by_start, nothing_to_undo as by_undo}
 use Rattle.planner_cli.proofs.SayLemmas.{rose_before}
-
--- ---- statuses
-
-instance_status : (name : List ℕ) (old new : Shown) (s : ℕ) (t : List ℕ) → RefusesInstance name old new s t → (s ≡ 3) ⊎ (s ≡ 7)
-instance_status name old new s t (unread_instance fails) = inr refl
-instance_status name old new s t (long_instance held) = inl refl
-instance_status name old new s t (faulty_instance fault reads) = inl refl
-
-plan_status : (name : List ℕ) (inst : Tables) (old new : Shown) (s : ℕ) (t : List ℕ) → RefusesPlan name inst old new s t → (s ≡ 4) ⊎ (s ≡ 7)
-plan_status name inst old new s t (unread_plan fails) = inr refl
-plan_status name inst old new s t (long_plan held) = inl refl
-plan_status name inst old new s t (faulty_plan fault reads) = inl refl
-
-script_status : (name : List ℕ) (inst : Tables) (old new : Shown) (s : ℕ) (t : List ℕ) → RefusesScript name inst old new s t → (s ≡ 6) ⊎ (s ≡ 7)
-script_status name inst old new s t (unread_script fails) = inr refl
-script_status name inst old new s t (long_script held) = inl refl
-script_status name inst old new s t (faulty_script fault reads) = inl refl
-
-judged_status : (inst : Tables) (plan : List (Option ℕ)) (s : ℕ) (t : List ℕ) → Judges inst plan s t → s ≤ 1
-judged_status inst plan s t (feasible keeps encloses) = omega arith
-judged_status inst plan s t (infeasible rule not_kept first) = omega arith
-
-replayed_status : (inst : Tables) (plan : List (Option ℕ)) (script : List ScriptLine) (s : ℕ) (t : List ℕ) → Replays inst plan script s t → (s ≤ 1) ⊎ (s ≡ 6)
-replayed_status inst plan script s t (broken_start rule first) = inl (omega arith)
-replayed_status inst plan script s t (ended opening opens done) = inl (omega arith)
-replayed_status inst plan script s t (not_allowed opening n opens fails) = inr refl
-replayed_status inst plan script s t (nothing_to_undo opening n opens fails) = inr refl
-
--- ---- a run of a command
-
--- the words ask for one command
-pub same_command : (words : List (List ℕ)) (a b : Command) → Asks words a → Asks words b → a ≡ b
-same_command words a b x y = let e : Some a ≡ Some b = sym x ∙ y in cc
-
-pub no_command : (words : List (List ℕ)) (c : Command) → command_of words ≡ None → Asks words c → ⊥
-no_command words c none asks = apart (sym none ∙ asks)
-  where
-    apart : None ≡ Some c → ⊥
-    apart e = cc
-
--- how a run of a command ends
-pub ends_of : (words : List (List ℕ)) (old new : Shown) (n : ℕ) (c : Command) (P : ℕ → Type 0) → Ends words old new n → Asks words c
-    → ((s : ℕ) (t : List ℕ) → IsDueFor c old new s t → Says t old new → P s) → (Says memory_line old new → P 11) → (SaysPart words old new → P 8) → P n
-ends_of words old new n c P (said s t (faulty_words none) says) asks due memory part = absurd (no_command words c none asks)
-ends_of words old new n c P (said s t (told d status text also is) says) asks due memory part =
-    due status text (subst (λ (x : Command). IsDueFor x old new status text) (same_command words d c also asks) is) says
-ends_of words old new n c P (said s t (no_memory d also) says) asks due memory part = memory says
-ends_of words old new n c P (unsaid p) asks due memory part = part p
+use Rattle.planner_cli.proofs.CommandLemmas.{instance_status, plan_status, script_status, judged_status, replayed_status, no_command, ends_of}
+use Rattle.planner_cli.proofs.CheckStatus.{check_instance_due, check_plan_due, check_read_due, check_statuses}
 
 -- ---- `evaluate`
 
@@ -195,18 +147,24 @@ instance_due (replay source name script_name) old new s t (inr (inst, reads, inl
 instance_due (replay source name script_name) old new s t (inr (inst, reads, inr (plan, reads_plan, inl r))) says e = let q = script_status script_name inst old new s t r in absurd (grind (arith, q))
 instance_due (replay source name script_name) old new s t (inr (inst, reads, inr (plan, reads_plan, inr (script, reads_script, replays)))) says e =
     let q = replayed_status inst plan script s t replays in absurd (grind (arith, q))
+instance_due (check source name cert_name) old new s t due says e = check_instance_due source name cert_name old new s t due says e
 
-plan_due : (c : Command) (old new : Shown) (s : ℕ) (t : List ℕ) → IsDueFor c old new s t → Says t old new → s ≡ 4 → SaysPlanRefusal (source_of c) (plan_of c) 4 old new
+-- the plan file of a command that has one is refused
+abbrev pub SaysNamedPlanRefusal : Command → (old new : Shown) → Type 0
+SaysNamedPlanRefusal c old new = (name : List ℕ) × (plan_of c ≡ Some name) × SaysPlanRefusal (source_of c) name 4 old new
+
+plan_due : (c : Command) (old new : Shown) (s : ℕ) (t : List ℕ) → IsDueFor c old new s t → Says t old new → s ≡ 4 → SaysNamedPlanRefusal c old new
 plan_due (evaluate source name) old new s t (inl r) says e = let q = instance_status source.instance old new s t r in absurd (grind (arith, q))
 plan_due (evaluate source name) old new s t (inr (inst, reads, inl r)) says e =
-    record { inst = inst; reads = reads; says = record { text = t; due = subst (λ (k : ℕ). RefusesPlan name inst old new k t) e r; says = says } }
+    (name, refl, record { inst = inst; reads = reads; says = record { text = t; due = subst (λ (k : ℕ). RefusesPlan name inst old new k t) e r; says = says } })
 plan_due (evaluate source name) old new s t (inr (inst, reads, inr (plan, reads_plan, judges))) says e = absurd (omega (arith, judged_status inst plan s t judges))
 plan_due (replay source name script_name) old new s t (inl r) says e = let q = instance_status source.instance old new s t r in absurd (grind (arith, q))
 plan_due (replay source name script_name) old new s t (inr (inst, reads, inl r)) says e =
-    record { inst = inst; reads = reads; says = record { text = t; due = subst (λ (k : ℕ). RefusesPlan name inst old new k t) e r; says = says } }
+    (name, refl, record { inst = inst; reads = reads; says = record { text = t; due = subst (λ (k : ℕ). RefusesPlan name inst old new k t) e r; says = says } })
 plan_due (replay source name script_name) old new s t (inr (inst, reads, inr (plan, reads_plan, inl r))) says e = let q = script_status script_name inst old new s t r in absurd (grind (arith, q))
 plan_due (replay source name script_name) old new s t (inr (inst, reads, inr (plan, reads_plan, inr (script, reads_script, replays)))) says e =
     let q = replayed_status inst plan script s t replays in absurd (grind (arith, q))
+plan_due (check source name cert_name) old new s t due says e = check_plan_due source name cert_name old new s t due says e
 
 read_due : (c : Command) (old new : Shown) (s : ℕ) (t : List ℕ) → IsDueFor c old new s t → Says t old new → s ≡ 7 → FailsToRead c old new
 read_due (evaluate source name) old new s t (inl r) says e = inl (record { text = t; due = subst (λ (k : ℕ). RefusesInstance source.instance old new k t) e r; says = says })
@@ -220,14 +178,15 @@ read_due (replay source name script_name) old new s t (inr (inst, reads, inr (pl
     inr (inr (record { inst = inst; reads = reads; plan = plan; reads_plan = reads_plan; says = record { text = t; due = subst (λ (k : ℕ). RefusesScript script_name inst old new k t) e r; says = says } }))
 read_due (replay source name script_name) old new s t (inr (inst, reads, inr (plan, reads_plan, inr (script, reads_script, replays)))) says e =
     let q = replayed_status inst plan script s t replays in absurd (grind (arith, q))
+read_due (check source name cert_name) old new s t due says e = check_read_due source name cert_name old new s t due says e
 
 pub instance_ends : (words : List (List ℕ)) (old new : Shown) (n : ℕ) → Ends words old new n → (c : Command) → Asks words c → n ≡ 3 → SaysDue (RefusesInstance (source_of c).instance old new) 3 old new
 instance_ends words old new n ends c asks =
     ends_of words old new n c (λ s. s ≡ 3 → SaysDue (RefusesInstance (source_of c).instance old new) 3 old new) ends asks (instance_due c old new) (λ says e. absurd (omega arith)) (λ part e. absurd (omega arith))
 
-pub plan_ends : (words : List (List ℕ)) (old new : Shown) (n : ℕ) → Ends words old new n → (c : Command) → Asks words c → n ≡ 4 → SaysPlanRefusal (source_of c) (plan_of c) 4 old new
+pub plan_ends : (words : List (List ℕ)) (old new : Shown) (n : ℕ) → Ends words old new n → (c : Command) → Asks words c → n ≡ 4 → SaysNamedPlanRefusal c old new
 plan_ends words old new n ends c asks =
-    ends_of words old new n c (λ s. s ≡ 4 → SaysPlanRefusal (source_of c) (plan_of c) 4 old new) ends asks (plan_due c old new) (λ says e. absurd (omega arith)) (λ part e. absurd (omega arith))
+    ends_of words old new n c (λ s. s ≡ 4 → SaysNamedPlanRefusal c old new) ends asks (plan_due c old new) (λ says e. absurd (omega arith)) (λ part e. absurd (omega arith))
 
 pub read_ends : (words : List (List ℕ)) (old new : Shown) (n : ℕ) → Ends words old new n → (c : Command) → Asks words c → n ≡ 7 → FailsToRead c old new
 read_ends words old new n ends c asks =
@@ -246,9 +205,10 @@ replayed_statuses source name script_name old new s t (inr (inst, reads, inl r))
 replayed_statuses source name script_name old new s t (inr (inst, reads, inr (plan, reads_plan, inl r))) = let q = script_status script_name inst old new s t r in grind (arith, q)
 replayed_statuses source name script_name old new s t (inr (inst, reads, inr (plan, reads_plan, inr (script, reads_script, replays)))) = let q = replayed_status inst plan script s t replays in grind (arith, q)
 
-pub due_status : (c : Command) (old new : Shown) (s : ℕ) (t : List ℕ) → IsDueFor c old new s t → IsOneOf (0 ∷ 1 ∷ 3 ∷ 4 ∷ 6 ∷ 7 ∷ []) s
+pub due_status : (c : Command) (old new : Shown) (s : ℕ) (t : List ℕ) → IsDueFor c old new s t → IsOneOf (0 ∷ 1 ∷ 3 ∷ 4 ∷ 5 ∷ 6 ∷ 7 ∷ []) s
 due_status (evaluate source name) old new s t due = let q = evaluated_status source name old new s t due in grind (arith, q)
-due_status (replay source name script_name) old new s t due = replayed_statuses source name script_name old new s t due
+due_status (replay source name script_name) old new s t due = let q = replayed_statuses source name script_name old new s t due in grind (arith, q)
+due_status (check source name cert_name) old new s t due = let q = check_statuses source name cert_name old new s t due in grind (arith, q)
 
 pub evaluate_ends : (words : List (List ℕ)) (old new : Shown) (n : ℕ) → Ends words old new n → (source : Source) (plan : List ℕ) → Asks words (evaluate source plan) → IsOneOf (0 ∷ 1 ∷ 3 ∷ 4 ∷ 7 ∷ 8 ∷ 11 ∷ []) n
 evaluate_ends words old new n ends source plan asks =

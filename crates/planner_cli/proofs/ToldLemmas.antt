@@ -3,7 +3,7 @@ use Rattle.std.proofs.Common.{◌≡◌, ℕ, List, [], Option, Some, None, subs
 use Rattle.std.specs.Prelude.{IfSome, IsSomeAnd, option_map}
 use Rattle.plan_desk.specs.Desk.{Shown, Output}
 use Rattle.plan_desk.specs.Contents.{WhereToldHolds, TellsSuch}
-use Rattle.planner_cli.specs.Outcome.{TellsMissing}
+use Rattle.planner_cli.specs.Premises.{TellsMissing}
 
 some_both : (o : Option (List ℕ)) (P Q : List ℕ → Type 0) → IsSomeAnd o P → IsSomeAnd o Q → (b : List ℕ) × P b × Q b
 some_both None P Q p q = absurd p

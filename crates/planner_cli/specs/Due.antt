@@ -5,11 +5,13 @@ use Rattle.std.specs.Prelude.{◌≡◌, ◌⊎◌, ℕ, ◌<◌, ◌≤◌, Lis
 use Rattle.plan_desk.specs.Desk.{Shown}
 use Rattle.plan_desk.specs.Contents.{Says}
 use Rattle.plan_moves.specs.declared.script_line.ScriptLine.{ScriptLine}
+use Rattle.branch_tree.specs.declared.certificate.Certificate.{Certificate}
 use Rattle.instance_model.specs.Tables.{Tables}
-use Rattle.planner_cli.specs.Words.{Source, Command, evaluate, replay, command_of}
+use Rattle.planner_cli.specs.Words.{Source, Command, evaluate, replay, check, command_of}
 use Rattle.planner_cli.specs.Lines.{words_line, memory_line}
 use Rattle.planner_cli.specs.Answers.{Judges, Replays}
-use Rattle.planner_cli.specs.Reading.{ReadsInstance, ReadsPlan, ReadsScript, RefusesInstance, RefusesPlan, RefusesScript, SayFails}
+use Rattle.planner_cli.specs.Checking.{Checks}
+use Rattle.planner_cli.specs.Reading.{ReadsInstance, ReadsPlan, ReadsScript, ReadsCertificate, RefusesInstance, RefusesPlan, RefusesScript, RefusesCertificate, SayFails}
 
 -- the instance file is refused, or was read, and the next thing is due for its instance
 abbrev pub OnInstance : Source → (old new : Shown) → (Tables → ℕ → List ℕ → Type 0) → ℕ → List ℕ → Type 0
@@ -23,10 +25,20 @@ OnPlan name inst old new Next s t = RefusesPlan name inst old new s t ⊎ ((plan
 abbrev pub OnScript : List ℕ → Tables → (old new : Shown) → (List ScriptLine → ℕ → List ℕ → Type 0) → ℕ → List ℕ → Type 0
 OnScript name inst old new Next s t = RefusesScript name inst old new s t ⊎ ((script : List ScriptLine) × ReadsScript name inst old script × Next script s t)
 
+-- no plan is given, and the next thing is due; or the plan file is refused, or was read, and the next thing is due for its plan
+abbrev pub OnGiven : Option (List ℕ) → Tables → (old new : Shown) → (Option (List (Option ℕ)) → ℕ → List ℕ → Type 0) → ℕ → List ℕ → Type 0
+OnGiven None inst old new Next = Next None
+OnGiven (Some name) inst old new Next = OnPlan name inst old new (λ plan. Next (Some plan))
+
+-- the certificate file is refused, or was read, and the next thing is due for its certificate
+abbrev pub OnCertificate : List ℕ → Tables → (old new : Shown) → (Certificate → ℕ → List ℕ → Type 0) → ℕ → List ℕ → Type 0
+OnCertificate name inst old new Next s t = RefusesCertificate name inst old new s t ⊎ ((cert : Certificate) × ReadsCertificate name inst old cert × Next cert s t)
+
 -- what is due for the files of a command, after what was read up to `new`
 abbrev pub IsDueFor : Command → (old new : Shown) → ℕ → List ℕ → Type 0
 IsDueFor (evaluate source plan) old new = OnInstance source old new (λ inst. OnPlan plan inst old new (Judges inst))
 IsDueFor (replay source plan script) old new = OnInstance source old new (λ inst. OnPlan plan inst old new (λ p. OnScript script inst old new (Replays inst p)))
+IsDueFor (check source plan certificate) old new = OnInstance source old new (λ inst. OnGiven plan inst old new (λ given. OnCertificate certificate inst old new (Checks inst given)))
 
 -- the words ask for this command
 abbrev pub Asks : List (List ℕ) → Command → Type 0

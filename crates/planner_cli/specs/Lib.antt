@@ -2,8 +2,11 @@ pub mod Words
 pub mod Lines
 pub mod Reports
 pub mod Answers
+pub mod Checking
 pub mod Reading
 pub mod Due
+pub mod Behind
+pub mod Premises
 pub mod Outcome
 pub mod Asked
 pub mod Refusals

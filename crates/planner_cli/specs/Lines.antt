@@ -11,6 +11,8 @@ use Rattle.plan_text.specs.declared.fault.PlanFault.{PlanFault}
 use Rattle.plan_text.specs.declared.fault.PlanFault.TheVariants.{BadLine, UnknownName, Twice, Memory}
 use Rattle.move_script.specs.declared.fault.ScriptFault.{ScriptFault}
 use Rattle.move_script.specs.declared.fault.ScriptFault.TheVariants as script
+use Rattle.branch_certificate.specs.declared.fault.CertFault.{CertFault}
+use Rattle.branch_certificate.specs.declared.fault.CertFault.TheVariants as cert
 
 -- the words are not in the grammar
 abbrev pub words_line : List ℕ
@@ -132,3 +134,18 @@ nothing_to_undo_line n = numbered_line (codes "refused script nothing to undo ")
 -- all lines of a script are done: their number
 abbrev pub end_line : ℕ → List ℕ
 end_line n = numbered_line (codes "end ") n
+
+-- the certificate file has too many bytes
+abbrev pub long_certificate_line : List ℕ
+long_certificate_line = codes "refused certificate too long\n"
+
+-- the first faulty line of a certificate's text
+abbrev pub certificate_fault_line : CertFault → List ℕ
+certificate_fault_line (cert.Cut n) = numbered_line (codes "refused certificate cut ") n
+certificate_fault_line (cert.BadLine n) = numbered_line (codes "refused certificate bad line ") n
+certificate_fault_line (cert.Bounds n) = numbered_line (codes "refused certificate bounds ") n
+certificate_fault_line cert.Memory = memory_line
+
+-- leaf n of a certificate's tree doesn't hold
+abbrev pub failing_leaf_line : ℕ → List ℕ
+failing_leaf_line n = numbered_line (codes "refused certificate leaf ") n

@@ -1,10 +1,14 @@
 -- The texts of reports. Each line ends with a line feed, names are printed as they are, and values have 12 decimals.
-use Rattle.std.specs.Prelude.{ℕ, ℤ, ◌<◌, List, [], ◌++◌, length, Option, codes, decimal, slice_index_or}
+use Rattle.std.specs.Prelude.{ℕ, ◌*◌, ℤ, ◌-ℤ◌, ◌<◌, List, [], ◌++◌, length, Option, Some, option_map, codes, decimal, slice_index_or}
 use Rattle.std.specs.Fmt.{signed_decimal}
 use Rattle.fixed_num.specs.Texts.{fixed_text}
+use Rattle.fixed_num.specs.Floors.{floor_of}
 use Rattle.instance_model.specs.Tables.{Tables}
+use Rattle.instance_model.specs.Values.{score_of}
 use Rattle.plan_score.specs.Values.{values_of}
 use Rattle.plan_score.specs.declared.values.Values.{Values}
+use Rattle.certificate_lines.specs.declared.line.Bound.{Bound}
+use Rattle.certificate_lines.specs.declared.line.Bound.TheVariants.{NoPlan, Least}
 use Rattle.instance_model.specs.declared.rule.Rule.{Rule}
 use Rattle.instance_model.specs.declared.rule.Rule.TheVariants.{Unscheduled, Outside, Past, Over, Under, Clash}
 
@@ -72,3 +76,51 @@ NamesOf inst (Past i s) = i < length inst.names
 NamesOf inst (Over c t load limit) = c < length inst.resource_names
 NamesOf inst (Under c t load limit) = c < length inst.resource_names
 NamesOf inst (Clash e t) = e < length inst.exclusion_names
+
+-- ---- accepted certificates
+
+-- what a bound on scores says of the cost, in counts of 10^-12, rounded down
+abbrev pub bound_cost : Tables → ℤ → ℤ
+bound_cost inst least = floor_of least (inst.periods * 1_000_000)
+
+-- the bound in parts of 10^-18
+abbrev pub bound_line : ℤ → List ℕ
+bound_line least = codes "bound " ++ signed_decimal least ++ codes "\n"
+
+-- a count of 10^-12 behind a word
+unfoldable pub fixed_line : List ℕ → ℤ → List ℕ
+fixed_line word n = word ++ fixed_text n ++ codes "\n"
+
+-- the bound as a cost
+abbrev pub cost_line : ℤ → List ℕ
+cost_line cost = fixed_line (codes "bound-cost ") cost
+
+-- both
+abbrev pub bound_lines : ℤ → ℤ → List ℕ
+bound_lines least cost = bound_line least ++ cost_line cost
+
+-- the lines of a bound
+abbrev pub bound_text : Tables → Bound → List ℕ
+bound_text inst NoPlan = codes "bound none\n"
+bound_text inst (Least b) = bound_lines b (bound_cost inst b)
+
+-- how far a score is above the bound
+abbrev pub gap_line : ℤ → List ℕ
+gap_line gap = codes "gap " ++ signed_decimal gap ++ codes "\n"
+
+-- both lines of a plan
+abbrev pub score_and_gap : ℤ → ℤ → List ℕ
+score_and_gap score gap = score_line score ++ gap_line gap
+
+-- the lines of the score of a plan, if one was given
+abbrev pub gap_text : Bound → Option ℤ → List ℕ
+gap_text (Least b) (Some score) = score_and_gap score (score -ℤ b)
+gap_text bound score = []
+
+-- the report of this bound and score
+abbrev pub accepted_text : Tables → Bound → Option ℤ → List ℕ
+accepted_text inst bound score = codes "accepted\n" ++ bound_text inst bound ++ gap_text bound score ++ rounded_line inst.rounded
+
+-- the report on an accepted certificate with this bound, and on the plan, if one was given
+abbrev pub accepted_report : Tables → Bound → Option (List (Option ℕ)) → List ℕ
+accepted_report inst bound plan = accepted_text inst bound (option_map (score_of inst) plan)

@@ -8,20 +8,24 @@ pub record Source : Type 0 where
   pub instance : List ℕ
   pub slack : ℕ
 
--- what a command line asks for, with the names of its files: the plan is word 3, the script word 4
+-- what a command line asks for, with the names of its files: the plan is word 3, the script or the certificate word 4. A check may be without
+-- a plan.
 pub data Command : Type 0 where
   evaluate : (source : Source) (plan : List ℕ) → Command
   replay : (source : Source) (plan script : List ℕ) → Command
+  check : (source : Source) (plan : Option (List ℕ)) (certificate : List ℕ) → Command
 
 -- the instance of a command
 abbrev pub source_of : Command → Source
 source_of (evaluate source plan) = source
 source_of (replay source plan script) = source
+source_of (check source plan certificate) = source
 
--- the name of the plan file of a command
-abbrev pub plan_of : Command → List ℕ
-plan_of (evaluate source plan) = plan
-plan_of (replay source plan script) = plan
+-- the name of the plan file of a command; a check may be without one
+abbrev pub plan_of : Command → Option (List ℕ)
+plan_of (evaluate source plan) = Some plan
+plan_of (replay source plan script) = Some plan
+plan_of (check source plan certificate) = plan
 
 -- a file word is a text that is not empty
 abbrev pub is_file_word : List ℕ → Bool
@@ -66,9 +70,25 @@ replaying name instance plan script (Some slack) =
     then Some (replay (record { instance = instance; slack = slack }) plan script)
     else None
 
+-- the plan of a check: the word `-` stands for none
+abbrev pub given_plan : List ℕ → Option (List ℕ)
+given_plan word = if bytes_eq word (codes "-") then None else Some word
+
+-- `check INSTANCE PLAN CERTIFICATE` with a slack
+abbrev pub checking : List ℕ → List ℕ → List ℕ → List ℕ → Option ℕ → Option Command
+checking name instance plan certificate None = None
+checking name instance plan certificate (Some slack) =
+    if bytes_eq name (codes "check") && is_file_word instance && is_file_word plan && is_file_word certificate
+    then Some (check (record { instance = instance; slack = slack }) (given_plan plan) certificate)
+    else None
+
+-- one of the two commands of three files, with a slack
+abbrev pub of_three_files : List ℕ → List ℕ → List ℕ → List ℕ → Option ℕ → Option Command
+of_three_files name instance plan file slack = or_else (replaying name instance plan file slack) (checking name instance plan file slack)
+
 -- The command of these words; none where they are not in the grammar. Each command may have one word `slack=D` behind its files.
 abbrev pub command_of : List (List ℕ) → Option Command
 command_of (name ∷ instance ∷ plan ∷ []) = evaluation name instance plan (Some 0)
-command_of (name ∷ instance ∷ plan ∷ last ∷ []) = or_else (evaluation name instance plan (slack_of last)) (replaying name instance plan last (Some 0))
-command_of (name ∷ instance ∷ plan ∷ script ∷ slack ∷ []) = replaying name instance plan script (slack_of slack)
+command_of (name ∷ instance ∷ plan ∷ last ∷ []) = or_else (evaluation name instance plan (slack_of last)) (of_three_files name instance plan last (Some 0))
+command_of (name ∷ instance ∷ plan ∷ file ∷ slack ∷ []) = of_three_files name instance plan file (slack_of slack)
 command_of words = None

@@ -1,8 +1,11 @@
-//! The program: judges and replays plans of maintenance, as its words ask.
+//! The program: judges and replays plans of maintenance, and checks certificates, as its words ask.
 //!
 //! `run` is the whole program over any device; `main` runs it over real files and standard output.
 #![tactic(auto)]
 
+mod check;
+#[cfg(test)]
+mod check_tests;
 mod evaluate;
 mod instance_line;
 mod reading;

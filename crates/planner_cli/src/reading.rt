@@ -1,13 +1,15 @@
 // The files of a command are read. None is changed, and nothing is said.
-ghost use Rattle.std.specs.Prelude.{◌≡◌, ◌≤◌, [], length, pos, All, IfOk, IfErr, OnOk};
+ghost use Rattle.std.specs.Prelude.{◌≡◌, ◌≤◌, [], length, pos, All, option_copied, IfSome, IfOk, IfErr, OnOk};
 ghost use Rattle.plan_desk.specs.Desk.{ShowsSame, after_take_in};
 ghost use Rattle.plan_moves.specs.Scripts.{NamesKnown};
+ghost use Rattle.branch_tree.specs.Ranges.{IsInRange};
 ghost use Rattle.planner_cli.specs.Asked.{source_view};
-ghost use Rattle.planner_cli.specs.Reading.{ReadsInstance, ReadsPlan, ReadsScript};
-ghost use Rattle.planner_cli.specs.Refusals.{IsInstanceCause, IsPlanCause, IsScriptCause};
+ghost use Rattle.planner_cli.specs.Reading.{ReadsInstance, ReadsPlan, ReadsScript, ReadsGiven, ReadsCertificate};
+ghost use Rattle.planner_cli.specs.Refusals.{IsInstanceCause, IsPlanCause, IsScriptCause, IsGivenCause, IsCertificateCause, AfterGiven};
 
 use crate::refusal::Refusal;
 use crate::words::Source;
+use branch_certificate::{CertFault, Certificate, read_certificate};
 use fixed_num::Fixed;
 use instance_model::{Instance, Limits};
 use instance_read::{StreamFault, read_instance_from};
@@ -21,6 +23,9 @@ const PLAN_BYTES: u64 = 1 << 24;
 
 /// How many bytes a script file may have.
 const SCRIPT_BYTES: u64 = 1 << 29;
+
+/// How many bytes a certificate file may have.
+const CERTIFICATE_BYTES: u64 = 1 << 28;
 
 /// The instance of a command, its bands widened by the slack.
 pub fn instance_of<D: Desk>(
@@ -115,5 +120,53 @@ pub fn script_of<D: Desk>(
         Ok(script) => Ok(script),
         Err(ScriptFault::Memory) => Err(Refusal::Memory),
         Err(fault) => Err(Refusal::Script(fault)),
+    }
+}
+
+/// The plan of a check, if one is given: of the file of this name, which is word 3.
+pub fn given_plan_of<D: Desk>(
+    alloc: Global,
+    inst: &Instance,
+    name: Option<&str>,
+    desk: &mut D,
+) -> Result<Option<Plan>, Refusal>
+    ensures ok { IfOk result (ReadsGiven (option_copied name.entry) inst.now (D.shows desk.old)) }
+    ensures each { IfOk result (λ given. IfSome given (λ plan. length plan ≡ length inst.now.names)) }
+    ensures err { IfErr result (IsGivenCause (option_copied name.entry) inst.now (D.shows desk.old) (D.shows desk.new)) }
+    ensures read { OnOk result (AfterGiven (option_copied name.entry) (D.shows desk.old) (D.shows desk.new)) }
+    ensures output { (D.shows desk.new).output ≡ (D.shows desk.old).output }
+    ensures said { (D.shows desk.new).said ≡ (D.shows desk.old).said }
+    ensures later { (D.shows desk.old).faults ≤ (D.shows desk.new).faults }
+{
+    match name {
+        None => Ok(None),
+        Some(name) => Ok(Some(plan_of(alloc, inst, name, desk)?)),
+    }
+}
+
+/// The certificate of the file of this name, which is word 4.
+pub fn certificate_of<D: Desk>(
+    alloc: Global,
+    inst: &Instance,
+    name: &str,
+    desk: &mut D,
+) -> Result<Certificate, Refusal>
+    ensures ok { IfOk result (ReadsCertificate name.now inst.now (D.shows desk.old)) }
+    ensures in_range { IfOk result (IsInRange inst.now) }
+    ensures err { IfErr result (IsCertificateCause name.now inst.now (D.shows desk.old) (D.shows desk.new)) }
+    ensures output { (D.shows desk.new).output ≡ (D.shows desk.old).output }
+    ensures said { (D.shows desk.new).said ≡ (D.shows desk.old).said }
+    ensures later { (D.shows desk.old).faults ≤ (D.shows desk.new).faults }
+{
+    let bytes = match read_all(alloc, desk, name, CERTIFICATE_BYTES) {
+        Ok(bytes) => bytes,
+        Err(ReadFault::Failed) => return Err(Refusal::Unread { word: 4 }),
+        Err(ReadFault::TooLong) => return Err(Refusal::LongCertificate),
+        Err(ReadFault::Memory) => return Err(Refusal::Memory),
+    };
+    match read_certificate(alloc, inst, bytes.as_slice()) {
+        Ok(certificate) => Ok(certificate),
+        Err(CertFault::Memory) => Err(Refusal::Memory),
+        Err(fault) => Err(Refusal::Certificate(fault)),
     }
 }

@@ -1,10 +1,11 @@
 // Why a run refuses, and what it then says.
 ghost use Rattle.std.specs.Prelude.{◌≡◌, ◌++◌, IfOk, OnOk};
-ghost use Rattle.planner_cli.specs.Lines.{numbered_line, plan_fault_line, script_fault_line};
+ghost use Rattle.planner_cli.specs.Lines.{numbered_line, plan_fault_line, script_fault_line, certificate_fault_line, failing_leaf_line};
 ghost use Rattle.planner_cli.specs.Refusals.{status_of, line_of};
 
 use crate::instance_line::push_instance_fault;
 use crate::text::Text;
+use branch_certificate::CertFault;
 use instance_read::InstanceFault;
 use move_script::ScriptFault;
 use plan_text::PlanFault;
@@ -30,6 +31,9 @@ pub enum Refusal {
     LongScript,
     /// The first fault of the script's text.
     Script(ScriptFault),
+    LongCertificate,
+    /// The first fault of the certificate's text.
+    Certificate(CertFault),
     Memory,
 }
 
@@ -50,6 +54,7 @@ impl Refusal {
         match self {
             Refusal::LongInstance | Refusal::Instance(_) => 3,
             Refusal::LongPlan | Refusal::Plan(_) => 4,
+            Refusal::LongCertificate | Refusal::Certificate(_) => 5,
             Refusal::LongScript | Refusal::Script(_) => 6,
             Refusal::Unread { .. } => 7,
             Refusal::Memory => 11,
@@ -68,6 +73,8 @@ impl Refusal {
             Refusal::Plan(fault) => push_plan_fault(&mut line, *fault)?,
             Refusal::LongScript => line.push("refused script too long\n")?,
             Refusal::Script(fault) => push_script_fault(&mut line, *fault)?,
+            Refusal::LongCertificate => line.push("refused certificate too long\n")?,
+            Refusal::Certificate(fault) => push_certificate_fault(&mut line, *fault)?,
             Refusal::Unread { word } => push_numbered(&mut line, "refused read ", *word)?,
             Refusal::Memory => line.push(MEMORY_LINE)?,
         }
@@ -96,6 +103,27 @@ fn push_script_fault(line: &mut Text, fault: ScriptFault) -> Result<(), AllocErr
         ScriptFault::UnknownName { n } => push_numbered(line, "refused script unknown name ", n),
         ScriptFault::Memory => line.push(MEMORY_LINE),
     }
+}
+
+// Adds the line of a certificate's fault.
+fn push_certificate_fault(line: &mut Text, fault: CertFault) -> Result<(), AllocError>
+    ensures { OnOk result (line.new ≡ line.old ++ certificate_fault_line fault) }
+{
+    match fault {
+        CertFault::Cut { n } => push_numbered(line, "refused certificate cut ", n),
+        CertFault::BadLine { n } => push_numbered(line, "refused certificate bad line ", n),
+        CertFault::Bounds { n } => push_numbered(line, "refused certificate bounds ", n),
+        CertFault::Memory => line.push(MEMORY_LINE),
+    }
+}
+
+/// The line of the first leaf of a certificate that doesn't hold.
+pub fn leaf_text(alloc: Global, n: u64) -> Result<Text, AllocError>
+    ensures { IfOk result (λ text. text ≡ failing_leaf_line n) }
+{
+    let mut text = Text::new(alloc);
+    push_numbered(&mut text, "refused certificate leaf ", n)?;
+    Ok(text)
 }
 
 // Adds a line that ends with a number.

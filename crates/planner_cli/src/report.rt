@@ -1,8 +1,11 @@
 // The reports on plans.
-ghost use Rattle.std.specs.Prelude.{◌≡◌, ◌<◌, ◌++◌, ℕ, List, Option, IfOk, OnOk, length, ℤ, codes};
-ghost use Rattle.planner_cli.specs.Reports.{values_report, infeasible_report, score_line, ranges_text, range_line, rounded_line, numbered, band_text, rule_text, pair_text, NamesOf};
+ghost use Rattle.std.specs.Prelude.{◌≡◌, ◌<◌, ◌≤◌, ◌^◌, ◌++◌, ℕ, List, Option, Some, IfOk, IfSome, OnOk, length, ℤ, codes, unsigned_abs};
+ghost use Rattle.branch_tree.specs.Ranges.{IsBoundInRange};
+ghost use Rattle.planner_cli.specs.Reports.{values_report, infeasible_report, score_line, ranges_text, range_line, rounded_line, numbered, band_text, rule_text, pair_text, NamesOf, bound_line, fixed_line, cost_line, bound_lines, bound_text, bound_cost, gap_line, score_and_gap, gap_text, accepted_text};
 
 use crate::text::Text;
+use branch_certificate::Bound;
+use fixed_num::floor_div;
 use instance_model::Instance;
 use plan_score::{Rule, Values};
 use std::alloc::{AllocError, Global};
@@ -30,6 +33,101 @@ pub fn infeasible_text(alloc: Global, inst: &Instance, rule: &Rule) -> Result<Te
     text.push("\n")?;
     push_rounded(&mut text, inst.rounded())?;
     Ok(text)
+}
+
+/// The report on an accepted certificate with this bound, and on a plan of this score, if one was given.
+pub fn accepted_text(
+    alloc: Global,
+    inst: &Instance,
+    bound: Bound,
+    score: Option<i128>,
+) -> Result<Text, AllocError>
+    requires bound { IsBoundInRange bound }
+    requires score { IfSome score (λ z. unsigned_abs z < 10 ^ 36) }
+    ensures { IfOk result (λ text. text ≡ accepted_text inst.now bound score) }
+{
+    let mut text = Text::new(alloc);
+    text.push("accepted\n")?;
+    push_bound(&mut text, inst, bound)?;
+    push_gap(&mut text, bound, score)?;
+    push_rounded(&mut text, inst.rounded())?;
+    Ok(text)
+}
+
+fn push_bound(text: &mut Text, inst: &Instance, bound: Bound) -> Result<(), AllocError>
+    requires bound { IsBoundInRange bound }
+    ensures { OnOk result (text.new ≡ text.old ++ bound_text inst.now bound) }
+{
+    match bound {
+        Bound::NoPlan => text.push("bound none\n"),
+        Bound::Least(least) => push_least(text, least, cost_of(inst, least)),
+    }
+}
+
+// A bound on scores as a bound on the cost, in counts of 10^-12, rounded down.
+fn cost_of(inst: &Instance, least: i128) -> i128
+    requires { unsigned_abs least ≤ 10 ^ 36 }
+    ensures { result ≡ bound_cost inst.now least }
+{
+    floor_div(least, i128::from(inst.periods()) * 1_000_000)
+}
+
+// Adds the lines of a bound that is a number.
+fn push_least(text: &mut Text, least: i128, cost: i128) -> Result<(), AllocError>
+    ensures { OnOk result (text.new ≡ text.old ++ bound_lines least cost) }
+{
+    push_bound_line(text, least)?;
+    push_cost_line(text, cost)
+}
+
+fn push_bound_line(text: &mut Text, least: i128) -> Result<(), AllocError>
+    ensures { OnOk result (text.new ≡ text.old ++ bound_line least) }
+{
+    text.push("bound ")?;
+    text.push_signed(least)?;
+    text.push("\n")
+}
+
+fn push_cost_line(text: &mut Text, cost: i128) -> Result<(), AllocError>
+    ensures { OnOk result (text.new ≡ text.old ++ cost_line cost) }
+{
+    push_fixed_line(text, "bound-cost ", cost)
+}
+
+// Adds a count of 10^-12 behind a word.
+fn push_fixed_line(text: &mut Text, word: &str, n: i128) -> Result<(), AllocError>
+    ensures { OnOk result (text.new ≡ text.old ++ fixed_line word.now n) }
+{
+    text.push(word)?;
+    text.push_fixed(n)?;
+    text.push("\n")
+}
+
+// Adds the score of a plan that was given, and how far it is above the bound.
+fn push_gap(text: &mut Text, bound: Bound, score: Option<i128>) -> Result<(), AllocError>
+    requires bound { IsBoundInRange bound }
+    requires score { IfSome score (λ z. unsigned_abs z < 10 ^ 36) }
+    ensures { OnOk result (text.new ≡ text.old ++ gap_text bound score) }
+{
+    match (bound, score) {
+        (Bound::Least(least), Some(score)) => push_score_and_gap(text, score, score - least),
+        _ => Ok(()),
+    }
+}
+
+fn push_score_and_gap(text: &mut Text, score: i128, gap: i128) -> Result<(), AllocError>
+    ensures { OnOk result (text.new ≡ text.old ++ score_and_gap score gap) }
+{
+    push_score(text, score)?;
+    push_gap_line(text, gap)
+}
+
+fn push_gap_line(text: &mut Text, gap: i128) -> Result<(), AllocError>
+    ensures { OnOk result (text.new ≡ text.old ++ gap_line gap) }
+{
+    text.push("gap ")?;
+    text.push_signed(gap)?;
+    text.push("\n")
 }
 
 fn push_score(text: &mut Text, score: i128) -> Result<(), AllocError>

@@ -53,7 +53,7 @@ pub(crate) const BANDED: &str = r#"{"Resources":{"c":{"max":[10,10],"min":[0,0]}
 "Quantile":0.5,"Alpha":0.5}"#;
 
 /// The same where two at once are just too much.
-const TIGHT: &str = r#"{"Resources":{"c":{"max":[11.9995,10],"min":[0,0]}},"Seasons":{},
+pub(crate) const TIGHT: &str = r#"{"Resources":{"c":{"max":[11.9995,10],"min":[0,0]}},"Seasons":{},
 "Interventions":{
 "I1":{"tmax":2,"Delta":[1,1],
 "workload":{"c":{"1":{"1":6},"2":{"2":6}}},
@@ -102,7 +102,7 @@ const EMPTY: &str = r#"{"Resources":{},"Seasons":{},"Interventions":{},"Exclusio
 pub(crate) const BOTH: &str = "I1 1\nI2 2\n";
 
 /// Both in the first period.
-const TOGETHER: &str = "I1 1\nI2 1\n";
+pub(crate) const TOGETHER: &str = "I1 1\nI2 1\n";
 
 pub(crate) const PLAIN_REPORT: &str =
     "feasible\nscore 2000000000000000000\ncost 1.000000000000 1.000000000000\nmean 2.000000000000 2.000000000000\nexcess 0.000000000000 0.000000000000\nrounded 0\n";

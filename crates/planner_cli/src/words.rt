@@ -1,6 +1,6 @@
 // The command line.
-ghost use Rattle.std.specs.Prelude.{◌≡◌, ◌≤◌, map, string_bytes, IfSome, IfNone, Some, None, IsTrue, false};
-ghost use Rattle.planner_cli.specs.Words.{command_of, evaluation, replaying, source_of, slack_of, slack_count, fraction, are_decimals};
+ghost use Rattle.std.specs.Prelude.{◌≡◌, ◌≤◌, map, string_bytes, option_copied, IfSome, IfNone, Some, None, IsTrue, false};
+ghost use Rattle.planner_cli.specs.Words.{command_of, evaluation, replaying, checking, of_three_files, given_plan, source_of, slack_of, slack_count, fraction, are_decimals};
 ghost use Rattle.instance_model.specs.Rules.{or_else};
 ghost use Rattle.planner_cli.specs.Asked.{command_view};
 
@@ -14,7 +14,7 @@ pub struct Source<'a> {
     pub slack: u32,
 }
 
-/// What the words ask for, with the names of its files: the plan is word 3, the script word 4.
+/// What the words ask for, with the names of its files: the plan is word 3, the script or the certificate word 4.
 #[derive(Clone, Copy)]
 pub enum Command<'a> {
     Evaluate {
@@ -25,6 +25,12 @@ pub enum Command<'a> {
         source: Source<'a>,
         plan: &'a str,
         script: &'a str,
+    },
+    /// A check may be without a plan.
+    Check {
+        source: Source<'a>,
+        plan: Option<&'a str>,
+        certificate: &'a str,
     },
 }
 
@@ -44,11 +50,11 @@ pub fn command_of(words: &[String]) -> Option<Command<'_>>
             plan.as_str(),
             last.as_str(),
         ),
-        [name, instance, plan, script, slack] => replaying(
+        [name, instance, plan, file, slack] => of_three_files(
             name.as_str(),
             instance.as_str(),
             plan.as_str(),
-            script.as_str(),
+            file.as_str(),
             slack_of(slack.as_str()),
         ),
         _ => None,
@@ -58,14 +64,33 @@ pub fn command_of(words: &[String]) -> Option<Command<'_>>
 // The command of four words: the last one is a slack, or a file.
 fn with_last<'a>(name: &str, instance: &'a str, plan: &'a str, last: &'a str) -> Option<Command<'a>>
     ensures found { IfSome result (λ asked. or_else (evaluation name.now instance.now plan.now (slack_of last.now))
-        (replaying name.now instance.now plan.now last.now (Some 0)) ≡ Some (command_view asked)) }
+        (of_three_files name.now instance.now plan.now last.now (Some 0)) ≡ Some (command_view asked)) }
     ensures none { IfNone result (or_else (evaluation name.now instance.now plan.now (slack_of last.now))
-        (replaying name.now instance.now plan.now last.now (Some 0)) ≡ None) }
+        (of_three_files name.now instance.now plan.now last.now (Some 0)) ≡ None) }
     ensures small { IfSome result (λ asked. (source_of (command_view asked)).slack ≤ 1_000_000_000) }
 {
     match evaluation(name, instance, plan, slack_of(last)) {
         Some(command) => Some(command),
-        None => replaying(name, instance, plan, last, Some(0)),
+        None => of_three_files(name, instance, plan, last, Some(0)),
+    }
+}
+
+// One of the two commands of these three files, with this slack.
+fn of_three_files<'a>(
+    name: &str,
+    instance: &'a str,
+    plan: &'a str,
+    file: &'a str,
+    slack: Option<u32>,
+) -> Option<Command<'a>>
+    requires small { IfSome slack (λ count. count ≤ 1_000_000_000) }
+    ensures found { IfSome result (λ asked. of_three_files name.now instance.now plan.now file.now slack ≡ Some (command_view asked)) }
+    ensures none { IfNone result (of_three_files name.now instance.now plan.now file.now slack ≡ None) }
+    ensures small { IfSome result (λ asked. (source_of (command_view asked)).slack ≤ 1_000_000_000) }
+{
+    match replaying(name, instance, plan, file, slack) {
+        Some(command) => Some(command),
+        None => checking(name, instance, plan, file, slack),
     }
 }
 
@@ -113,6 +138,37 @@ fn replaying<'a>(
         plan,
         script,
     })
+}
+
+// `check` of these files, with this slack.
+fn checking<'a>(
+    name: &str,
+    instance: &'a str,
+    plan: &'a str,
+    certificate: &'a str,
+    slack: Option<u32>,
+) -> Option<Command<'a>>
+    requires small { IfSome slack (λ count. count ≤ 1_000_000_000) }
+    ensures found { IfSome result (λ asked. checking name.now instance.now plan.now certificate.now slack ≡ Some (command_view asked)) }
+    ensures none { IfNone result (checking name.now instance.now plan.now certificate.now slack ≡ None) }
+    ensures small { IfSome result (λ asked. (source_of (command_view asked)).slack ≤ 1_000_000_000) }
+{
+    let slack = slack?;
+    if name != "check" || instance.is_empty() || plan.is_empty() || certificate.is_empty() {
+        return None;
+    }
+    Some(Command::Check {
+        source: Source { instance, slack },
+        plan: given_plan(plan),
+        certificate,
+    })
+}
+
+// The plan of a check: the word `-` stands for none.
+fn given_plan(word: &str) -> Option<&str>
+    ensures { option_copied result ≡ given_plan word.now }
+{
+    if word == "-" { None } else { Some(word) }
 }
 
 // The slack of a word `slack=D`, in counts of 10^-12.

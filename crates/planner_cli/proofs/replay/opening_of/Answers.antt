@@ -1,4 +1,4 @@
-use Rattle.std.proofs.Common.{◌≡◌, ◌∙◌, ap, sym, List, ℕ, map, Option, Some, None, subst}
+use Rattle.std.proofs.Common.{◌≡◌, ◌∙◌, ap, sym, map, None, subst}
 use Rattle.std.specs.Prelude.{unwrap_or}
 use Rattle.instance_model.specs.Rules.{first_start_rule}
 use Rattle.planner_cli.specs.Answers.{IsOpeningOf}

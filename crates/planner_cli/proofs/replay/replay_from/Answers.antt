@@ -1,5 +1,4 @@
-use Rattle.std.proofs.Common.{◌≡◌, ◌∙◌, ap, length, List, ℕ, subst, Ok, Err}
-use Rattle.plan_desk.specs.Desk.{ShowsSame, after_say}
+use Rattle.std.proofs.Common.{◌∙◌, ap, length, List, ℕ, subst, Err}
 use Rattle.move_script.specs.Replays.{replay_text, SaysKeys}
 use Rattle.planner_cli.specs.Refusals.{SaysOrFails}
 use Rattle.planner_cli.proofs.ReplayLemmas.{KeysSaid, ok_not_failed, start_not_failed, undo_not_failed, memory_not_failed, ended_answer, not_allowed_answer, nothing_to_undo_answer, failed_answer, memory_answer}

@@ -1,4 +1,4 @@
-use Rattle.std.proofs.Common.{List, ℕ, ◌≤◌, map, string_bytes, refl, subst, arith}
+use Rattle.std.proofs.Common.{List, ℕ, map, string_bytes, refl, subst, arith}
 use Rattle.planner_cli.specs.Lines.{words_line}
 use Rattle.planner_cli.specs.Due.IsDue.{faulty_words}
 use Rattle.planner_cli.specs.Refusals.{SaysOrFails}
