@@ -9,7 +9,7 @@ pub enum Version {
     Two,
 }
 
-/// What a certificate claims: that there is no plan, or the least score that a plan can have.
+/// What a certificate claims: that no plan is feasible, or that none that is has a score below this.
 #[derive(Clone, Copy, Debug, PartialEq, Eq)]
 pub enum Bound {
     NoPlan,

@@ -1,5 +1,5 @@
 // A line is read from its text.
-ghost use Rattle.std.specs.Prelude.{◌≡◌, IfOk, IfSome, IfNone};
+ghost use Rattle.std.specs.Prelude.{◌≡◌, ℕ, List, ◌++◌, codes, IfOk, OnErr, IfSome, IfNone};
 ghost use Rattle.certificate_lines.specs.Spelling.{spelling, IsLine};
 ghost use Rattle.certificate_lines.specs.Steps.{Reads};
 ghost use Rattle.certificate_lines.specs.declared.line.CertificateLine.{CertificateLine};
@@ -18,6 +18,9 @@ pub fn line_of(alloc: Global, text: &[u8]) -> Result<Option<CertificateLine>, Al
 
     // Where none is read, no line that has a form is spelled so.
     ensures none { IfOk result (λ read. IfNone read ((line : CertificateLine) → IsLine line → text.now ≡ spelling line → ⊥)) }
+
+    // No other line is refused for memory.
+    ensures memory { OnErr result ((rest : List ℕ) × (text.now ≡ codes "tail" ++ rest)) }
 {
     let (word, rest) = cut_word(text);
     match Keyword::find(word) {
@@ -32,7 +35,8 @@ fn line_behind(
     keyword: Keyword,
     rest: &[u8],
 ) -> Result<Option<CertificateLine>, AllocError>
-    ensures { IfOk result (λ read. Reads keyword rest.now read) }
+    ensures reads { IfOk result (λ read. Reads keyword rest.now read) }
+    ensures memory { OnErr result (keyword ≡ Keyword.Tail) }
 {
     match keyword {
         Keyword::Title => Ok(operands::title(rest)),

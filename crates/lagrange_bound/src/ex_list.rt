@@ -1,4 +1,4 @@
-ghost use Rattle.std.specs.Prelude.{◌≡◌, ◌≤◌, ◌<◌, ◌↔◌, ◌&&◌, ◌==◌, not, length, vec_len, IfOk, IfErr, IsTrue, is_ok, AllPairs, slice_set, if◌then◌else◌};
+ghost use Rattle.std.specs.Prelude.{◌≡◌, ◌≤◌, ◌<◌, ◌↔◌, ◌&&◌, ◌==◌, not, length, vec_len, IfOk, IfErr, IsOk, IsTrue, is_ok, AllPairs, slice_set, if◌then◌else◌};
 ghost use Rattle.std.specs.List.{insert, remove};
 ghost use Rattle.lagrange_bound.specs.Prices.{ExBefore};
 ghost use Rattle.lagrange_bound.specs.ExLists.{PairBefore, StandsAt, BelongsAt};
@@ -52,7 +52,8 @@ pub(crate) fn replace_at(ex: &mut Vec<ExPrice>, place: usize, x: ExPrice)
 /// Inserts a price that isn't 0.
 pub(crate) fn insert_at(ex: &mut Vec<ExPrice>, place: usize, x: ExPrice) -> Result<(), AllocError>
     requires { place ≤ vec_len ex.old }
-    ensures { ex.new.items ≡ (if is_ok result && not (x.value == 0) then insert ex.old.items place x else ex.old.items) }
+    ensures inserted { ex.new.items ≡ (if is_ok result && not (x.value == 0) then insert ex.old.items place x else ex.old.items) }
+    ensures zero { x.value ≡ 0 → IsOk result }
 {
     if x.value != 0 {
         ex.insert(place, x)?;

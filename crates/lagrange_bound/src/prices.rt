@@ -1,4 +1,4 @@
-ghost use Rattle.std.specs.Prelude.{◌≡◌, ◌≤◌, ◌<◌, ◌+◌, ◌-◌, ◌*◌, length, IfOk, OnOk, OnErr, IsSomeAnd, option_map, Some, None, replicate};
+ghost use Rattle.std.specs.Prelude.{◌≡◌, ◌≤◌, ◌<◌, ◌+◌, ◌-◌, ◌*◌, length, IfOk, OnOk, OnErr, IsOk, IsSomeAnd, option_map, Some, None, replicate};
 ghost use Rattle.instance_model.specs.Tables.{Tables};
 ghost use Rattle.lagrange_bound.specs.Prices.{IsPriceList, IsTail, zero_list, up_of, lo_of, tail_of, ex_of};
 ghost use Rattle.lagrange_bound.specs.Changes.{with_up, with_lo, with_tail, IsExSet, IsBandPlace, IsExPlace};
@@ -137,6 +137,9 @@ impl Prices {
         ensures changed { OnOk result (IsExSet self.old self.new e t v) }
         ensures in_range { OnOk result (IsPriceList inst.now self.new) }
         ensures same { OnErr result (self.new ≡ self.old) }
+
+        // To take a price back takes no memory.
+        ensures zero { v ≡ 0 → IsOk result }
     {
         let x = ExPrice {
             exclusion: e,

@@ -22,11 +22,11 @@ returns-in-Err-clause-changed c =
     let old = subst (IsPriceList c.args.inst.now) (sym c.self.view_is) c.requires.prices in
     let at = subst (λ (xs : List ExPrice). BelongsAt xs c.args.e c.args.t c.in-Err.place) c.as_slice.ensures.value c.in-Err.ensures.missing in
     on_ok c.insert_at.result _ (λ ok.
-    (changed_from c.args.inst.now c.args.self.now c.self.inside.up.items c.self.inside.lo.items c.self.inside.tails.items c.self.inside.ex.items c.insert_at.new.ex.items c.args.e c.args.t c.args.v c.self.view_is (ex_inserted c.args.inst.now (list_from c.self.inside.up.items c.self.inside.lo.items c.self.inside.tails.items c.self.inside.ex.items) c.insert_at.new.ex.items c.args.e c.args.t c.args.v c.in-Err.place old c.requires.place c.requires.small at (inserted_where (is_ok c.insert_at.result) _ _ _ _ ok c.insert_at.ensures))).0)
+    (changed_from c.args.inst.now c.args.self.now c.self.inside.up.items c.self.inside.lo.items c.self.inside.tails.items c.self.inside.ex.items c.insert_at.new.ex.items c.args.e c.args.t c.args.v c.self.view_is (ex_inserted c.args.inst.now (list_from c.self.inside.up.items c.self.inside.lo.items c.self.inside.tails.items c.self.inside.ex.items) c.insert_at.new.ex.items c.args.e c.args.t c.args.v c.in-Err.place old c.requires.place c.requires.small at (inserted_where (is_ok c.insert_at.result) _ _ _ _ ok c.insert_at.ensures.inserted))).0)
 
 pub returns-in-Err-clause-in_range : goal.returns-in-Err-clause-in_range
 returns-in-Err-clause-in_range c =
     let old = subst (IsPriceList c.args.inst.now) (sym c.self.view_is) c.requires.prices in
     let at = subst (λ (xs : List ExPrice). BelongsAt xs c.args.e c.args.t c.in-Err.place) c.as_slice.ensures.value c.in-Err.ensures.missing in
     on_ok c.insert_at.result _ (λ ok.
-    (ex_inserted c.args.inst.now (list_from c.self.inside.up.items c.self.inside.lo.items c.self.inside.tails.items c.self.inside.ex.items) c.insert_at.new.ex.items c.args.e c.args.t c.args.v c.in-Err.place old c.requires.place c.requires.small at (inserted_where (is_ok c.insert_at.result) _ _ _ _ ok c.insert_at.ensures)).in_range)
+    (ex_inserted c.args.inst.now (list_from c.self.inside.up.items c.self.inside.lo.items c.self.inside.tails.items c.self.inside.ex.items) c.insert_at.new.ex.items c.args.e c.args.t c.args.v c.in-Err.place old c.requires.place c.requires.small at (inserted_where (is_ok c.insert_at.result) _ _ _ _ ok c.insert_at.ensures.inserted)).in_range)
