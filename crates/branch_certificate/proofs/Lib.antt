@@ -7,3 +7,4 @@ pub mod WholeLemmas
 pub mod CompleteLemmas
 pub mod TreeLemmas
 pub mod FaultLemmas
+pub mod ToldLemmas

@@ -39,14 +39,6 @@ node_fits inst m b bs (Band c t side) d h = (omega arith, omega (arith, h.0), h.
 node_fits inst m b bs (Excl e) d h = (omega arith, omega (arith, h))
 node_fits inst m b bs (Empty i) d h = (omega arith, omega (arith, h))
 
-pub node_numbers : (inst : Tables) (m : ℕ) (b : List Span) (bs : List (List Span)) (node : Node) → Fits inst (nodes m (b ∷ bs)) (node_line node) → DividesBox b node × HasLeafNumbers inst m node
-node_numbers inst m b bs (Split i last) f = (subst (λ (k : ℕ). IsSplit b k last) (less_one i) f.1, tt)
-node_numbers inst m b bs (Cost j) f = (tt, f)
-node_numbers inst m b bs Point f = (tt, tt)
-node_numbers inst m b bs (Band c t side) f = (tt, (omega (arith, f.1), f.2, f.3))
-node_numbers inst m b bs (Excl e) f = (tt, omega (arith, f.1))
-node_numbers inst m b bs (Empty i) f = (tt, omega (arith, f.1))
-
 pub after_node : (inst : Tables) (m : ℕ) (b : List Span) (bs : List (List Span)) (node : Node) → after inst (nodes m (b ∷ bs)) (node_line node) ≡ nodes m (boxes_after node (b ∷ bs))
 after_node inst m b bs (Split i last) = ap (λ (k : ℕ). nodes m (below b k last ∷ above b k last ∷ bs)) (less_one i)
 after_node inst m b bs (Cost j) = refl

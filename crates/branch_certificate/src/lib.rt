@@ -1,6 +1,6 @@
 //! Certificates read from their texts.
 //!
-//! `certificate_text` is the one text of a certificate, and `HasFault` says which fault any other text has.
+//! `certificate_text` is the one text of a certificate, and `HasCertFault` says which fault a text has that is none.
 #![tactic(auto)]
 
 mod entry;
@@ -8,6 +8,7 @@ mod fault;
 mod fits;
 mod header;
 mod key;
+mod laws;
 mod lines;
 mod lists;
 mod node;
@@ -21,8 +22,9 @@ pub use branch_tree::{
     valid_bounds_plans,
 };
 pub use certificate_text::{
-    entries_grow, lines_are_cut_one_way, texts_lead, texts_tell, write_certificate,
-    zeros_have_no_entry,
+    entries_grow, lead_to_certificates, lines_are_cut_one_way, texts_lead, texts_tell,
+    write_certificate, zeros_have_no_entry,
 };
 pub use fault::CertFault;
+pub use laws::texts_are_told;
 pub use read::read_certificate;

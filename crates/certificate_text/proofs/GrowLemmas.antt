@@ -129,7 +129,7 @@ module _ (inst : Tables) (prices : PriceList) (ok : IsPriceList inst prices) (la
         apart e = key_apart (tail_key t) (tail_key u) h refl (omega (arith, e)) refl
 
 -- ---- prices of exclusions
-some_each : (inst : Tables) (xs : List ExPrice) → AllByRecursion (IsExPrice inst) xs → AllByRecursion IsSome xs
+pub some_each : (inst : Tables) (xs : List ExPrice) → AllByRecursion (IsExPrice inst) xs → AllByRecursion IsSome xs
 some_each inst [] h = tt
 some_each inst (x ∷ xs) h = (h.0.some, some_each inst xs h.1)
 
@@ -200,7 +200,7 @@ ex_order x z (inl h) = inr (refl, inl (omega arith))
 ex_order x z (inr (e, h)) = inr (refl, inr (ap (λ i. i + 1) e, h))
 
 -- the key of each pair from that of x on is above what is below the key of x
-ex_above : (last : EntryKey) (x z : ExPrice) → KeyBelow last (ex_key (x.exclusion + 1) x.period) → NotBefore x z → KeyBelow last (ex_key (z.exclusion + 1) z.period)
+pub ex_above : (last : EntryKey) (x z : ExPrice) → KeyBelow last (ex_key (x.exclusion + 1) x.period) → NotBefore x z → KeyBelow last (ex_key (z.exclusion + 1) z.period)
 ex_above last x z above (inl h) = key_trans last (ex_key (x.exclusion + 1) x.period) (ex_key (z.exclusion + 1) z.period) above (ex_order x z h)
 ex_above last x z above (inr (e, f)) = subst (λ i. KeyBelow last (ex_key (i + 1) z.period)) e (subst (λ i. KeyBelow last (ex_key (x.exclusion + 1) i)) f above)
 

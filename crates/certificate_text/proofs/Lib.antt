@@ -9,3 +9,4 @@ pub mod TellLemmas
 pub mod LeadLemmas
 pub mod FormLemmas
 pub mod WriteLemmas
+pub mod LedLemmas

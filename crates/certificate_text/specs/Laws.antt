@@ -18,6 +18,10 @@ use Rattle.certificate_text.specs.Entries.{IsUpTo}
 abbrev pub TextsLead : Type 0
 TextsLead = (inst : Tables) (cert : Certificate) → IsInRange inst cert → Leads inst title (certificate_lines inst cert) (nodes (length cert.lists) [])
 
+-- and lines that lead there are those of a certificate in range
+abbrev pub LeadToCertificates : Type 0
+LeadToCertificates = (inst : Tables) (lines : List CertificateLine) (m : ℕ) → Leads inst title lines (nodes m []) → (cert : Certificate) × IsInRange inst cert × (certificate_lines inst cert ≡ lines)
+
 -- each line of a certificate in range has a form
 abbrev pub LinesHaveForms : Type 0
 LinesHaveForms = (inst : Tables) (cert : Certificate) → IsFitting inst → IsInRange inst cert → All IsLine (certificate_lines inst cert)

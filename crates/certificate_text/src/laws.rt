@@ -1,5 +1,5 @@
 // Laws of the text.
-ghost use Rattle.certificate_text.specs.Laws.{TextsLead, LinesHaveForms, LinesTell, TextsTell, TextsAreCutOneWay, TextsAreSpelledOneWay, ZeroHasNone, ZeroIsUpTo, UpGrows, LoGrows, TailGrows, ExGrows};
+ghost use Rattle.certificate_text.specs.Laws.{TextsLead, LeadToCertificates, LinesHaveForms, LinesTell, TextsTell, TextsAreCutOneWay, TextsAreSpelledOneWay, ZeroHasNone, ZeroIsUpTo, UpGrows, LoGrows, TailGrows, ExGrows};
 
 use certificate_lines::lines_are_spelled_one_way;
 
@@ -7,6 +7,11 @@ use certificate_lines::lines_are_spelled_one_way;
 pub fn texts_lead()
     ensures lead { TextsLead }
     ensures forms { LinesHaveForms }
+{}
+
+/// Lines that lead from the first line to the end are those of a certificate in range.
+pub fn lead_to_certificates()
+    ensures led { LeadToCertificates }
 {}
 
 /// Two certificates in range that have the same lines, or the same text, are the same.

@@ -9,5 +9,8 @@ mod laws;
 mod put;
 mod write;
 
-pub use laws::{entries_grow, lines_are_cut_one_way, texts_lead, texts_tell, zeros_have_no_entry};
+pub use laws::{
+    entries_grow, lead_to_certificates, lines_are_cut_one_way, texts_lead, texts_tell,
+    zeros_have_no_entry,
+};
 pub use write::write_certificate;
