@@ -50,8 +50,8 @@ pub data IsDue (words : List (List ℕ)) (old new : Shown) : ℕ → List ℕ �
   told : (c : Command) (status : ℕ) (text : List ℕ) → Asks words c → IsDueFor c old new status text → IsDue words old new status text
   no_memory : (c : Command) → Asks words c → IsDue words old new 11 memory_line
 
--- Saying what was due failed, after a first part of it was said but not all, and nothing was said before or after that. `before` is what the desk showed
--- as the saying began.
+-- Saying what was due failed, after a first part of it was said but not all, and nothing was said before or after that. `before` is what the desk may
+-- have shown as the saying began.
 pub record SaysPart (words : List (List ℕ)) (old new : Shown) : Type 0 where
   pub before : Shown
   pub status : ℕ

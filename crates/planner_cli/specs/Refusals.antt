@@ -54,6 +54,13 @@ line_of (Certificate fault) = certificate_fault_line fault
 line_of (Unread word) = read_line word
 line_of Memory = memory_line
 
+-- why the bytes of the file of this name, which is this word of the command line, are not read: a desk failed, there are more than `most`,
+-- or memory ran out
+pub data IsReadCause (name : List ℕ) (word most : ℕ) (long : Refusal) (old new : Shown) : Refusal → Type 0 where
+  unread : ReadFails name old new → IsReadCause name word most long old new (Unread word)
+  too_long : WhereToldHolds old name (λ held. most < length held) → IsReadCause name word most long old new long
+  no_memory : IsReadCause name word most long old new Memory
+
 -- why the instance file of this name is refused
 abbrev pub IsInstanceCause : List ℕ → (old new : Shown) → Refusal → Type 0
 IsInstanceCause name old new (Unread word) = (word ≡ 2) × ReadFails name old new

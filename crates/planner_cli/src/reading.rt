@@ -4,8 +4,8 @@ ghost use Rattle.plan_desk.specs.Desk.{ShowsSame, after_take_in};
 ghost use Rattle.plan_moves.specs.Scripts.{NamesKnown};
 ghost use Rattle.branch_tree.specs.Ranges.{IsInRange};
 ghost use Rattle.planner_cli.specs.Asked.{source_view};
-ghost use Rattle.planner_cli.specs.Reading.{ReadsInstance, ReadsPlan, ReadsScript, ReadsGiven, ReadsCertificate};
-ghost use Rattle.planner_cli.specs.Refusals.{IsInstanceCause, IsPlanCause, IsScriptCause, IsGivenCause, IsCertificateCause, AfterGiven};
+ghost use Rattle.planner_cli.specs.Reading.{ReadsBytes, ReadsInstance, ReadsPlan, ReadsScript, ReadsGiven, ReadsCertificate};
+ghost use Rattle.planner_cli.specs.Refusals.{IsReadCause, IsInstanceCause, IsPlanCause, IsScriptCause, IsGivenCause, IsCertificateCause, AfterGiven};
 
 use crate::refusal::Refusal;
 use crate::words::Source;
@@ -14,7 +14,7 @@ use fixed_num::Fixed;
 use instance_model::{Instance, Limits};
 use instance_read::{StreamFault, read_instance_from};
 use move_script::{Script, ScriptFault, read_script};
-use plan_desk::{Desk, ReadFault, read_all};
+use plan_desk::{Bytes, Desk, ReadFault, read_all};
 use plan_text::{Plan, PlanFault, read_plan};
 use std::alloc::Global;
 
@@ -68,6 +68,31 @@ fn widening(count: u32) -> Fixed
     }
 }
 
+// The bytes of the file of this name, which is this word of the command line. `long` refuses it where it has more than `most`.
+fn bytes_of<D: Desk>(
+    alloc: Global,
+    name: &str,
+    word: u64,
+    most: u64,
+    long: Refusal,
+    desk: &mut D,
+) -> Result<Bytes, Refusal>
+    ensures bytes { IfOk result (ReadsBytes name.now (D.shows desk.old)) }
+    ensures within { IfOk result (λ bytes. length bytes ≤ most) }
+    ensures err { IfErr result (IsReadCause name.now word most long (D.shows desk.old) (D.shows desk.new)) }
+    ensures read { OnOk result (ShowsSame (D.shows desk.new) (after_take_in name.now [] (D.shows desk.old))) }
+    ensures output { (D.shows desk.new).output ≡ (D.shows desk.old).output }
+    ensures said { (D.shows desk.new).said ≡ (D.shows desk.old).said }
+    ensures later { (D.shows desk.old).faults ≤ (D.shows desk.new).faults }
+{
+    match read_all(alloc, desk, name, most) {
+        Ok(bytes) => Ok(bytes),
+        Err(ReadFault::Failed) => Err(Refusal::Unread { word }),
+        Err(ReadFault::TooLong) => Err(long),
+        Err(ReadFault::Memory) => Err(Refusal::Memory),
+    }
+}
+
 /// The plan of the file of this name, which is word 3.
 pub fn plan_of<D: Desk>(
     alloc: Global,
@@ -83,12 +108,7 @@ pub fn plan_of<D: Desk>(
     ensures said { (D.shows desk.new).said ≡ (D.shows desk.old).said }
     ensures later { (D.shows desk.old).faults ≤ (D.shows desk.new).faults }
 {
-    let bytes = match read_all(alloc, desk, name, PLAN_BYTES) {
-        Ok(bytes) => bytes,
-        Err(ReadFault::Failed) => return Err(Refusal::Unread { word: 3 }),
-        Err(ReadFault::TooLong) => return Err(Refusal::LongPlan),
-        Err(ReadFault::Memory) => return Err(Refusal::Memory),
-    };
+    let bytes = bytes_of(alloc, name, 3, PLAN_BYTES, Refusal::LongPlan, desk)?;
     match read_plan(alloc, inst, bytes.as_slice()) {
         Ok(plan) => Ok(plan),
         Err(PlanFault::Memory) => Err(Refusal::Memory),
@@ -110,12 +130,7 @@ pub fn script_of<D: Desk>(
     ensures said { (D.shows desk.new).said ≡ (D.shows desk.old).said }
     ensures later { (D.shows desk.old).faults ≤ (D.shows desk.new).faults }
 {
-    let bytes = match read_all(alloc, desk, name, SCRIPT_BYTES) {
-        Ok(bytes) => bytes,
-        Err(ReadFault::Failed) => return Err(Refusal::Unread { word: 4 }),
-        Err(ReadFault::TooLong) => return Err(Refusal::LongScript),
-        Err(ReadFault::Memory) => return Err(Refusal::Memory),
-    };
+    let bytes = bytes_of(alloc, name, 4, SCRIPT_BYTES, Refusal::LongScript, desk)?;
     match read_script(alloc, inst, bytes.as_slice()) {
         Ok(script) => Ok(script),
         Err(ScriptFault::Memory) => Err(Refusal::Memory),
@@ -158,12 +173,14 @@ pub fn certificate_of<D: Desk>(
     ensures said { (D.shows desk.new).said ≡ (D.shows desk.old).said }
     ensures later { (D.shows desk.old).faults ≤ (D.shows desk.new).faults }
 {
-    let bytes = match read_all(alloc, desk, name, CERTIFICATE_BYTES) {
-        Ok(bytes) => bytes,
-        Err(ReadFault::Failed) => return Err(Refusal::Unread { word: 4 }),
-        Err(ReadFault::TooLong) => return Err(Refusal::LongCertificate),
-        Err(ReadFault::Memory) => return Err(Refusal::Memory),
-    };
+    let bytes = bytes_of(
+        alloc,
+        name,
+        4,
+        CERTIFICATE_BYTES,
+        Refusal::LongCertificate,
+        desk,
+    )?;
     match read_certificate(alloc, inst, bytes.as_slice()) {
         Ok(certificate) => Ok(certificate),
         Err(CertFault::Memory) => Err(Refusal::Memory),

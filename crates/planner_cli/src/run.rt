@@ -28,7 +28,7 @@ pub fn run<D: Desk>(alloc: Global, words: &[String], desk: &mut D) -> u8
     run_with::<TreeRow, D>(alloc, words, desk)
 }
 
-/// The same, where plans that change are kept over rows of another kind.
+/// The same over rows of another kind, in which plans that change are kept: the answers are those of `run`.
 pub fn run_with<R: Row, D: Desk>(alloc: Global, words: &[String], desk: &mut D) -> u8
     ensures { Outcome (map string_bytes words.now) (D.shows desk.old) (D.shows desk.new) result }
 {
