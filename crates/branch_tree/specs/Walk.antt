@@ -1,5 +1,5 @@
 -- The boxes that wait on a walk through a tree: the one at hand and those behind it, kept as intervals that were changed.
--- All but `first_box` and `other_boxes` is cited by private functions only: no part of any promise.
+-- `first_box` and `other_boxes` are what contracts cite, `boxes_of` and `IsPath` how a walk is seen; the rest is no part of any promise.
 use Rattle.std.specs.Prelude.{ℕ, ◌+◌, ◌<◌, List, [], ◌∷◌, length, reverse, slice_set, cond, All}
 use Rattle.lagrange_bound.specs.declared.span.Span.{Span}
 use Rattle.branch_tree.specs.declared.box_path.Change.{Change}

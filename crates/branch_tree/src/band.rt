@@ -82,8 +82,8 @@ fn extreme_load_of(inst: &Instance, spans: &[Span], c: u32, t: u32, side: Side) 
     Some(sum)
 }
 
-/// Whether each interval has an allowed start and the load of resource `c` in period `t` is off a limit, whatever the starts
-/// are. Takes no memory.
+/// Whether each interval has an allowed start, and whatever they are, the load of resource `c` in period `t` leaves the limit of
+/// this side. Takes no memory.
 pub fn band_holds(inst: &Instance, spans: &[Span], c: u32, t: u32, side: Side) -> bool
     requires spans { IsBox inst.now spans.now }
     requires resource { c < length inst.now.resource_names }

@@ -20,7 +20,7 @@ struct Change {
 
 /// A walk through a tree of boxes: the box at hand, and what is left of the walk.
 ///
-/// Seen as the list of the boxes that wait, the one at hand first. Keeps one box and a change for each level.
+/// Seen as the list of the boxes that wait, the one at hand first. It is kept as one box and a change for each level above it.
 #[derive(Drop)]
 pub struct BoxPath {
     spans: Vec<Span>,

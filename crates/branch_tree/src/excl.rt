@@ -63,7 +63,7 @@ fn each_meets_each(inst: &Instance, exclusion: Exclusion, first: Span, second: S
 }
 
 /// Whether each pair of allowed starts, one of each of the two interventions of exclusion `e`, meets in a period of its
-/// season. Takes no memory.
+/// season; also where it names one intervention twice. Takes no memory.
 pub fn excl_holds(inst: &Instance, spans: &[Span], e: u32) -> bool
     requires spans { IsBox inst.now spans.now }
     requires exclusion { e < length inst.now.exclusion_names }

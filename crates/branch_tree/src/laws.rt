@@ -3,7 +3,7 @@ ghost use Rattle.branch_tree.specs.Laws.{PartsHoldPlans, PartsAreBoxes, NodesAre
 
 use lagrange_bound::{Goal, worth_bounds_plans};
 
-/// Each plan of a box lies in one of the two parts of its split.
+/// Each feasible plan of a box lies in one of the two parts of its split.
 pub fn parts_hold_plans()
     ensures { PartsHoldPlans }
 {}
