@@ -217,14 +217,17 @@ class Plain:
             broken += [f"X1 {name} {t}" for t in inst.meeting(exclusion, starts)[:1]]
         return broken
 
+    def rank(self, t):
+        return up(self.inst.quantile * self.inst.scenarios[t - 1], MILLION)
+
     def sums(self, starts):
         """For each period the number of scenarios, the sum of their sums, and the excess."""
         for t in range(1, self.inst.periods + 1):
             n = self.inst.scenarios[t - 1]
             running = [self.risks[i, s, t] for i, s in self.in_progress(starts, t)]
             scenario_sums = [sum(numbers[k] for numbers in running) for k in range(n)]
-            rank = up(self.inst.quantile * n, MILLION)
-            yield n, sum(scenario_sums), max(0, n * sorted(scenario_sums)[rank - 1] - sum(scenario_sums))
+            quantile = sorted(scenario_sums)[self.rank(t) - 1]
+            yield n, sum(scenario_sums), max(0, n * quantile - sum(scenario_sums))
 
     def numerators(self, starts):
         """For each period the number of scenarios, and the numerator of its part of the score."""
