@@ -60,9 +60,6 @@ class Prices:
 class Bounds(Plain):
     """Prices, worths and leaves by the definitions alone."""
 
-    def rank(self, t):
-        return -(-self.inst.quantile * self.inst.scenarios[t - 1] // MILLION)
-
     def term(self, prices, i, s, t):
         risks, alpha, n = self.risks[i, s, t], self.inst.alpha, self.inst.scenarios[t - 1]
         weight, places = prices.tails.get(t, (0, [1]))
