@@ -5,3 +5,4 @@ pub mod PieceLemmas
 pub mod WrittenLemmas
 pub mod TestLemmas
 pub mod ReplayLemmas
+pub mod ToldLemmas

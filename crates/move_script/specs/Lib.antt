@@ -3,3 +3,4 @@ pub mod FirstFault
 pub mod Steps
 pub mod Replays
 pub mod LineFaults
+pub mod Laws

@@ -15,7 +15,7 @@ mod script;
 mod write;
 
 pub use fault::ScriptFault;
-pub use laws::texts_read_one_way;
+pub use laws::{texts_are_told, texts_read_one_way};
 pub use read::read_script;
 pub use replay_fault::ReplayFault;
 pub use replaying::replay;

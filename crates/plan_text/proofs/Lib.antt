@@ -6,3 +6,4 @@ pub mod StepLemmas
 pub mod WrittenLemmas
 pub mod ReadLemmas
 pub mod PieceLemmas
+pub mod ToldLemmas

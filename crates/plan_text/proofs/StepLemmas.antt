@@ -34,7 +34,7 @@ none_read names lines starts e = record {
       (cases_lt i (length names))
 
 -- one line more has no fault
-faultless_more : (names lines : List (List ℕ)) (n : ℕ) → AreFaultless names lines n → IsFaultless names (take n lines) (slice_index_or lines n []) → AreFaultless names lines (n + 1)
+pub faultless_more : (names lines : List (List ℕ)) (n : ℕ) → AreFaultless names lines n → IsFaultless names (take n lines) (slice_index_or lines n []) → AreFaultless names lines (n + 1)
 faultless_more names lines n before here k l =
     ⊎_elim (λ below. before k below)
     (λ past. let e : n ≡ k = omega (arith, l) in subst (λ m. IsFaultless names (take m lines) (slice_index_or lines m [])) e here)

@@ -2,3 +2,4 @@ pub mod Spelling
 pub mod FirstFault
 pub mod Runs
 pub mod Steps
+pub mod Laws

@@ -12,7 +12,7 @@ mod read;
 mod write;
 
 pub use fault::PlanFault;
-pub use laws::texts_read_one_way;
+pub use laws::{texts_are_told, texts_read_one_way};
 pub use plan::Plan;
 pub use read::read_plan;
 pub use write::write_plan;

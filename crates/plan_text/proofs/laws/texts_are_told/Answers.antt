@@ -1,0 +1,5 @@
+use Rattle.plan_text.proofs.ToldLemmas.{texts_are_told}
+use Rattle.plan_text.proofs.laws.texts_are_told.Goals as goal
+
+pub returns : goal.returns
+returns c = record { told = texts_are_told }
