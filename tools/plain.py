@@ -182,14 +182,14 @@ class Plain:
         """The interventions in progress in a period, with their starts."""
         return [(i, s) for i, s in enumerate(starts) if t in self.inst.run(i, s)]
 
-    def load(self, c, t, starts):
+    def plan_load(self, c, t, starts):
         return sum(self.loads[c].get((i, s, t), 0) for i, s in self.in_progress(starts, t))
 
     def violation(self, starts):
         inst, total = self.inst, 0
         for c in range(len(self.loads)):
             for t in range(1, inst.periods + 1):
-                load = self.load(c, t, starts)
+                load = self.plan_load(c, t, starts)
                 total += max(0, load - self.upper[c][t - 1]) + max(0, self.lower[c][t - 1] - load)
         broken = sum(1 for exclusion in inst.exclusions if inst.clashes(exclusion, starts))
         return total + broken * COUNTS
@@ -208,7 +208,7 @@ class Plain:
             return broken
         for c, name in enumerate(inst.resource_names):
             for t in range(1, inst.periods + 1):
-                load, upper, lower = self.load(c, t, starts), self.upper[c][t - 1], self.lower[c][t - 1]
+                load, upper, lower = self.plan_load(c, t, starts), self.upper[c][t - 1], self.lower[c][t - 1]
                 if load > upper:
                     broken.append(f"B1 {name} {t} {decimal(load)} {decimal(upper)}")
                 if load < lower:
