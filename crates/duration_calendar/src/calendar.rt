@@ -1,3 +1,4 @@
+//! Runs, first allowed starts and shared periods of a season, each exactly as the definition has it.
 ghost use Rattle.std.specs.Prelude.{◌≡◌, ℕ, ◌+◌, ◌<◌, ◌≤◌, length, IfSome, IfNone, IsTrue};
 ghost use Rattle.instance_model.specs.Tables.{is_allowed, in_run};
 ghost use Rattle.duration_calendar.specs.Windows.{in_window, IsInHorizon, run_of};

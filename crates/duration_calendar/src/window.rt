@@ -1,3 +1,4 @@
+//! Windows of periods.
 ghost use Rattle.std.specs.Prelude.{◌≡◌};
 ghost use Rattle.duration_calendar.specs.Windows.{in_window};
 

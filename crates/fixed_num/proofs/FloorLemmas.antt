@@ -1,5 +1,5 @@
 -- Quotients rounded down and up.
-use Rattle.std.proofs.Common.{◌*ℤ◌, ◌+ℤ◌, ◌≡◌, ℕ, zero, suc, ◌+◌, ◌*◌, ◌<◌, ◌≤◌, arith, ℤ, pos, negsuc, neg_ℤ, ◌<ℤ◌, ◌≤ℤ◌, ap, sym, subst, unsigned_abs}
+use Rattle.std.proofs.Common.{◌*ℤ◌, ◌+ℤ◌, ◌≡◌, ℕ, zero, suc, ◌+◌, ◌*◌, ◌/◌, ◌<◌, ◌≤◌, arith, ℤ, pos, negsuc, neg_ℤ, ◌<ℤ◌, ◌≤ℤ◌, ap, sym, subst, unsigned_abs}
 use Rattle.std.proofs.Math.Nat.{div-le_self}
 use borrow.Author.Differences.{up, down, same_in, at_most_in, sum_is_lem, neg_is, product_is, lt_out, le_out}
 use Rattle.fixed_num.specs.Floors.{floor_of, ceil_of, floor_quotient, ceil_quotient, IsFloor, IsCeil}
@@ -109,3 +109,13 @@ IsCeil_from a (negsuc k) q h e = absurd (omega (arith, lt_out (pos 0) (negsuc k)
 pub floor_size : (a : ℤ) (k : ℕ) → 1 ≤ k → unsigned_abs (floor_of a k) ≤ unsigned_abs a
 floor_size (pos a) k h = div-le_self a k
 floor_size (negsuc a) k h = omega (arith, div-le_self a k)
+
+-- a quotient of a number that is at most m times the divisor is at most m, in absolute value
+pub floor_within : (a : ℤ) (k m : ℕ) → 1 ≤ k → unsigned_abs a ≤ m * k → unsigned_abs (floor_of a k) ≤ m
+floor_within (pos a) k m some h =
+    let q : a / k * k ≤ a = omega arith in
+    at_most_from_scaled (a / k) m k (omega (arith, q, h))
+floor_within (negsuc a) k m some h =
+    let q : a / k * k ≤ a = omega arith in
+    let l : a / k + 1 ≤ m = at_most_from_scaled (a / k + 1) m k (omega (arith, q, h)) in
+    omega (arith, l)

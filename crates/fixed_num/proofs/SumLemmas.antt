@@ -1,6 +1,7 @@
 -- Sums of whole numbers.
-use Rattle.std.proofs.Common.{◌*ℤ◌, ◌+ℤ◌, ◌-ℤ◌, ◌≡◌, ◌≢◌, ℕ, zero, suc, ◌+◌, ◌*◌, ◌<◌, ◌≤◌, refl, sym, ◌∙◌, arith, ℤ, pos, ◌≤ℤ◌, ap, unsigned_abs, List, [], ◌∷◌, ◌++◌, add-one, length, take, get_or, set, Bool, true, false, eqb, to_z, of_z, to_z-of_z, ◌^◌}
+use Rattle.std.proofs.Common.{◌*ℤ◌, ◌+ℤ◌, ◌-ℤ◌, ◌≡◌, ◌≢◌, ℕ, zero, suc, ◌+◌, ◌*◌, ◌<◌, ◌≤◌, refl, sym, ◌∙◌, arith, ℤ, pos, ◌≤ℤ◌, ap, unsigned_abs, List, [], ◌∷◌, ◌++◌, add-one, length, take, drop, get_or, set, Bool, true, false, eqb, to_z, of_z, to_z-of_z, ◌^◌}
 use Rattle.std.specs.Int.{w128}
+use Rattle.std.proofs.Math.Seq.{take-append_seam}
 use Rattle.std.proofs.lemmas.Bool.Decides.{nat_tests}
 use Rattle.std.proofs.lemmas.List.{take_more, ext_get_or, get_or-set_same, get_or-set_other}
 use Rattle.std.proofs.lemmas.Int.{fits_signed_from_abs}
@@ -167,3 +168,8 @@ length-list_of n f = length-map-range_with_len f 0 n
 
 pub list_of_same : (n : ℕ) (f g : ℕ → ℤ) → ((k : ℕ) → k < n → f k ≡ g k) → list_of n f ≡ list_of n g
 list_of_same n f g h = list_of-from n g (list_of n f) (length-list_of n f) (λ k l. get_or-list_of n f k l ∙ h k l)
+
+-- ---- a slice that is written back
+
+pub written_back : {X : Type 0} (xs ys : List X) (n : ℕ) → length ys ≡ n → take n (ys ++ drop (length ys) xs) ≡ ys
+written_back xs ys n e = rw (sym e) (take-append_seam ys (drop (length ys) xs))

@@ -14,3 +14,5 @@ pub mod RankLemmas
 pub mod QuotientLemmas
 pub mod EncloseLemmas
 pub mod ScoreLemmas
+pub mod ScoreSizeLemmas
+pub mod SmallTables

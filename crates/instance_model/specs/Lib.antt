@@ -1,3 +1,4 @@
+-- What the contracts cite.
 pub mod Naturals
 pub mod Limits
 pub mod Tables

@@ -1,3 +1,4 @@
+//! The instance: contracts see it as the record `Tables`, and each call reads one function of those tables.
 ghost use Rattle.std.specs.Prelude.{◌^◌, ◌≡◌, ℕ, ◌+◌, ◌<◌, ◌≤◌, ◌*◌, length, IfOk, IfSome, IfNone, IsTrue, Contains, slice_index, slice_get, None, Some, position, bytes_eq, unsigned_abs};
 ghost use Rattle.instance_model.specs.Fitting.{IsFitting};
 ghost use Rattle.instance_model.specs.View.{tables_of};

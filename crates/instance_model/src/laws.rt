@@ -1,3 +1,4 @@
+//! Laws of the definitions: a contract gets one by a call that does nothing.
 ghost use Rattle.instance_model.specs.Rules.{FeasibleMeansKept};
 ghost use Rattle.instance_model.specs.Keys.{NoViolationMeansFeasible};
 ghost use Rattle.instance_model.specs.Exact.{PrintedValuesEnclose, CountsAreAReading, CostIsJustAboveScore};

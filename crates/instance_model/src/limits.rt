@@ -1,3 +1,4 @@
+//! The limits on instances and files, as one record.
 ghost use Rattle.std.specs.Prelude.{◌≡◌};
 ghost use Rattle.instance_model.specs.Limits.{standard_limits};
 

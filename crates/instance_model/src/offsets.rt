@@ -1,3 +1,4 @@
+//! Which starts are allowed, and where the entries of each start stand in a list over all of them.
 ghost use Rattle.std.specs.Prelude.{◌≡◌, ℕ, ◌+◌, ◌-◌, ◌*◌, ◌<◌, ◌≤◌, ◌^◌, length, IfOk, IsTrue, slice_index, slice_index_or, All, []};
 ghost use Rattle.instance_model.specs.Naturals.{count_sum};
 ghost use Rattle.instance_model.specs.Tables.{allowed_of, tmax, entries_at, entries_of};

@@ -1,3 +1,4 @@
+//! The tables that an instance is made of, as plain data.
 use fixed_num::Fixed;
 use indexmap::IndexSet;
 

@@ -1,3 +1,5 @@
+//! The rules that a plan can break.
+
 /// A rule that a plan breaks: where, and for a load what it is and the limit that it passes, in counts of 10^-12.
 #[derive(Clone, Copy, Debug, PartialEq, Eq)]
 pub enum Rule {

@@ -1,6 +1,15 @@
-ghost use Rattle.std.specs.Prelude.{◌≡◌};
+//! Starts by intervention: contracts see the list. The plan of such starts.
+ghost use Rattle.std.specs.Prelude.{◌≡◌, IfOk, Some, map};
 
+use std::alloc::{AllocError, Global};
 use std::marker::Model;
+
+/// The plan that gives each intervention its start.
+pub fn plan_of(alloc: Global, starts: &[u32]) -> Result<Vec<Option<u32>>, AllocError>
+    ensures { IfOk result (λ plan. plan.items ≡ map Some starts.now) }
+{
+    starts.iter().map(|s| Some(*s)).collect(alloc)
+}
 
 /// Starts by intervention.
 #[derive(Drop)]

@@ -1,3 +1,4 @@
+pub mod HeightLimitLemmas
 pub mod BagLemmas
 pub mod HeightLemmas
 pub mod OrderLemmas

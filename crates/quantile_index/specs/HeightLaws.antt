@@ -1,9 +1,9 @@
--- Proofs on height limits, which the trait's law that bounds don't fall needs here. Nothing in this file defines anything.
-use Rattle.std.proofs.Common.{◌≡◌, ℕ, zero, suc, ◌+◌, ◌*◌, ◌^◌, ◌<◌, ◌≤◌, Bool, true, false, cond, leb, refl, inl, inr, arith, lit≤, lit<}
+-- For the law that the bound of a tree's steps does not fall: height limits rise. The lemmas stand here, since what an impl
+-- gives as a law may not come from proofs/.
+use Rattle.std.proofs.Common.{◌≡◌, ℕ, zero, suc, ◌+◌, ◌*◌, ◌^◌, ◌<◌, ◌≤◌, Bool, true, false, cond, leb, refl, inl, inr, arith}
 use Rattle.std.proofs.Math.Nat.{mul-le-mul, pow-suc}
-use Rattle.std.proofs.Math.Pow.{pow_mono}
 use Rattle.std.proofs.lemmas.Bool.{cases_lt, leb-true, leb-false}
-use Rattle.quantile_index.specs.HeightLimit.{IsHeightLimit, greatest_exponent, height_limit}
+use Rattle.quantile_index.specs.HeightLimit.{greatest_exponent, height_limit}
 
 below_power : (n : ℕ) → n < 2 ^ n
 below_power zero = omega arith
@@ -45,36 +45,11 @@ height_limit_allowed n =
     let s : 1 * 1 ≤ (n + 1) * (n + 1) = mul-le-mul {n₁ = 1} {m₁ = 1} {n₂ = n + 1} {m₂ = n + 1} (omega arith) (omega arith) in
     exponent_allowed ((n + 1) * (n + 1)) ((n + 1) * (n + 1)) (omega arith)
 
-pub IsHeightLimit-height_limit : (n : ℕ) → IsHeightLimit n (height_limit n)
-IsHeightLimit-height_limit n = record { allowed = height_limit_allowed n; greatest = λ g. height_limit_greatest g n }
-
 pub height_limit_grows : (m n : ℕ) → m ≤ n → height_limit m ≤ height_limit n
 height_limit_grows m n h =
     let s : (m + 1) * (m + 1) ≤ (n + 1) * (n + 1) = mul-le-mul {n₁ = m + 1} {m₁ = m + 1} {n₂ = n + 1} {m₂ = n + 1} (omega arith) (omega arith) in
     let a = height_limit_allowed m in
     height_limit_greatest (height_limit m) n (omega arith)
-
--- the limit where the square lies between two powers
-height_limit_between : (h n : ℕ) → 2 ^ h ≤ (n + 1) * (n + 1) → (n + 1) * (n + 1) < 2 ^ (h + 1) → height_limit n ≡ h
-height_limit_between h n p q =
-    let a = height_limit_greatest h n p in
-    let b = height_limit_allowed n in
-    elim (cases_lt h (height_limit n)) [
-      | inl more ↦ let m : 2 ^ (h + 1) ≤ 2 ^ height_limit n = pow_mono (omega arith) in absurd (omega arith)
-      | inr less ↦ omega arith
-    ]
-
-pub height_limit_1 : height_limit 1 ≡ 2
-height_limit_1 = height_limit_between 2 1 (lit≤ tt) (lit< tt)
-
-pub height_limit_2 : height_limit 2 ≡ 3
-height_limit_2 = height_limit_between 3 2 (lit≤ tt) (lit< tt)
-
-pub height_limit_8 : height_limit 8 ≡ 6
-height_limit_8 = height_limit_between 6 8 (lit≤ tt) (lit< tt)
-
-pub height_limit_1024 : height_limit 1024 ≡ 20
-height_limit_1024 = height_limit_between 20 1024 (lit≤ tt) (lit< tt)
 
 -- the bound of a row that is a tree does not fall
 pub tree_bound_grows : (m n : ℕ) → m ≤ n → 4 * height_limit m + 4 ≤ 4 * height_limit n + 4

@@ -1,5 +1,6 @@
-pub mod HeightLaws
+-- What the contracts cite.
 pub mod HeightLimit
+pub mod HeightLaws
 pub mod Order
 pub mod Ranking
 pub mod Row

@@ -1,3 +1,4 @@
+//! A scenario sum with its scenario, and the order of such entries in counted steps.
 ghost use Rattle.std.specs.Prelude.{◌≡◌, true, false, ◌+◌, ◌≤◌};
 ghost use Rattle.quantile_index.specs.Order.{IsBefore};
 

@@ -1,3 +1,4 @@
+//! The law of the height of a tree, which bounds the steps of its changes.
 ghost use Rattle.std.specs.Prelude.{◌≡◌, ℕ, ◌+◌, ◌*◌, Some};
 ghost use Rattle.quantile_index.specs.HeightLimit.{IsHeightLimit, height_limit};
 

@@ -1,3 +1,4 @@
+//! The trait of rows of scenario sums: contracts see a row as the list of its sums, by scenario.
 use fixed_num::{Steps, Sum};
 use std::alloc::{AllocError, Global};
 use std::sync::ledger::Ledger;

@@ -1,3 +1,4 @@
+//! Tests of both kinds of row.
 ghost use Rattle.std.specs.Prelude.{◌≡◌, ◌<◌, ◌≤◌, length};
 
 use crate::{FlatRow, Row, TreeRow, height_limits};

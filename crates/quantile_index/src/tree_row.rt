@@ -1,3 +1,4 @@
+//! A row of scenario sums as a height-balanced tree: contracts see the list of the sums.
 ghost use Rattle.std.specs.Prelude.{◌≡◌, ◌+◌, ◌-◌, ◌*◌, ◌≤◌, length, IfOk, slice_set};
 ghost use Rattle.quantile_index.specs.HeightLimit.{height_limit};
 ghost use Rattle.quantile_index.specs.Ranking.{IsRanking};

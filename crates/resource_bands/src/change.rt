@@ -1,8 +1,8 @@
+//! A change of loads by a run.
 ghost use Rattle.std.specs.Prelude.{◌≡◌, ◌<◌, ◌^◌, unsigned_abs};
 ghost use Rattle.resource_bands.specs.Gaps.{signed, start_after};
 
-use crate::amount::Amount;
-use fixed_num::Fixed;
+use fixed_num::{Amount, Fixed};
 
 /// Whether a run is put on board or taken off.
 #[derive(Clone, Copy)]

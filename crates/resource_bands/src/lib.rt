@@ -4,8 +4,8 @@
 //! was made. Periods and starts count from 1; interventions and resources count from 0.
 #![tactic(auto)]
 
-mod amount;
 mod change;
+mod limit;
 mod loads;
 mod row;
 mod rows;

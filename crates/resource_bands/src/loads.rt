@@ -1,3 +1,4 @@
+//! The loads of the runs on board, with how far they are outside their limits.
 ghost use Rattle.std.specs.Prelude.{◌≡◌, ◌^◌, ◌<◌, ◌≤◌, length, map, replicate, unsigned_abs, slice_set, Some, None, IfOk, IsSome, IsTrue};
 ghost use Rattle.instance_model.specs.Tables.{Tables, is_allowed};
 ghost use Rattle.instance_model.specs.Plans.{start_of, load_sum, AreAllowedStarts};
@@ -5,10 +6,10 @@ ghost use Rattle.instance_model.specs.Keys.{band_gaps};
 ghost use Rattle.resource_bands.specs.BoardLoads.{IsOver, kept_row};
 ghost use Rattle.resource_bands.specs.Gaps.{start_before, start_after};
 
-use crate::amount::Amount;
 use crate::change::Change;
 use crate::row::Row;
 use crate::rows::{change_rows, gap_of_rows, idle_rows};
+use fixed_num::Amount;
 use instance_model::Instance;
 use std::alloc::{AllocError, Global};
 use std::marker::Model;
@@ -107,7 +108,7 @@ impl Loads {
         ensures value { (inst : Tables) → IsOver inst self.now → result ≡ load_sum inst self.now.board c t }
         ensures small { unsigned_abs result < 10 ^ 37 }
     {
-        self.rows[c as usize].load(t).count()
+        self.rows[c as usize].load(t).number()
     }
 
     /// How far all loads are outside their limits, in counts of 10^-12.
@@ -115,6 +116,6 @@ impl Loads {
         ensures value { (inst : Tables) → IsOver inst self.now → result ≡ band_gaps inst self.now.board }
         ensures small { unsigned_abs result < 10 ^ 37 }
     {
-        self.violation.count()
+        self.violation.number()
     }
 }

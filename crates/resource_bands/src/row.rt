@@ -1,10 +1,12 @@
+//! The loads of one resource: contracts see the list by period.
 ghost use Rattle.std.specs.Prelude.{◌≡◌, ℕ, ◌+◌, ◌-◌, ◌*◌, ◌^◌, ◌<◌, ◌≤◌, pos, ◌+ℤ◌, ◌-ℤ◌, length, replicate, slice_index_or, slice_set, unsigned_abs, IfOk, IsTrue};
 ghost use Rattle.instance_model.specs.Tables.{is_allowed};
 ghost use Rattle.resource_bands.specs.Gaps.{gap_at, row_gap, signed, IsRow, IsRowChanged};
 
-use crate::amount::Amount;
 use crate::change::Change;
+use crate::limit::{above, below};
 use duration_calendar::run;
+use fixed_num::Amount;
 use instance_model::Instance;
 use std::alloc::{AllocError, Global};
 use std::marker::Model;
@@ -32,8 +34,7 @@ pub(crate) fn gap(inst: &Instance, c: u32, t: u32, load: Amount) -> Amount
     ensures value { result ≡ gap_at inst.now c t load }
     ensures small { unsigned_abs result ≤ 10 ^ 24 }
 {
-    load.above(inst.upper(c, t))
-        .plus(load.below(inst.lower(c, t)))
+    above(load, inst.upper(c, t)).plus(below(load, inst.lower(c, t)))
 }
 
 impl Row {

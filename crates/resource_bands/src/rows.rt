@@ -1,10 +1,11 @@
+//! The loads of all resources, in lists by period.
 ghost use Rattle.std.specs.Prelude.{◌≡◌, ◌^◌, ◌<◌, ◌≤◌, ◌+ℤ◌, length, pos, replicate, unsigned_abs, IfOk, IsTrue};
 ghost use Rattle.instance_model.specs.Tables.{is_allowed};
 ghost use Rattle.resource_bands.specs.Gaps.{rows_gap, AreRows, AreRowsChanged};
 
-use crate::amount::Amount;
 use crate::change::Change;
 use crate::row::{Row, change_row};
+use fixed_num::Amount;
 use instance_model::Instance;
 use std::alloc::{AllocError, Global};
 

@@ -1,44 +1,18 @@
 -- The tables of the tests' instance fit.
 use Rattle.std.proofs.Common.{◌≡◌, ◌≢◌, ℕ, zero, suc, ◌<◌, ◌≤◌, ◌^◌, List, [], ◌∷◌, length, ℤ, pos, negsuc, refl, ap, subst, arith, codes, slice_index_or, unsigned_abs, lit<, lit≤, IsTrue}
-use Rattle.std.specs.List.{All, AllPairs, AllByRecursion}
+use Rattle.std.specs.List.{All, AllByRecursion}
 use Rattle.std.proofs.lemmas.List.Elements.{All-nil, All-cons, All-from_recursion}
 use Rattle.instance_model.specs.Naturals.{count_sum}
 use Rattle.instance_model.specs.Tables.{Tables, is_allowed, allowed_of, durations, tmax, delta_of, entries_at, entries_of, all_entries, scenarios_before, periods_before}
-use Rattle.instance_model.specs.Fitting.{IsFitting, AreNames, IsName, AreCells}
+use Rattle.instance_model.specs.Fitting.{IsFitting, AreCells}
 use Rattle.instance_model.specs.Plans.{AreAllowedStarts}
+use Rattle.instance_model.proofs.SmallTables.{two_letters, apart_at, no_names, two_names, no_cells}
 use Rattle.scenario_rows.specs.WorkedTables.{worked}
 
-name_fits : (a b : ℕ) → 32 < a → a ≢ 127 → 32 < b → b ≢ 127 → IsName (a ∷ b ∷ [])
-name_fits a b la na lb nb = record {
-  some = omega arith;
-  short = omega arith;
-  printed = All-cons (λ b. (32 < b) × (b ≢ 127)) a (b ∷ []) (la, na) (All-cons (λ b. (32 < b) × (b ≢ 127)) b [] (lb, nb) (All-nil (λ b. (32 < b) × (b ≢ 127))));
-}
-
-no_names : (limit : ℕ) → AreNames limit []
-no_names limit = record { few = omega arith; shaped = All-nil IsName; apart = λ i j d l k. absurd (omega (arith, k)) }
-
-no_cells : (i : ℕ) → AreCells worked i []
-no_cells i = record {
-  ordered = λ i j d l k. absurd (omega (arith, k));
-  allowed = λ k d l. absurd (omega (arith, l));
-  running = λ k d l. absurd (omega (arith, l));
-  resources = λ k d l. absurd (omega (arith, l));
-  small = λ k d l. absurd (omega (arith, l));
-}
-
 each_none : (i : ℕ) → i < 2 → AreCells worked i (slice_index_or worked.loads i [])
-each_none zero l = no_cells 0
-each_none (suc zero) l = no_cells 1
+each_none zero l = no_cells worked 0
+each_none (suc zero) l = no_cells worked 1
 each_none (suc (suc i)) l = absurd (omega (arith, l))
-
-names_apart : AllPairs (λ (a b : List ℕ). a ≢ b) (codes "I1" ∷ codes "I2" ∷ [])
-names_apart zero zero d l k = absurd (omega (arith, l))
-names_apart zero (suc zero) d l k = λ e. let second : 49 ≡ 50 = ap (λ (xs : List ℕ). slice_index_or xs 1 0) e in omega (arith, second)
-names_apart zero (suc (suc j)) d l k = absurd (omega (arith, k))
-names_apart (suc i) zero d l k = absurd (omega (arith, l))
-names_apart (suc i) (suc zero) d l k = absurd (omega (arith, l))
-names_apart (suc i) (suc (suc j)) d l k = absurd (omega (arith, k))
 
 abbrev Few : ℕ → Type 0
 Few n = (1 ≤ n) × (n ≤ 1024)
@@ -67,22 +41,18 @@ worked-fits = record {
   quantile = lit≤ tt;
   scenarios_each = refl;
   scenarios_few = All-cons Few 3 (2 ∷ []) (lit≤ tt, lit≤ tt) (All-cons Few 2 [] (lit≤ tt, lit≤ tt) (All-nil Few));
-  resources = no_names _;
+  resources = no_names 32;
   upper_each = refl;
   lower_each = refl;
   upper_small = λ k d l. absurd (omega (arith, l));
   lower_small = λ k d l. absurd (omega (arith, l));
-  seasons = no_names _;
+  seasons = no_names 64;
   season_each = refl;
-  names = record {
-    few = lit≤ tt;
-    shaped = All-cons IsName (codes "I1") (codes "I2" ∷ []) (name_fits 73 49 (omega arith) (omega arith) (omega arith) (omega arith)) (All-cons IsName (codes "I2") [] (name_fits 73 50 (omega arith) (omega arith) (omega arith) (omega arith)) (All-nil IsName));
-    apart = names_apart;
-  };
+  names = two_names 1024 (codes "I1") (codes "I2") (lit≤ tt) (two_letters 73 49 (omega arith) (omega arith) (omega arith) (omega arith)) (two_letters 73 50 (omega arith) (omega arith) (omega arith) (omega arith)) (apart_at 1 (codes "I1") (codes "I2") (omega arith));
   delta_each = refl;
   delta_some = All-cons SomeStarts (1 ∷ 1 ∷ []) ((2 ∷ []) ∷ []) (lit≤ tt, lit≤ tt) (All-cons SomeStarts (2 ∷ []) [] (lit≤ tt, lit≤ tt) (All-nil SomeStarts));
   delta_small = short_rows;
-  exclusions = no_names _;
+  exclusions = no_names 65_536;
   excluded_each = refl;
   excluded = λ k d l. absurd (omega (arith, l));
   loads_each = refl;

@@ -1,3 +1,4 @@
+-- What the contracts cite.
 pub mod RiskStates
 pub mod Bounds
 pub mod Parts

@@ -3,8 +3,7 @@ ghost use Rattle.std.specs.Prelude.{◌≡◌, ◌^◌, ◌<◌, unsigned_abs};
 ghost use Rattle.instance_model.specs.Plans.{IsSmallSum};
 ghost use Rattle.scenario_rows.specs.Changes.{changed, start_after};
 
-use crate::amount::Amount;
-use fixed_num::{Fixed, Sum};
+use fixed_num::{Amount, Fixed, Sum};
 
 /// Whether the risks of a run are added or taken away.
 #[derive(Clone, Copy)]

@@ -4,7 +4,6 @@
 //! starts and scenarios count from 1; interventions count from 0. Only making the rows takes memory.
 #![tactic(auto)]
 
-mod amount;
 mod change;
 mod part;
 mod period_row;

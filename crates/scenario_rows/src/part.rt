@@ -4,8 +4,7 @@ ghost use Rattle.std.specs.Int.{int_max};
 ghost use Rattle.fixed_num.specs.Floors.{floor_of};
 ghost use Rattle.instance_model.specs.Plans.{IsSmallSum};
 
-use crate::amount::Amount;
-use fixed_num::floor_div;
+use fixed_num::{Amount, floor_div};
 use instance_model::{excess_above, weighted};
 
 /// The weighted mean and excess of `n` sums with this quantile and total, rounded down.

@@ -1,3 +1,4 @@
+//! One period of the rows: contracts see its scenario sums, its rank and the weight of the mean.
 ghost use Rattle.std.specs.Prelude.{◌≡◌, ◌+◌, ◌*◌, ◌≤◌, length, map, Some, IfOk, IfSome};
 ghost use Rattle.instance_model.specs.Plans.{AreAllowedStarts};
 ghost use Rattle.scenario_rows.specs.RiskStates.{period_of};
@@ -5,11 +6,10 @@ ghost use Rattle.scenario_rows.specs.Bounds.{period_bound};
 ghost use Rattle.scenario_rows.specs.Changes.{CanChange, changed_sums, changed_period};
 ghost use Rattle.scenario_rows.specs.Parts.{part_of, IsSoundPeriod};
 
-use crate::amount::Amount;
 use crate::change::Change;
 use crate::runs::sums_of;
 use crate::sum_row::SumRow;
-use fixed_num::Steps;
+use fixed_num::{Amount, Steps};
 use instance_model::Instance;
 use quantile_index::Row;
 use std::alloc::{AllocError, Global};

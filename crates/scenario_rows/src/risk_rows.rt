@@ -1,3 +1,4 @@
+//! The rows of all periods, with the score: contracts see the starts on board beside the sums by period.
 ghost use Rattle.std.specs.Prelude.{◌≡◌, ℕ, ◌+◌, ◌-◌, ◌<◌, ◌≤◌, ◌^◌, length, map, Some, None, IfOk, IfSome, IsSome, IsTrue, unsigned_abs, slice_set};
 ghost use Rattle.instance_model.specs.Tables.{Tables, scenarios_of, delta_of, is_allowed};
 ghost use Rattle.instance_model.specs.Plans.{AreAllowedStarts, start_of};
@@ -7,12 +8,11 @@ ghost use Rattle.scenario_rows.specs.Bounds.{period_bound, run_bound};
 ghost use Rattle.scenario_rows.specs.Parts.{period_at};
 ghost use Rattle.scenario_rows.specs.Changes.{CanChange, changed_period, start_before, start_after};
 
-use crate::amount::Amount;
 use crate::change::Change;
 use crate::period_row::PeriodRow;
 use duration_calendar::run;
-use fixed_num::Steps;
-use instance_model::Instance;
+use fixed_num::{Amount, Steps};
+use instance_model::{Instance, plan_of};
 use quantile_index::Row;
 use std::alloc::{AllocError, Global};
 use std::marker::{Brand, Model};
@@ -39,13 +39,6 @@ impl<R: Row> Model for RiskRows<R> {
     ghost invariant = { λ r. IsScored r.periods.items r.score };
 }
 
-/// The starts as a board.
-fn board_of(alloc: Global, starts: &[u32]) -> Result<Vec<Option<u32>>, AllocError>
-    ensures { IfOk result (λ board. board.items ≡ map Some starts.now) }
-{
-    starts.iter().map(|s| Some(*s)).collect(alloc)
-}
-
 /// The rows with all interventions on board. Steps are counted on a counter of its own.
 fn rows_of<R: Row, L: Ledger>(
     alloc: Global,
@@ -61,7 +54,7 @@ fn rows_of<R: Row, L: Ledger>(
     ensures board { IfOk result (λ rows. rows.board ≡ map Some starts.now) }
 {
     let mut steps = Steps::<L>::zero(blank);
-    let board = board_of(alloc, starts)?;
+    let board = plan_of(alloc, starts)?;
     let mut periods = Vec::with_capacity(alloc, inst.periods() as usize)?;
     let mut score = Amount::zero();
     for u in 0..inst.periods() {

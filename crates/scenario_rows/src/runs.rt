@@ -10,31 +10,6 @@ use instance_model::Instance;
 use std::alloc::{AllocError, Global};
 use std::sync::ledger::Ledger;
 
-/// Adds the risks of intervention `i` at start `s` in period `t` to the scenario sums.
-fn add_risks<L: Ledger>(
-    inst: &Instance,
-    i: u32,
-    s: u32,
-    t: u32,
-    sums: &mut [Sum],
-    steps: &mut Steps<L>,
-)
-    requires number { i < length inst.now.names }
-    requires allowed { IsTrue (is_allowed inst.now i s) }
-    requires running { IsTrue (in_run_of inst.now i s t) }
-    requires from { 1 ≤ t }
-    requires to { t ≤ inst.now.periods }
-    requires each { length sums.old ≡ scenarios_of inst.now t }
-    requires room { All IsSmallSum sums.old }
-    ensures { sums.new ≡ list_of (scenarios_of inst.now t) (λ k.
-        slice_index_or sums.old k (pos 0) +ℤ risk_of inst.now i s t (k + 1)) }
-{
-    for k in 0..inst.scenarios(t) {
-        let risk = inst.risk_cell(i, s, t, k + 1, steps);
-        sums[k as usize] = sums[k as usize].plus(risk);
-    }
-}
-
 /// Adds intervention `i` to the scenario sums of those before it.
 fn add_run<L: Ledger>(
     inst: &Instance,
@@ -54,7 +29,7 @@ fn add_run<L: Ledger>(
     inst.fits();
     let s = starts[i as usize];
     if in_run(run(inst, i, s), t) {
-        add_risks(inst, i, s, t, sums, steps);
+        inst.add_risks(i, s, t, sums, steps);
     }
 }
 

@@ -1,13 +1,13 @@
+//! A row of scenario sums with their total, which is kept as they change: contracts see the sums.
 ghost use Rattle.std.specs.Prelude.{◌≡◌, ◌+◌, ◌-◌, ◌*◌, ◌≤◌, pos, length, take, IfOk, IfSome, slice_index_or, slice_set};
 ghost use Rattle.fixed_num.specs.Sums.{total};
 ghost use Rattle.instance_model.specs.Plans.{IsSmallSum};
 ghost use Rattle.scenario_rows.specs.Changes.{changed};
 ghost use Rattle.scenario_rows.specs.Parts.{AreRowSums, part_in};
 
-use crate::amount::Amount;
 use crate::change::Change;
 use crate::part::part;
-use fixed_num::{Fixed, Steps, Sum};
+use fixed_num::{Amount, Fixed, Steps, Sum};
 use quantile_index::Row;
 use std::alloc::{AllocError, Global};
 use std::marker::Model;

@@ -1,3 +1,4 @@
+-- What the contracts cite.
 pub mod Broken
 pub mod KeptClashes
 pub mod Sample

@@ -1,3 +1,4 @@
+//! Which exclusions are broken, and how many: contracts see flags by exclusion and their count.
 ghost use Rattle.std.specs.Prelude.{◌≡◌, ℕ, ◌<◌, ◌^◌, false, length, slice_index_or, slice_set, IfOk};
 ghost use Rattle.std.specs.List.{All, Contains};
 ghost use Rattle.instance_model.specs.Plans.{AreAllowedStarts};

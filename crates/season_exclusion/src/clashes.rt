@@ -1,3 +1,4 @@
+//! The broken exclusions of starts that change: contracts see the starts beside what is kept of them.
 ghost use Rattle.std.specs.Prelude.{◌≡◌, ◌<◌, length, map, slice_index, slice_set, Some, IfOk};
 ghost use Rattle.instance_model.specs.Tables.{Tables};
 ghost use Rattle.instance_model.specs.Plans.{AreAllowedStarts};

@@ -1,3 +1,4 @@
+//! The exclusions that name an intervention: contracts see their numbers in ascending order.
 ghost use Rattle.std.specs.Prelude.{◌≡◌, ℕ, ◌<◌, replicate, [], ◌∷◌, ◌++◌, length, slice_index_or, if◌then◌else◌, IfOk, OnOk};
 ghost use Rattle.season_exclusion.specs.Broken.{is_named, naming_of};
 

@@ -20,7 +20,7 @@ returns-then-in_run g c =
     let s = get_or c.args.starts.now c.args.i 0 in
     let given = start_of-starts c.args.starts.now c.args.i (omega arith) in
     let running : in_run inst c.args.i s c.args.t ≡ true = sym (c.in_run.ensures ∙ c.run.ensures.periods c.args.t) ∙ c.if-in_run.true in
-    c.add_risks.ensures ∙ ap (λ (xs : List ℤ). list_of (scenarios_of inst c.args.t) (λ k. get_or xs k (pos 0) +ℤ risk_of inst c.args.i s c.args.t (k + 1))) c.requires.before ∙ sums_before_more inst board c.args.t c.args.i (λ k. risk_of inst c.args.i s c.args.t (k + 1)) (λ k. risk_at-running inst c.args.t (k + 1) c.args.i s (start_of board c.args.i) given running)
+    c.add_risks.ensures.sums ∙ ap (λ (xs : List ℤ). list_of (scenarios_of inst c.args.t) (λ k. get_or xs k (pos 0) +ℤ risk_of inst c.args.i s c.args.t (k + 1))) c.requires.before ∙ sums_before_more inst board c.args.t c.args.i (λ k. risk_of inst c.args.i s c.args.t (k + 1)) (λ k. risk_at-running inst c.args.t (k + 1) c.args.i s (start_of board c.args.i) given running)
 
 pub returns-else-in_run : goal.returns-else-in_run
 returns-else-in_run g c =

@@ -1,7 +1,7 @@
 use Rattle.std.proofs.Common.{◌≡◌, ◌∙◌, ◌+◌, ap, arith, pos, ℕ, List, Option, Some, length, map}
 use Rattle.fixed_num.specs.Sums.{list_of}
+use Rattle.fixed_num.proofs.SumLemmas.{written_back}
 use Rattle.instance_model.proofs.BoardLemmas.{sums_before-none, sums_before-all, length-sums_before}
-use Rattle.scenario_rows.proofs.ListLemmas.{written_back}
 use Rattle.scenario_rows.proofs.runs.sums_of.Goals as goal
 
 pub loop-i-init : goal.loop-i-init

@@ -1,11 +1,11 @@
-//! Whole numbers that the rows keep.
+//! Whole numbers that are added up and kept.
 ghost use Rattle.std.specs.Prelude.{◌≡◌, ◌^◌, ◌<◌, pos, ◌+ℤ◌, ◌-ℤ◌, unsigned_abs};
 
 use std::marker::Model;
 
 /// A whole number below 10^37 in absolute value: contracts see it as that number.
 #[derive(Clone, Copy)]
-pub(crate) struct Amount {
+pub struct Amount {
     number: i128,
 }
 
@@ -22,27 +22,27 @@ impl Model for Amount {
 }
 
 impl Amount {
-    pub(crate) fn zero() -> Amount
+    pub fn zero() -> Amount
         ensures { result ≡ pos 0 }
     {
         Amount { number: 0 }
     }
 
-    pub(crate) fn of(number: i128) -> Amount
+    pub fn of(number: i128) -> Amount
         requires { unsigned_abs number < 10 ^ 37 }
         ensures { result ≡ number }
     {
         Amount { number }
     }
 
-    pub(crate) fn number(self) -> i128
+    pub fn number(self) -> i128
         ensures value { result ≡ self }
         ensures small { unsigned_abs result < 10 ^ 37 }
     {
         self.number
     }
 
-    pub(crate) fn plus(self, other: Amount) -> Amount
+    pub fn plus(self, other: Amount) -> Amount
         requires { unsigned_abs (self +ℤ other) < 10 ^ 37 }
         ensures { result ≡ self +ℤ other }
     {
@@ -51,12 +51,24 @@ impl Amount {
         }
     }
 
-    pub(crate) fn minus(self, other: Amount) -> Amount
+    pub fn minus(self, other: Amount) -> Amount
         requires { unsigned_abs (self -ℤ other) < 10 ^ 37 }
         ensures { result ≡ self -ℤ other }
     {
         Amount {
             number: self.number - other.number,
         }
+    }
+}
+
+#[cfg(test)]
+mod tests {
+    use super::*;
+
+    #[test]
+    fn amounts_add_up(rt: HostRuntime) {
+        let five = Amount::zero().plus(Amount::of(5));
+        assert_eq!(rt; five.number(), 5);
+        assert_eq!(rt; five.minus(Amount::of(7)).number(), -2);
     }
 }
