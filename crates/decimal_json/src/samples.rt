@@ -1,6 +1,6 @@
 //! Texts, and where each ends or has its fault, worked out by hand.
 
-use crate::fault::TextFault;
+use json_grammar::TextFault;
 
 const fn syntax(at: u64) -> Result<u64, TextFault> {
     Err(TextFault::Syntax { at })

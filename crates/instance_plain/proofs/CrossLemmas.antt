@@ -1,7 +1,7 @@
 -- Faults across the file, in the reduced form.
 use Rattle.std.proofs.Common.{◌≡◌, ℕ, zero, suc, ◌+◌, ◌-◌, ◌&&◌, Bool, true, false, cond, List, [], ◌∷◌, ◌++◌, map, length, Option, Some, None, refl, sym, ◌∙◌, ap, subst}
 use Rattle.std.specs.Prelude.{slice_index, nat_le, ◌==◌}
-use Rattle.decimal_json.specs.Tree.{Tree}
+use Rattle.json_grammar.specs.Tree.{Tree}
 use Rattle.instance_model.specs.Rules.{first_of, or_else}
 use Rattle.instance_model.specs.Tables.{allowed_of}
 use Rattle.instance_shape.specs.declared.fault.Known.TheVariants as is

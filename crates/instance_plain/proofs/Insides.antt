@@ -2,13 +2,13 @@
 use Rattle.std.proofs.Common.{◌≡◌, ℕ, ◌+◌, ◌<◌, ◌≤◌, ◌^◌, Bool, true, false, not, List, [], ◌∷◌, ◌++◌, length, Option, Some, None, refl, sym, ◌∙◌, ap, subst, arith}
 use Rattle.std.specs.Prelude.{Vec}
 use Rattle.std.specs.declared.alloc.Global.{Global}
-use Rattle.decimal_json.specs.Tree as json
-use Rattle.decimal_json.specs.Tree.{Trees, Members}
-use Rattle.decimal_json.specs.declared.tree.Tree.{Tree}
-use Rattle.decimal_json.specs.declared.tree.Node.{Node}
-use Rattle.decimal_json.specs.declared.tree.Node.TheVariants.{List as Listed, Object}
-use Rattle.decimal_json.specs.declared.tree.Member.{Member}
-use Rattle.decimal_json.specs.Trees.{tree_view, node_view, trees_view, members_view}
+use Rattle.json_grammar.specs.Tree as json
+use Rattle.json_grammar.specs.Tree.{Trees, Members}
+use Rattle.json_grammar.specs.declared.tree.Tree.{Tree}
+use Rattle.json_grammar.specs.declared.tree.Node.{Node}
+use Rattle.json_grammar.specs.declared.tree.Node.TheVariants.{List as Listed, Object}
+use Rattle.json_grammar.specs.declared.tree.Member.{Member}
+use Rattle.json_grammar.specs.Trees.{tree_view, node_view, trees_view, members_view}
 use Rattle.instance_model.specs.declared.limits.Limits.{Limits}
 use Rattle.instance_shape.specs.declared.fault.Flaw.TheVariants as flaw
 use Rattle.instance_shape.specs.declared.spot.Spot.{Spot}

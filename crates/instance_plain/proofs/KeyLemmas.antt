@@ -2,10 +2,10 @@
 use Rattle.std.proofs.Common.{◌≡◌, ℕ, ◌+◌, ◌<◌, ◌&&◌, Bool, true, false, not, List, [], ◌∷◌, ◌++◌, length, take, drop, get_or, Option, Some, None, refl, sym, ◌∙◌, ap, subst, arith, append_assoc, append-nil, is_none, is_some}
 use Rattle.std.proofs.Math.Seq.{take-length}
 use Rattle.std.specs.declared.string.String.{String}
-use Rattle.decimal_json.specs.Tree.{Node, Members, no_members, and_member}
-use Rattle.decimal_json.specs.declared.tree.Member.{Member}
-use Rattle.decimal_json.specs.Trees.{members_view, member_view}
-use Rattle.decimal_json.specs.Exact.{whole}
+use Rattle.json_grammar.specs.Tree.{Node, Members, no_members, and_member}
+use Rattle.json_grammar.specs.declared.tree.Member.{Member}
+use Rattle.json_grammar.specs.Trees.{members_view, member_view}
+use Rattle.decimal_numbers.specs.Exact.{whole}
 use Rattle.instance_model.specs.declared.limits.Limits.{Limits}
 use Rattle.instance_shape.specs.declared.fault.Known.{Known}
 use Rattle.instance_shape.specs.declared.fault.Which.{Which}

@@ -3,12 +3,12 @@ use Rattle.std.proofs.Common.{◌≡◌, ℕ, suc, ◌+◌, ◌<◌, Bool, true,
 use Rattle.std.specs.Prelude.{Vec}
 use Rattle.std.specs.declared.alloc.Global.{Global}
 use Rattle.std.proofs.Math.Seq.{drop-cons}
-use Rattle.decimal_json.specs.Tree as json
-use Rattle.decimal_json.specs.Tree.{Trees, no_trees, and_tree, Members}
-use Rattle.decimal_json.specs.declared.tree.Tree.{Tree}
-use Rattle.decimal_json.specs.declared.tree.Node.TheVariants.{List as Listed, Object}
-use Rattle.decimal_json.specs.declared.tree.Member.{Member}
-use Rattle.decimal_json.specs.Trees.{tree_view, node_view, trees_of, members_of, member_view, Member_view}
+use Rattle.json_grammar.specs.Tree as json
+use Rattle.json_grammar.specs.Tree.{Trees, no_trees, and_tree, Members}
+use Rattle.json_grammar.specs.declared.tree.Tree.{Tree}
+use Rattle.json_grammar.specs.declared.tree.Node.TheVariants.{List as Listed, Object}
+use Rattle.json_grammar.specs.declared.tree.Member.{Member}
+use Rattle.json_grammar.specs.Trees.{tree_view, node_view, trees_of, members_of, member_view, Member_view}
 use Rattle.instance_shape.specs.LookUp.{Entry, elements, entries, tree_list, entry_list, first_value}
 use Rattle.instance_plain.specs.Views.{entry_of, entries_view}
 use Rattle.instance_plain.proofs.Splits.{taken_more, parted}

@@ -2,11 +2,11 @@
 use Rattle.std.proofs.Common.{◌≡◌, rules}
 use Rattle.std.specs.Prelude.{Vec}
 use Rattle.std.specs.declared.alloc.Global.{Global}
-use Rattle.decimal_json.specs.Tree as spec
-use Rattle.decimal_json.specs.declared.tree.Tree.{Tree, the_lemmas as tree_lemmas}
-use Rattle.decimal_json.specs.declared.tree.Node.TheVariants.{List as Listed, Object}
-use Rattle.decimal_json.specs.declared.tree.Member.{Member, the_lemmas}
-use Rattle.decimal_json.specs.Trees.{tree_view, node_view, member_view, trees_view, members_view}
+use Rattle.json_grammar.specs.Tree as spec
+use Rattle.json_grammar.specs.declared.tree.Tree.{Tree, the_lemmas as tree_lemmas}
+use Rattle.json_grammar.specs.declared.tree.Node.TheVariants.{List as Listed, Object}
+use Rattle.json_grammar.specs.declared.tree.Member.{Member, the_lemmas}
+use Rattle.json_grammar.specs.Trees.{tree_view, node_view, member_view, trees_view, members_view}
 
 pub tree_opened : (t : Tree) → tree_view t ≡ spec.tree t.at t.end (node_view t.node)
 tree_opened t = search (rules, tree_lemmas, the_lemmas)

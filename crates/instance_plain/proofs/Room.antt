@@ -1,8 +1,8 @@
 -- A text has no more values than bytes.
 use Rattle.std.proofs.Common.{ℕ, ◌+◌, ◌≤◌, List, [], ◌∷◌, ◌++◌, length, arith, length-append}
-use Rattle.decimal_json.specs.Tree.{Tree, Node, Trees, Members}
-use Rattle.decimal_json.specs.Grammar.{IsInt, HasParts, Parts, IsNumber, IsString, IsValue, IsNode, IsElement, IsMoreTrees, IsMember, IsMoreMembers, IsText}
-use Rattle.decimal_json.specs.Grammar as grammar
+use Rattle.json_grammar.specs.Tree.{Tree, Node, Trees, Members}
+use Rattle.json_grammar.specs.Grammar.{IsInt, HasParts, Parts, IsNumber, IsString, IsValue, IsNode, IsElement, IsMoreTrees, IsMember, IsMoreMembers, IsText}
+use Rattle.json_grammar.specs.Grammar as grammar
 use Rattle.instance_shape.specs.declared.spot.Spot.{Spot}
 use Rattle.instance_shape.specs.declared.spot.Spot.TheVariants as spot
 use Rattle.instance_shape.specs.Shape.{placed, placed_node, placed_elements, placed_members, element, under}

@@ -2,9 +2,9 @@
 use Rattle.std.proofs.Common.{◌≡◌, ℕ, zero, suc, ◌+◌, ◌<◌, ◌&&◌, Bool, true, false, List, [], ◌∷◌, ◌++◌, map, length, take, get_or, refl, sym, ◌∙◌, ap, arith, append_assoc, append-nil, add-one, ◌⊎◌, inl, inr}
 use Rattle.std.proofs.Math.Nat.{eq-or-lt_of_le}
 use Rattle.std.specs.Prelude.{◌||◌}
-use Rattle.decimal_json.specs.Tree as json
-use Rattle.decimal_json.specs.declared.tree.Tree.{Tree}
-use Rattle.decimal_json.specs.Trees.{tree_view}
+use Rattle.json_grammar.specs.Tree as json
+use Rattle.json_grammar.specs.declared.tree.Tree.{Tree}
+use Rattle.json_grammar.specs.Trees.{tree_view}
 use Rattle.instance_shape.specs.LookUp.{differs_at}
 use Rattle.instance_shape.specs.FileTables.{lists_below, some_differs}
 use Rattle.instance_plain.specs.Rows.{all_hold}

@@ -2,9 +2,9 @@
 use Rattle.std.proofs.Common.{◌≡◌, ℕ, suc, ◌+◌, ◌<◌, ◌≤◌, List, [], ◌∷◌, ◌++◌, length, take, drop, get_or, refl, sym, ◌∙◌, ap, subst, arith, append_assoc, length-append, append-nil, add-one}
 use Rattle.std.proofs.lemmas.List.{take-append-drop, length-take-le}
 use Rattle.std.proofs.Math.Seq.{drop-cons, take-suc}
-use Rattle.decimal_json.specs.declared.tree.Tree as rust_tree
-use Rattle.decimal_json.specs.declared.tree.Member.{Member}
-use Rattle.decimal_json.specs.Trees.{tree_view, trees_view, members_view, member_view}
+use Rattle.json_grammar.specs.declared.tree.Tree as rust_tree
+use Rattle.json_grammar.specs.declared.tree.Member.{Member}
+use Rattle.json_grammar.specs.Trees.{tree_view, trees_view, members_view, member_view}
 use Rattle.instance_model.specs.declared.limits.Limits.{Limits}
 use Rattle.instance_shape.specs.declared.spot.Spot.{Spot}
 use Rattle.instance_shape.specs.Shape.{Placed, placed, placed_elements, placed_members, element, under}

@@ -1,8 +1,8 @@
 -- Surveys of values one after another, and of a value with what is in it.
 use Rattle.std.proofs.Common.{◌≡◌, ℕ, ◌+◌, ◌<◌, ◌^◌, ◌≤◌, ◌&&◌, Bool, true, false, cond, not, List, [], ◌∷◌, ◌++◌, length, refl, sym, ◌∙◌, subst, arith, length-append}
-use Rattle.decimal_json.specs.Tree.{Tree, tree, Node}
-use Rattle.decimal_json.specs.declared.tree.Tree as rust_tree
-use Rattle.decimal_json.specs.Trees.{tree_view, node_view}
+use Rattle.json_grammar.specs.Tree.{Tree, tree, Node}
+use Rattle.json_grammar.specs.declared.tree.Tree as rust_tree
+use Rattle.json_grammar.specs.Trees.{tree_view, node_view}
 use Rattle.instance_model.specs.declared.limits.Limits.{Limits}
 use Rattle.instance_shape.specs.declared.fault.Fault.{Fault}
 use Rattle.instance_shape.specs.declared.fault.Flaw.{Flaw}

@@ -7,10 +7,10 @@ use Rattle.std.proofs.lemmas.Slice.Eq.{bytes_eq-Decides}
 use Rattle.instance_plain.proofs.Lookings.{entries-parted}
 use Rattle.std.specs.declared.alloc.Global.{Global}
 use Rattle.std.specs.declared.string.String.{String}
-use Rattle.decimal_json.specs.declared.tree.Tree.{Tree}
-use Rattle.decimal_json.specs.declared.tree.Member.{Member}
-use Rattle.decimal_json.specs.Tree as json
-use Rattle.decimal_json.specs.Trees.{tree_view, member_view}
+use Rattle.json_grammar.specs.declared.tree.Tree.{Tree}
+use Rattle.json_grammar.specs.declared.tree.Member.{Member}
+use Rattle.json_grammar.specs.Tree as json
+use Rattle.json_grammar.specs.Trees.{tree_view, member_view}
 use Rattle.instance_shape.specs.declared.fault.Known.TheVariants as is
 use Rattle.instance_shape.specs.Keys.{Key, by_text, by_number, has_key}
 use Rattle.instance_shape.specs.Seen.{texts_of}

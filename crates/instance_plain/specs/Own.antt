@@ -1,7 +1,7 @@
 -- Defines tests of a value by itself and of a key, that the code makes.
 use Rattle.std.specs.Prelude.{ℕ, Bool, true, false, ◌&&◌, ◌==◌, not, nat_le, nat_lt, Option, Some, None, List, is_none}
-use Rattle.decimal_json.specs.Tree.{Node}
-use Rattle.decimal_json.specs.Exact.{fixed, whole}
+use Rattle.json_grammar.specs.Tree.{Node}
+use Rattle.decimal_numbers.specs.Exact.{fixed, whole}
 use Rattle.instance_model.specs.declared.limits.Limits.{Limits}
 use Rattle.instance_shape.specs.declared.fault.Which.{Which}
 use Rattle.instance_shape.specs.declared.spot.Spot.{Spot}

@@ -1,6 +1,6 @@
 -- Defines the reduced form of a text: an instance without resources, seasons, exclusions and workload.
 use Rattle.std.specs.Prelude.{◌≡◌, ℕ, List, [], ◌∷◌, None}
-use Rattle.decimal_json.specs.Tree.{Tree}
+use Rattle.json_grammar.specs.Tree.{Tree}
 use Rattle.instance_model.specs.Limits.{standard_limits}
 use Rattle.instance_shape.specs.declared.fault.Known.TheVariants as known_key
 use Rattle.instance_shape.specs.LookUp.{Entry, entries, known, interventions}

@@ -1,6 +1,6 @@
 -- Defines what a survey of values tells: whether there is a fault of shape among them, and how many numbers of each sort they hold.
 use Rattle.std.specs.Prelude.{◌≡◌, ℕ, ◌++◌, Bool, true, false, List, [], ◌∷◌, Option, Some, None, length}
-use Rattle.decimal_json.specs.Tree.{tree, Node, Members}
+use Rattle.json_grammar.specs.Tree.{tree, Node, Members}
 use Rattle.instance_model.specs.declared.limits.Limits.{Limits}
 use Rattle.instance_shape.specs.declared.fault.Fault.{Fault}
 use Rattle.instance_shape.specs.declared.spot.Spot.{Spot}

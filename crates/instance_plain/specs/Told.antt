@@ -1,6 +1,6 @@
 -- Defines what the code knows of a text: that its values have the right shape, and whether there is a fault across the file.
 use Rattle.std.specs.Prelude.{◌≡◌, ◌≤◌, Bool, true, false, [], Option, None, length}
-use Rattle.decimal_json.specs.Tree.{Tree}
+use Rattle.json_grammar.specs.Tree.{Tree}
 use Rattle.instance_model.specs.declared.limits.Limits.{Limits}
 use Rattle.instance_shape.specs.declared.spot.Spot.TheVariants as spot
 use Rattle.instance_shape.specs.Shape.{placed}

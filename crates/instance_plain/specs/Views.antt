@@ -1,7 +1,7 @@
 -- Rust's entries as those of the definition.
 use Rattle.std.specs.Prelude.{List, map}
-use Rattle.decimal_json.specs.declared.tree.Member.{Member}
-use Rattle.decimal_json.specs.Trees.{Member_view, member_view}
+use Rattle.json_grammar.specs.declared.tree.Member.{Member}
+use Rattle.json_grammar.specs.Trees.{Member_view, member_view}
 use Rattle.instance_shape.specs.LookUp.{Entry}
 
 abbrev pub entry_of : Member_view → Entry

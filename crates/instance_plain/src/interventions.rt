@@ -1,7 +1,7 @@
 //! The tables of the interventions, one by one.
 
 ghost use Rattle.std.specs.Prelude.{◌≡◌, ◌≢◌, ◌≤◌, ◌++◌, AllPairs, length, IfOk, IfSome, true, map, is_some, string_bytes};
-ghost use Rattle.decimal_json.specs.Trees.{tree_view};
+ghost use Rattle.json_grammar.specs.Trees.{tree_view};
 ghost use Rattle.instance_shape.specs.FileTables as tables;
 ghost use Rattle.instance_shape.specs.LookUp as look;
 ghost use Rattle.instance_plain.specs.Rows.{is_sound_intervention, runs_rows};
@@ -10,7 +10,7 @@ ghost use Rattle.instance_plain.specs.Views.{entries_view};
 
 use crate::look_up::{elements_at, whole, whole_at};
 use crate::rows::{Rows, add_runs};
-use decimal_json::{Member, Tree};
+use json_grammar::{Member, Tree};
 use indexmap::IndexSet;
 use instance_shape::{Known, add_text};
 use std::alloc::{AllocError, Global};

@@ -1,8 +1,8 @@
 //! What is judged of the keys of an object.
 
 ghost use Rattle.std.specs.Prelude.{◌≡◌, ◌++◌, ℕ, IfOk, true, string_bytes};
-ghost use Rattle.decimal_json.specs.Tree as json;
-ghost use Rattle.decimal_json.specs.Trees.{members_view};
+ghost use Rattle.json_grammar.specs.Tree as json;
+ghost use Rattle.json_grammar.specs.Trees.{members_view};
 ghost use Rattle.instance_shape.specs.declared.spot.Kind.TheVariants as kinds;
 ghost use Rattle.instance_shape.specs.Keys.{key_of};
 ghost use Rattle.instance_shape.specs.Seen.{texts_of, numbers_of};
@@ -11,7 +11,7 @@ ghost use Rattle.instance_shape.specs.ShapeFaults.{key_faults, key_limit};
 ghost use Rattle.instance_plain.specs.Surveys.{TellsClear, object_faults};
 ghost use Rattle.instance_plain.specs.Own.{counts_by_text, is_full, may_be_text as may_be_text_key};
 
-use decimal_json::Member;
+use json_grammar::Member;
 use indexmap::IndexSet;
 use instance_model::Limits;
 use instance_shape::{Kind, Spot, add_number, add_text, is_name, kind_of, missing_key, number_of};

@@ -2,13 +2,14 @@
 
 ghost use Rattle.std.specs.Prelude.{◌≡◌, ◌&&◌, ◌==◌, map, option_map, bytes_eq};
 ghost use Rattle.std.specs.Option.{option_copied};
-ghost use Rattle.decimal_json.specs.Trees.{tree_view};
+ghost use Rattle.json_grammar.specs.Trees.{tree_view};
 ghost use Rattle.instance_shape.specs.Keys.{text_of as key_text, is_digits, number_of as number_written};
 ghost use Rattle.instance_shape.specs.LookUp as look;
 ghost use Rattle.instance_plain.specs.Views.{entries_view};
 
-use decimal_json::{Member, Node, Tree, whole_of};
+use decimal_numbers::whole_of;
 use instance_shape::{Known, number_of, text_of};
+use json_grammar::{Member, Node, Tree};
 
 /// The elements of a value; none, if it is no list.
 pub fn elements(tree: &Tree) -> &[Tree]
@@ -92,7 +93,7 @@ pub fn whole(tree: &Tree) -> u32
 }
 
 /// The whole number under a required key; 0, if there is none.
-#[tactic(auto, unfolding(decimal_json::specs::Exact::whole))]
+#[tactic(auto, unfolding(decimal_numbers::specs::Exact::whole))]
 pub fn whole_at(tree: &Tree, known: Known) -> u32
     ensures { result ≡ look.whole_at (look.known known (tree_view tree.now)) }
 {

@@ -1,16 +1,17 @@
 //! What is judged of a value by itself.
 
 ghost use Rattle.std.specs.Prelude.{◌≡◌, Some};
-ghost use Rattle.decimal_json.specs.Trees.{node_view};
+ghost use Rattle.json_grammar.specs.Trees.{node_view};
 ghost use Rattle.instance_shape.specs.Shape as shape;
 ghost use Rattle.instance_shape.specs.ShapeFaults.{whole_limit};
 ghost use Rattle.instance_plain.specs.Surveys.{OwnSurveys};
 ghost use Rattle.instance_plain.specs.Own as own;
 
 use crate::survey::Survey;
-use decimal_json::{Node, fixed_of, millionths_of, whole_of};
+use decimal_numbers::{fixed_of, millionths_of, whole_of};
 use instance_model::Limits;
 use instance_shape::{Kind, Spot, is_name, kind_of};
+use json_grammar::Node;
 
 /// The survey of a number that is read as a count.
 fn number_survey(spot: Spot, differs: bool) -> Survey

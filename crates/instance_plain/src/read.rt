@@ -1,8 +1,8 @@
 //! Reading a text of the reduced form.
 
 ghost use Rattle.std.specs.Prelude.{◌≡◌, ◌<◌, ◌^◌, length, [], Err, None, IfOk, IfSome, IsTrue, pos, is_none, is_some, true, false, map, replicate};
-ghost use Rattle.decimal_json.specs.Tree as json;
-ghost use Rattle.decimal_json.specs.Trees.{tree_view};
+ghost use Rattle.json_grammar.specs.Tree as json;
+ghost use Rattle.json_grammar.specs.Trees.{tree_view};
 ghost use Rattle.instance_model.specs.Limits.{standard_limits};
 ghost use Rattle.instance_model.specs.View.{tables_of};
 ghost use Rattle.instance_shape.specs.declared.fault.Known.TheVariants as is;
@@ -21,10 +21,12 @@ use crate::error::PlainFault;
 use crate::interventions::{read_interventions, wholes};
 use crate::look_up::{at_known, elements_at, entries_at, whole_at};
 use crate::survey::{Survey, survey_value};
-use decimal_json::{Member, Node, TextFault, Tree, millionths_of, read_tree};
+use decimal_numbers::millionths_of;
 use indexmap::IndexSet;
 use instance_model::{Instance, Limits, LoadCell, Parts};
 use instance_shape::{Known, Spot};
+use json_grammar::{Member, Node, TextFault, Tree};
+use json_tree::read_tree;
 use std::alloc::{AllocError, Global};
 
 /// Whether the object under a required key has entries.
@@ -66,7 +68,7 @@ fn is_reduced(root: &Tree) -> bool
 }
 
 /// A number under a required key in multiples of 10^-6; 0, if there is none.
-#[tactic(auto, unfolding(decimal_json::specs::Exact::millionths, decimal_json::specs::Exact::exactly, decimal_json::specs::Token::parts_of))]
+#[tactic(auto, unfolding(decimal_numbers::specs::Exact::millionths, decimal_numbers::specs::Exact::exactly, json_grammar::specs::Token::parts_of))]
 fn part_at(tree: &Tree, known: Known) -> u32
     ensures { result ≡ look.part_at (look.known known (tree_view tree.now)) }
 {
@@ -77,7 +79,7 @@ fn part_at(tree: &Tree, known: Known) -> u32
 }
 
 /// A number in multiples of 10^-6; 0, if it is none.
-#[tactic(auto, unfolding(decimal_json::specs::Exact::millionths, decimal_json::specs::Exact::exactly, decimal_json::specs::Token::parts_of))]
+#[tactic(auto, unfolding(decimal_numbers::specs::Exact::millionths, decimal_numbers::specs::Exact::exactly, json_grammar::specs::Token::parts_of))]
 fn part(tree: &Tree) -> u32
     ensures { result ≡ look.part_at (tree_view tree.now) }
 {

@@ -1,15 +1,16 @@
 //! The rows of risks, in the order of the tables.
 
 ghost use Rattle.std.specs.Prelude.{◌≡◌, ◌+◌, ◌≤◌, ◌<◌, ◌++◌, ◌∷◌, [], length, IfOk, OnOk, true, map, slice_index};
-ghost use Rattle.decimal_json.specs.Trees.{tree_view};
+ghost use Rattle.json_grammar.specs.Trees.{tree_view};
 ghost use Rattle.instance_model.specs.Tables.{allowed_of};
 ghost use Rattle.instance_shape.specs.FileTables as tables;
 ghost use Rattle.instance_shape.specs.LookUp as look;
 ghost use Rattle.instance_plain.specs.Rows.{has_count, run_is_sound, runs_are_sound, run_rows, runs_rows};
 
 use crate::look_up::risk_list;
-use decimal_json::{Node, Tree, fixed_of};
+use decimal_numbers::fixed_of;
 use fixed_num::Fixed;
+use json_grammar::{Node, Tree};
 use std::alloc::AllocError;
 
 /// The risks by intervention, allowed start, period of the run and scenario, and whether one of a period's was rounded.
@@ -20,7 +21,7 @@ pub struct Rows {
 }
 
 /// The count of a number, and whether reading has rounded it.
-#[tactic(auto, unfolding(decimal_json::specs::Exact::fixed, decimal_json::specs::Token::parts_of))]
+#[tactic(auto, unfolding(decimal_numbers::specs::Exact::fixed, json_grammar::specs::Token::parts_of))]
 fn count_of(tree: &Tree) -> (Fixed, bool)
     ensures count { result.0 ≡ look.count_at (tree_view tree.now) }
     ensures differs { result.1 ≡ look.differs_at (tree_view tree.now) }

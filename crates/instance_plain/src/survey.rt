@@ -1,14 +1,14 @@
 //! What stands in the values of a tree: whether a fault of shape is among them, and how many numbers of each sort.
 
 ghost use Rattle.std.specs.Prelude.{◌≡◌, ◌+◌, ◌<◌, ◌^◌, IfOk, length, true};
-ghost use Rattle.decimal_json.specs.Trees.{tree_view, node_view, trees_view, members_view};
+ghost use Rattle.json_grammar.specs.Trees.{tree_view, node_view, trees_view, members_view};
 ghost use Rattle.instance_shape.specs.Shape as shape;
 ghost use Rattle.instance_plain.specs.Surveys.{Surveys, InsideSurveys};
 ghost use Rattle.instance_plain.specs.Own.{falls_short};
 
 use crate::keys::has_clear_keys;
 use crate::own::own_survey;
-use decimal_json::{Member, Node, Tree};
+use json_grammar::{Member, Node, Tree};
 use instance_model::Limits;
 use instance_shape::{Kind, Spot, element, kind_of, under};
 use std::alloc::{AllocError, Global};

@@ -1,6 +1,6 @@
 -- The bands that are kept of a text without a fault.
 use Rattle.std.proofs.Common.{◌≡◌, ℕ, ℤ, Bool, true, false, cond, List, [], ◌∷◌, ◌++◌, map, Option, Some, None, refl, ◌∙◌, ap, bytes_eq, unwrap_or, arith}
-use Rattle.decimal_json.specs.Tree.{Tree, tree, Node, Event}
+use Rattle.json_grammar.specs.Tree.{Tree, tree, Node, Event}
 use Rattle.instance_model.specs.declared.limits.Limits.{Limits}
 use Rattle.instance_shape.specs.declared.fault.Known.TheVariants as is
 use Rattle.instance_shape.specs.declared.spot.Spot.{Spot}

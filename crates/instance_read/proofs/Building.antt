@@ -1,7 +1,7 @@
 -- What is built of a text that has ended.
 use Rattle.std.proofs.Common.{◌≡◌, List, ℕ, [], None, ◌∙◌, ap}
 use Rattle.std.specs.Prelude.{IfSome}
-use Rattle.decimal_json.specs.Tree.{Tree}
+use Rattle.json_grammar.specs.Tree.{Tree}
 use Rattle.instance_model.specs.declared.limits.Limits.{Limits}
 use Rattle.instance_shape.specs.CrossFaults.{cross_fault}
 use Rattle.instance_shape.specs.Defined.{IsTreeOf}

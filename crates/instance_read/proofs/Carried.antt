@@ -1,6 +1,6 @@
 -- What is kept of a value, part by part: of a part that is kept by itself, and of a value at a spot at which nothing is kept.
 use Rattle.std.proofs.Common.{◌≡◌, ℕ, ◌+◌, Bool, true, false, List, refl, ◌∙◌, ap, pred}
-use Rattle.decimal_json.specs.Tree.{Tree, tree, Node, Trees, no_trees, and_tree, Members, no_members, and_member, Event, begin, finish, key}
+use Rattle.json_grammar.specs.Tree.{Tree, tree, Node, Trees, no_trees, and_tree, Members, no_members, and_member, Event, begin, finish, key}
 use Rattle.instance_shape.specs.declared.spot.Spot.{Spot}
 use Rattle.instance_shape.specs.Shape.{under, element}
 use Rattle.shape_walk.specs.Kept.{keep_value, keep_node, keep_elements, keep_members}

@@ -3,16 +3,16 @@ use Rattle.std.proofs.Common.{◌≡◌, ◌≢◌, ◌<◌, ℕ, ◌+◌, Bool,
 use Rattle.std.specs.Prelude.{ℤ, slice_get, Result, Ok, Err, IfOk, OnOk}
 use Rattle.std.specs.declared.alloc.AllocError.{AllocError}
 use Rattle.std.proofs.lemmas.List.{length_push, take_all}
-use Rattle.decimal_json.specs.Tree.{Tree, Event, events_of}
-use Rattle.decimal_json.specs.Counts.{IsNextCount}
-use Rattle.decimal_json.specs.Exact.{fixed}
-use Rattle.decimal_json.specs.Grammar.{IsText}
-use Rattle.decimal_json.specs.Prefix.{IsSyntaxFault, IsDepthFault, IsShallow}
-use Rattle.decimal_json.specs.PullViews.{PullView}
-use Rattle.decimal_json.specs.Pulls.{Stands}
-use Rattle.decimal_json.specs.Stream.{IsNextOfEach, IsGivenText}
-use Rattle.decimal_json.specs.declared.fault.TextFault.{TextFault}
-use Rattle.decimal_json.specs.declared.fault.TextFault.TheVariants.{Syntax, TooDeep, Memory}
+use Rattle.json_grammar.specs.Tree.{Tree, Event, events_of}
+use Rattle.json_events.specs.Counts.{IsNextCount}
+use Rattle.decimal_numbers.specs.Exact.{fixed}
+use Rattle.json_grammar.specs.Grammar.{IsText}
+use Rattle.json_grammar.specs.Prefix.{IsSyntaxFault, IsDepthFault, IsShallow}
+use Rattle.json_events.specs.PullViews.{PullView}
+use Rattle.json_events.specs.Pulls.{Stands}
+use Rattle.json_grammar.specs.Stream.{IsNextOfEach, IsGivenText}
+use Rattle.json_grammar.specs.declared.fault.TextFault.{TextFault}
+use Rattle.json_grammar.specs.declared.fault.TextFault.TheVariants.{Syntax, TooDeep, Memory}
 use Rattle.instance_model.specs.declared.limits.Limits.{Limits}
 use Rattle.instance_shape.specs.declared.fault.Fault.{Fault}
 use Rattle.instance_shape.specs.declared.spot.Spot.{Spot}

@@ -1,6 +1,6 @@
 -- The rows that are kept of a text without a fault of shape are those of the text.
 use Rattle.std.proofs.Common.{◌≡◌, ℕ, List, [], refl, ◌∙◌, ap, zero-add}
-use Rattle.decimal_json.specs.Tree.{Tree, events_of}
+use Rattle.json_grammar.specs.Tree.{Tree, events_of}
 use Rattle.instance_model.specs.declared.limits.Limits.{Limits}
 use Rattle.instance_shape.specs.declared.spot.Spot.TheVariants as spot
 use Rattle.instance_shape.specs.ShapeFaults.{shape_faults}

@@ -4,7 +4,7 @@ use Rattle.std.specs.Prelude.{string_eq, if◌then◌else◌}
 use Rattle.std.specs.List.{list_any}
 use Rattle.std.specs.declared.string.String.{String}
 use Rattle.std.proofs.lemmas.List.{map-append}
-use Rattle.decimal_json.specs.Tree.{Event, key}
+use Rattle.json_grammar.specs.Tree.{Event, key}
 use Rattle.instance_shape.specs.declared.spot.Spot.{Spot}
 use Rattle.instance_shape.specs.declared.spot.Spot.TheVariants as spot
 use Rattle.instance_shape.specs.Shape.{kind_of}

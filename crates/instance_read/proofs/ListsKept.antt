@@ -1,7 +1,7 @@
 -- The periods of seasons and the texts of exclusions that are kept of a text without a fault.
 use Rattle.std.proofs.Common.{◌≡◌, ℕ, Bool, true, false, cond, List, [], ◌∷◌, ◌++◌, map, refl, ◌∙◌, ap, arith}
 use Rattle.std.specs.Prelude.{nat_lt}
-use Rattle.decimal_json.specs.Tree.{Tree, tree, Node, Event}
+use Rattle.json_grammar.specs.Tree.{Tree, tree, Node, Event}
 use Rattle.instance_model.specs.declared.limits.Limits.{Limits}
 use Rattle.instance_shape.specs.declared.fault.Known.TheVariants as is
 use Rattle.instance_shape.specs.declared.spot.Spot.{Spot}

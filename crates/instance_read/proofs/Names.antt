@@ -1,7 +1,7 @@
 -- The names that are kept of an object without a fault are its keys.
 use Rattle.std.proofs.Common.{◌≡◌, ℕ, ◌||◌, Bool, true, false, cond, List, [], ◌∷◌, ◌++◌, map, refl, sym, ◌∙◌, ap, subst, bytes_eq, append_assoc, append-nil, arith}
 use Rattle.std.specs.List.{list_any}
-use Rattle.decimal_json.specs.Tree.{Tree, tree, Node, Members, no_members, and_member, Event, key}
+use Rattle.json_grammar.specs.Tree.{Tree, tree, Node, Members, no_members, and_member, Event, key}
 use Rattle.instance_model.specs.declared.limits.Limits.{Limits}
 use Rattle.instance_shape.specs.declared.fault.Known.TheVariants as is
 use Rattle.instance_shape.specs.declared.spot.Spot.{Spot}

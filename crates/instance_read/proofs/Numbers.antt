@@ -1,6 +1,6 @@
 -- The numbers that are kept of a text without a fault: periods, weights and scenarios.
 use Rattle.std.proofs.Common.{◌≡◌, ℕ, true, List, [], ◌∷◌, ◌++◌, refl, ◌∙◌, arith}
-use Rattle.decimal_json.specs.Tree.{Tree, Event}
+use Rattle.json_grammar.specs.Tree.{Tree, Event}
 use Rattle.instance_model.specs.declared.limits.Limits.{Limits}
 use Rattle.instance_shape.specs.declared.fault.Known.TheVariants as is
 use Rattle.instance_shape.specs.declared.spot.Spot.{Spot}

@@ -1,7 +1,7 @@
 -- In an object without a fault each key stands once: what the values under a key make one after another is what the first makes.
 use Rattle.std.proofs.Common.{◌≡◌, ℕ, ◌&&◌, ◌||◌, Bool, true, false, not, cond, List, [], ◌∷◌, ◌++◌, length, Option, Some, None, refl, sym, ◌∙◌, ap, bytes_eq}
 use Rattle.std.proofs.lemmas.Slice.Eq.{bytes_eq-Decides}
-use Rattle.decimal_json.specs.Tree.{Tree, tree, Node, Members, no_members, and_member}
+use Rattle.json_grammar.specs.Tree.{Tree, tree, Node, Members, no_members, and_member}
 use Rattle.instance_model.specs.declared.limits.Limits.{Limits}
 use Rattle.instance_shape.specs.declared.fault.Flaw.TheVariants as flaw
 use Rattle.instance_shape.specs.declared.spot.Spot.{Spot}

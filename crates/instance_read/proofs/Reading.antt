@@ -1,8 +1,8 @@
 -- What is kept of a value without a fault that is read: of a whole number, a number of 10^-6, a count.
 use Rattle.std.proofs.Common.{◌≡◌, ℕ, ℤ, pos, ◌&&◌, Bool, true, false, not, List, [], Option, Some, None, refl, sym, ◌∙◌, ap, subst, is_some, unwrap_or, option_map}
 use Rattle.std.specs.Prelude.{is_none, nat_le}
-use Rattle.decimal_json.specs.Tree.{Tree, tree, Node, Event}
-use Rattle.decimal_json.specs.Exact.{whole, millionths, fixed}
+use Rattle.json_grammar.specs.Tree.{Tree, tree, Node, Event}
+use Rattle.decimal_numbers.specs.Exact.{whole, millionths, fixed}
 use Rattle.instance_model.specs.declared.limits.Limits.{Limits}
 use Rattle.instance_shape.specs.declared.fault.Flaw.TheVariants as flaw
 use Rattle.instance_shape.specs.declared.spot.Spot.{Spot}

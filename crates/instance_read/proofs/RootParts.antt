@@ -2,7 +2,7 @@
 use Rattle.std.proofs.Common.{◌≡◌, ℕ, Bool, true, false, cond, [], Option, Some, None, refl, sym, ◌∙◌, ap, subst, bytes_eq, unwrap_or, pred}
 use Rattle.std.specs.Prelude.{slice_index_or, length, ◌<◌}
 use Rattle.std.proofs.lemmas.Slice.Eq.{bytes_eq-Decides}
-use Rattle.decimal_json.specs.Tree.{Tree, tree, Node, Members, no_members, and_member, Event, begin, finish, key}
+use Rattle.json_grammar.specs.Tree.{Tree, tree, Node, Members, no_members, and_member, Event, begin, finish, key}
 use Rattle.instance_model.specs.declared.limits.Limits.{Limits}
 use Rattle.instance_shape.specs.declared.fault.Known.{Known}
 use Rattle.instance_shape.specs.declared.spot.Spot.{Spot}

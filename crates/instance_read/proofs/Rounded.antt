@@ -1,8 +1,8 @@
 -- How many counts that are kept of a value differ from their numbers.
 use Rattle.std.proofs.Common.{◌≡◌, ℕ, ◌+◌, ℤ, ◌&&◌, Bool, true, false, cond, List, [], ◌∷◌, ◌++◌, Option, Some, None, refl, ◌∙◌, unwrap_or, option_map, arith}
-use Rattle.decimal_json.specs.Tree.{Tree, tree, Node, Trees, no_trees, and_tree, Members, no_members, and_member, Event, key}
-use Rattle.decimal_json.specs.Exact.{fixed, whole, millionths}
-use Rattle.decimal_json.specs.Token.{parts_of}
+use Rattle.json_grammar.specs.Tree.{Tree, tree, Node, Trees, no_trees, and_tree, Members, no_members, and_member, Event, key}
+use Rattle.decimal_numbers.specs.Exact.{fixed, whole, millionths}
+use Rattle.json_grammar.specs.Token.{parts_of}
 use Rattle.instance_shape.specs.declared.spot.Spot.{Spot}
 use Rattle.instance_shape.specs.declared.spot.Kind.{Kind}
 use Rattle.instance_shape.specs.declared.spot.Kind.TheVariants as kind

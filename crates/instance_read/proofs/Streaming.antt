@@ -1,10 +1,13 @@
 -- What is known of a reader with one piece more of a device's file, and of the fault that is told of the file.
 use Rattle.std.proofs.Common.{◌≡◌, ◌≢◌, ℕ, ◌+◌, ◌≤◌, List, [], ◌++◌, length, take, Option, Some, None, refl, sym, subst, length-append, arith}
-use Rattle.std.specs.Prelude.{IfSome, Err}
+use Rattle.std.specs.Prelude.{IfSome, IfErr, MatchResult, Result, Ok, Err}
 use Rattle.plan_desk.specs.Desk.{Input, Shown, Fault, input_after_read}
+use Rattle.plan_desk.specs.Contents.{IsCountAt}
+use Rattle.plan_desk.specs.declared.read_fault.ReadFault.{ReadFault}
 use Rattle.plan_desk.proofs.Unread.{read_on, end_of}
 use Rattle.instance_model.specs.declared.limits.Limits.{Limits}
 use Rattle.instance_read.specs.Fed.{HasRead, HasFed, HasRest}
+use Rattle.instance_read.specs.Reading as stops
 use Rattle.instance_read.specs.Reading.{CountsStreamFault}
 use Rattle.instance_read.specs.Told.{IsOfBytes}
 use Rattle.instance_read.specs.declared.fault.InstanceFault.{InstanceFault}
@@ -41,6 +44,18 @@ pub rest_such : (unread : Option (List ℕ)) (limit : ℕ) (P Q : List ℕ → T
 rest_such unread limit P Q h f = record { bytes = h.bytes; within = h.within; are = h.are; such = f h.bytes h.such }
 
 -- ---- faults
+
+-- a count that is within the limit is one of this fault, and of the one that was answered
+pub counted : {T : Type 0} (r : Result T ReadFault) (limit n : ℕ) (fault : ReadFault) → IfErr r (λ e. e ≡ fault) → n ≤ limit → IsCountAt limit fault n → MatchResult r (λ _. n ≤ limit) (λ f. IsCountAt limit f n)
+counted (Ok x) limit n fault is within count = within
+counted (Err e) limit n fault is within count = subst (λ (f : ReadFault). IsCountAt limit f n) (sym is) count
+
+-- a fault of the bytes that were read came behind no more than the limit
+pub counted_bytes : (fault : InstanceFault) (x : StreamFault) (limit n : ℕ) → IsOfBytes fault x → n ≤ limit → stops.IsCountAt limit x n
+counted_bytes fault (stream.Text told) limit n h within = within
+counted_bytes fault stream.Memory limit n h within = within
+counted_bytes fault stream.Failed limit n h within = absurd h
+counted_bytes fault stream.TooLong limit n h within = absurd h
 
 pub some_told : {A : Type 0} (o : Option A) (P : A → Type 0) → o ≢ None → IfSome o P → (told : A) × (o ≡ Some told) × P told
 some_told None P n h = absurd (n refl)

@@ -1,7 +1,7 @@
 -- The interventions that are kept of a text without a fault.
 use Rattle.std.proofs.Common.{◌≡◌, ℕ, ℤ, ◌||◌, Bool, true, false, cond, List, [], ◌∷◌, ◌++◌, map, Option, Some, None, refl, sym, ◌∙◌, ap, bytes_eq, unwrap_or, arith, append_assoc, append-nil}
-use Rattle.decimal_json.specs.Tree.{Tree, tree, Node, Event, key}
-use Rattle.decimal_json.specs.Exact.{whole}
+use Rattle.json_grammar.specs.Tree.{Tree, tree, Node, Event, key}
+use Rattle.decimal_numbers.specs.Exact.{whole}
 use Rattle.instance_model.specs.declared.limits.Limits.{Limits}
 use Rattle.instance_shape.specs.declared.fault.Known.TheVariants as is
 use Rattle.instance_shape.specs.declared.spot.Spot.{Spot}

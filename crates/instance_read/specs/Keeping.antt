@@ -2,7 +2,7 @@
 -- what of them is open. A part that is open is put among those that are closed at its closing bracket or brace.
 use Rattle.std.specs.Prelude.{ℕ, ◌+◌, ℤ, Bool, true, false, List, [], ◌∷◌, ◌++◌, cond, bytes_eq}
 use Rattle.std.specs.List.{list_any}
-use Rattle.decimal_json.specs.Tree.{Event, finish, key}
+use Rattle.json_grammar.specs.Tree.{Event, finish, key}
 use Rattle.instance_shape.specs.declared.spot.Spot.{Spot}
 use Rattle.instance_shape.specs.declared.spot.Spot.TheVariants as spot
 use Rattle.instance_rows.specs.FileRows.{BandRow, WorkloadRow, WorkRow, FileRows}

@@ -1,12 +1,12 @@
 -- What a reader knows of the bytes that were fed to it. Not part of any promise: only private functions cite it.
 use Rattle.std.specs.Prelude.{◌≡◌, ℕ, ◌<◌, List, ◌++◌, length, take, Bool, false, Option, Some, None}
-use Rattle.decimal_json.specs.Tree.{Tree, Event, events_of}
-use Rattle.decimal_json.specs.Grammar.{IsText}
-use Rattle.decimal_json.specs.Prefix.{IsSyntaxFault, IsDepthFault, IsShallow}
-use Rattle.decimal_json.specs.PullViews.{PullView}
-use Rattle.decimal_json.specs.Pulls.{Stands}
-use Rattle.decimal_json.specs.declared.fault.TextFault.{TextFault}
-use Rattle.decimal_json.specs.declared.fault.TextFault.TheVariants.{Syntax, TooDeep, Memory}
+use Rattle.json_grammar.specs.Tree.{Tree, Event, events_of}
+use Rattle.json_grammar.specs.Grammar.{IsText}
+use Rattle.json_grammar.specs.Prefix.{IsSyntaxFault, IsDepthFault, IsShallow}
+use Rattle.json_events.specs.PullViews.{PullView}
+use Rattle.json_events.specs.Pulls.{Stands}
+use Rattle.json_grammar.specs.declared.fault.TextFault.{TextFault}
+use Rattle.json_grammar.specs.declared.fault.TextFault.TheVariants.{Syntax, TooDeep, Memory}
 use Rattle.instance_model.specs.declared.limits.Limits.{Limits}
 use Rattle.instance_shape.specs.Defined.{IsTreeOf}
 use Rattle.instance_shape.specs.Ranges.{AreStandard}

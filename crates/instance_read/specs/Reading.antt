@@ -1,5 +1,5 @@
 -- What a reading of an instance answers.
-use Rattle.std.specs.Prelude.{◌≡◌, ◌⊎◌, ℕ, ◌+◌, ◌^◌, ◌≤◌, List, [], drop, length, Result, Ok, Err, IfSome}
+use Rattle.std.specs.Prelude.{◌≡◌, ◌⊎◌, ℕ, ◌+◌, ◌^◌, ◌<◌, ◌≤◌, List, [], drop, length, Result, Ok, Err, IfSome}
 use Rattle.plan_desk.specs.Desk.{Shown, Fault, ShowsSame, after_take_in, after_failed_take_in}
 use Rattle.plan_desk.specs.Faults.{Rose}
 use Rattle.plan_desk.specs.Contents.{WhereToldHolds, HoldsBytes}
@@ -27,6 +27,19 @@ abbrev pub LeavesFile : List ℕ → (limit : ℕ) → (old new : Shown) → Typ
 LeavesFile name limit old new = ShowsSame new (after_failed_take_in old)
     ⊎ (((bytes : List ℕ) × ((count : ℕ) × ((count ≤ limit + 2 ^ 16) × (HoldsBytes old name bytes × ShowsSame new (after_take_in name (drop count bytes) old)))))
     ⊎ ShowsSame new (after_take_in name [] old))
+
+-- how many bytes of a file were read where there is no instance: no more than the limit; where the file is too long, past
+-- the limit by no more than one piece, of at most 2 ^ 16 bytes
+abbrev pub IsCountAt : (limit : ℕ) → StreamFault → ℕ → Type 0
+IsCountAt limit stream.TooLong count = (limit < count) × (count ≤ limit + 2 ^ 16)
+IsCountAt limit stream.Failed count = count ≤ limit
+IsCountAt limit (stream.Text fault) count = count ≤ limit
+IsCountAt limit stream.Memory count = count ≤ limit
+
+-- where such a reading stops: its file was not taken in, or so many first bytes of it were read
+abbrev pub StopsAt : List ℕ → (limit : ℕ) → (old new : Shown) → StreamFault → Type 0
+StopsAt name limit old new fault = ((fault ≡ stream.Failed) × ShowsSame new (after_failed_take_in old))
+    ⊎ ((bytes : List ℕ) × ((count : ℕ) × (IsCountAt limit fault count × (HoldsBytes old name bytes × ShowsSame new (after_take_in name (drop count bytes) old)))))
 
 -- `Failed` comes only where faults rose, and the last fault, where told, is then such a one; no other answer changes it
 abbrev pub CountsStreamFault : {T : Type 0} → (old new : Shown) (Own : Fault → Type 0) → Result T StreamFault → Type 0

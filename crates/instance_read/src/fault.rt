@@ -3,7 +3,7 @@ ghost use Rattle.std.specs.Prelude.{◌≡◌};
 ghost use Rattle.instance_read.specs.declared.fault.InstanceFault.TheVariants as instance_faults;
 ghost use Rattle.instance_read.specs.declared.fault.StreamFault.TheVariants as stream_faults;
 
-use decimal_json::Text;
+use json_grammar::Text;
 use instance_shape::{Known, Which};
 use plan_desk::Failed;
 use std::alloc::AllocError;

@@ -1,14 +1,15 @@
 //! Following the events of a text.
 
 ghost use Rattle.std.specs.Prelude.{◌≡◌, ◌≢◌, ◌∷◌, [], ◌++◌, ℕ, List, Ok, Some, None, IfOk, OnOk, MatchOption};
-ghost use Rattle.decimal_json.specs.Tree as json;
-ghost use Rattle.decimal_json.specs.Events.{event_view};
-ghost use Rattle.decimal_json.specs.Pulls.{IsUnfinished};
+ghost use Rattle.json_grammar.specs.Tree as json;
+ghost use Rattle.json_grammar.specs.Events.{event_view};
+ghost use Rattle.json_events.specs.Pulls.{IsUnfinished};
 ghost use Rattle.instance_model.specs.declared.limits.Limits.{Limits as Sizes};
 ghost use Rattle.instance_read.specs.Readers.{HaveTaken, Follows, Ends, IsFollowing};
 
 use crate::keeper::Keeper;
-use decimal_json::{Event, Pull, Pulled, TextFault};
+use json_events::{Pull, Pulled};
+use json_grammar::{Event, TextFault};
 use shape_walk::ShapeWalk;
 use std::alloc::AllocError;
 
@@ -24,8 +25,8 @@ pub fn take_event(walk: &mut ShapeWalk, keeper: &mut Keeper, event: Event) -> Re
     keeper.take(taken.spot, event, &taken.read)
 }
 
-/// Takes the numbers that come next, as long as they are short and stand where counts are awaited: the way of most of
-/// the numbers of a file, without an event.
+/// Takes the numbers that come next, as long as they are told by their counts and stand where counts are awaited: the way
+/// of most of the numbers of a file, without an event.
 fn take_counts(pull: &mut Pull, walk: &mut ShapeWalk, keeper: &mut Keeper) -> Result<(), AllocError>
     requires { IsUnfinished pull.old }
     ensures follows { (limits : Sizes) (bytes : List ℕ) → IsFollowing limits pull.old walk.old keeper.old bytes
@@ -36,7 +37,7 @@ fn take_counts(pull: &mut Pull, walk: &mut ShapeWalk, keeper: &mut Keeper) -> Re
         return Ok(());
     };
     'counts: for _ in 0..u64::MAX {
-        let Some(number) = pull.next_short() else {
+        let Some(number) = pull.next_counted() else {
             return Ok(());
         };
         keeper.take_count(spot, number.count)?;

@@ -1,8 +1,8 @@
 //! What is kept of a text, event by event.
 
 ghost use Rattle.std.specs.Prelude.{◌≡◌, ◌+◌, ℕ, List, cond, false, map, string_bytes, IfOk, OnOk};
-ghost use Rattle.decimal_json.specs.Tree as json;
-ghost use Rattle.decimal_json.specs.Events.{event_view};
+ghost use Rattle.json_grammar.specs.Tree as json;
+ghost use Rattle.json_grammar.specs.Events.{event_view};
 ghost use Rattle.instance_rows.specs.FileRows as file;
 ghost use Rattle.instance_rows.specs.Views.{rows_view};
 ghost use Rattle.shape_walk.specs.Reads.{read_of, read_of_text, read_of_key};
@@ -13,7 +13,7 @@ ghost use Rattle.instance_read.specs.Keeping as spec;
 ghost use Rattle.instance_read.specs.Keepers.{kept_of};
 
 use crate::empty::{no_bands, no_rows, no_work, no_workload};
-use decimal_json::{Event, Text};
+use json_grammar::{Event, Text};
 use fixed_num::Fixed;
 use indexmap::IndexSet;
 use instance_rows::{Bands, FileRows, Load, Work, Workload};

@@ -13,6 +13,7 @@ mod stream;
 mod told;
 
 pub use fault::{InstanceFault, StreamFault};
+pub use instance_shape::{Known, Which};
 pub use read::{read_instance, read_instance_from};
 
 #[cfg(test)]

@@ -1,7 +1,7 @@
 //! Feeding a reader piece by piece.
 
 ghost use Rattle.std.specs.Prelude.{◌≡◌, [], OnOk};
-ghost use Rattle.decimal_json.specs.Pulls.{IsUnfinished};
+ghost use Rattle.json_events.specs.Pulls.{IsUnfinished};
 ghost use Rattle.instance_model.specs.declared.limits.Limits.{Limits as Sizes};
 ghost use Rattle.instance_read.specs.Fed.{HasRead};
 

@@ -7,11 +7,11 @@ ghost use Rattle.instance_model.specs.Tables.{Tables};
 ghost use Rattle.instance_shape.specs.Ranges.{AreStandard, IsSlack};
 ghost use Rattle.instance_shape.specs.Defined.{Defines};
 ghost use Rattle.instance_shape.specs.FileFaults.{FileFault, HasFileFault};
-ghost use Rattle.decimal_json.specs.Pulls.{IsUnfinished};
+ghost use Rattle.json_events.specs.Pulls.{IsUnfinished};
 ghost use Rattle.instance_model.specs.declared.limits.Limits.{Limits as Sizes};
 ghost use Rattle.instance_read.specs.Faults.{fault_of};
 ghost use Rattle.instance_read.specs.Fed.{HasRead, IsUnfed};
-ghost use Rattle.instance_read.specs.Reading.{TellsFault, ReadsFile, LeavesFile, CountsStreamFault};
+ghost use Rattle.instance_read.specs.Reading.{TellsFault, ReadsFile, LeavesFile, StopsAt, CountsStreamFault};
 
 use crate::fault::{InstanceFault, StreamFault};
 use crate::pieces::feed_all;
@@ -86,6 +86,8 @@ pub fn read_instance_from<D: Desk>(
     // An instance was read to the end of its file. A failure changes no file and says nothing, and no read was made once the limit was passed.
     ensures ok { OnOk result (ShowsSame (D.shows desk.new) (after_take_in name.now [] (D.shows desk.old))) }
     ensures err { OnErr result (LeavesFile name.now limits.now.instance_bytes (D.shows desk.old) (D.shows desk.new)) }
+    // no more than the limit was read, unless the file is too long
+    ensures stops { IfErr result (StopsAt name.now limits.now.instance_bytes (D.shows desk.old) (D.shows desk.new)) }
 
     // `Failed` comes only where faults rose.
     ensures later { (D.shows desk.old).faults ≤ (D.shows desk.new).faults }

@@ -5,7 +5,8 @@ use crate::fault::InstanceFault;
 use crate::follow::{finish_events, take_events};
 use crate::keeper::Keeper;
 use crate::told::of_text;
-use decimal_json::{Pull, TextFault};
+use json_events::Pull;
+use json_grammar::TextFault;
 use fixed_num::Fixed;
 use instance_model::{Instance, Limits};
 use shape_walk::ShapeWalk;
@@ -24,7 +25,7 @@ pub struct Reader {
 
 impl Reader {
     ghost use Rattle.std.specs.Prelude.{◌≡◌, ◌++◌, [], ℕ, List, IfOk, OnOk, IfErr};
-    ghost use Rattle.decimal_json.specs.Pulls.{IsUnfinished};
+    ghost use Rattle.json_events.specs.Pulls.{IsUnfinished};
     ghost use Rattle.instance_model.specs.declared.limits.Limits.{Limits as Sizes};
     ghost use Rattle.instance_shape.specs.Defined.{Defines};
     ghost use Rattle.instance_shape.specs.Ranges.{AreStandard, IsSlack};

@@ -1,8 +1,9 @@
 //! Reading an instance from a device.
 
-ghost use Rattle.std.specs.Prelude.{◌≡◌, ◌+◌, ◌^◌, ◌<◌, ◌≤◌, ℕ, List, [], length, Some, Err, IfOk, OnOk, OnErr, IfSome, IsErrOf, IsTrue};
-ghost use Rattle.decimal_json.specs.Pulls.{IsUnfinished};
+ghost use Rattle.std.specs.Prelude.{◌≡◌, ◌<◌, ◌≤◌, ℕ, List, [], length, Some, Err, IfOk, OnOk, OnErr, IfSome, IsErrOf, IsTrue, MatchResult};
+ghost use Rattle.json_events.specs.Pulls.{IsUnfinished};
 ghost use Rattle.plan_desk.specs.Desk.{ShowsSame, after_read, all_read};
+ghost use Rattle.plan_desk.specs.Contents.{IsCountAt};
 ghost use Rattle.plan_desk.specs.Faults.{CountsReadFault, IsFaultOf};
 ghost use Rattle.plan_desk.specs.declared.call.DeskCall.{DeskCall};
 ghost use Rattle.instance_model.specs.declared.limits.Limits.{Limits as Sizes};
@@ -11,7 +12,7 @@ ghost use Rattle.instance_shape.specs.FileFaults.{FileFault, HasFileFault};
 ghost use Rattle.instance_shape.specs.Ranges.{AreStandard, IsSlack};
 ghost use Rattle.instance_read.specs.Faults.{fault_of};
 ghost use Rattle.instance_read.specs.Fed.{HasRead, HasRest, IsUnfed};
-ghost use Rattle.instance_read.specs.Reading.{CountsStreamFault};
+ghost use Rattle.instance_read.specs.Reading.{CountsStreamFault, IsCountAt as IsStreamCountAt};
 
 use crate::fault::{InstanceFault, StreamFault};
 use crate::pieces::PIECE;
@@ -29,7 +30,7 @@ fn feed_rest<D: Desk>(desk: &mut D, reader: &mut Reader, limit: u64) -> Result<(
     ensures read { OnOk result (HasRest (D.shows desk.old).input.unread limit (λ bytes. (sizes : Sizes) → HasRead sizes reader.old [] → HasRead sizes reader.new bytes)) }
     ensures too_long { IsErrOf result ReadFault.TooLong → IfSome (D.shows desk.old).input.unread (λ rest. limit < length rest) }
     ensures end { OnOk result (ShowsSame (D.shows desk.new) (all_read (D.shows desk.old))) }
-    ensures some_read { (n : ℕ) × (n ≤ limit + 2 ^ 16) × ShowsSame (D.shows desk.new) (after_read n (D.shows desk.old)) }
+    ensures some_read { (n : ℕ) × MatchResult result (λ _. n ≤ limit) (λ fault. IsCountAt limit fault n) × ShowsSame (D.shows desk.new) (after_read n (D.shows desk.old)) }
     ensures later { (D.shows desk.old).faults ≤ (D.shows desk.new).faults }
     ensures faults { CountsReadFault (D.shows desk.old) (D.shows desk.new) (IsFaultOf DeskCall.Read (D.shows desk.old).input.name) result }
 {
@@ -67,7 +68,7 @@ pub fn read_rest<D: Desk>(
         → HasRest (D.shows desk.old).input.unread limit (λ bytes. (told : FileFault) × (fault_of fault ≡ Some told) × HasFileFault sizes bytes told) }
     ensures too_long { IsErrOf result StreamFault.TooLong → IfSome (D.shows desk.old).input.unread (λ rest. limit < length rest) }
     ensures end { OnOk result (ShowsSame (D.shows desk.new) (all_read (D.shows desk.old))) }
-    ensures some_read { (n : ℕ) × (n ≤ limit + 2 ^ 16) × ShowsSame (D.shows desk.new) (after_read n (D.shows desk.old)) }
+    ensures some_read { (n : ℕ) × MatchResult result (λ _. n ≤ limit) (λ fault. IsStreamCountAt limit fault n) × ShowsSame (D.shows desk.new) (after_read n (D.shows desk.old)) }
     ensures later { (D.shows desk.old).faults ≤ (D.shows desk.new).faults }
     ensures faults { CountsStreamFault (D.shows desk.old) (D.shows desk.new) (IsFaultOf DeskCall.Read (D.shows desk.old).input.name) result }
 {

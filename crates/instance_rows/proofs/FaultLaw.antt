@@ -3,7 +3,7 @@ use Rattle.std.proofs.Common.{◌≡◌, ℕ, ◌+◌, ◌-◌, ◌&&◌, ◌==�
 use Rattle.std.specs.Prelude.{slice_index, slice_index_or, nat_lt, nat_le}
 use Rattle.std.proofs.Math.ListN.{get_or-map}
 use Rattle.std.proofs.lemmas.List.{length-map}
-use Rattle.decimal_json.specs.Tree.{Tree, tree, Node}
+use Rattle.json_grammar.specs.Tree.{Tree, tree, Node}
 use Rattle.instance_model.specs.Rules.{or_else}
 use Rattle.instance_model.specs.Tables.{allowed_of}
 use Rattle.instance_model.specs.declared.limits.Limits.{Limits}

@@ -4,7 +4,7 @@ use Rattle.std.specs.Prelude.{find, flat_map}
 use Rattle.std.specs.Option.{option_or}
 use Rattle.std.proofs.lemmas.Bool.Decides.{nat_tests}
 use Rattle.std.proofs.lemmas.List.Folds.{find-append}
-use Rattle.decimal_json.specs.Tree.{Tree}
+use Rattle.json_grammar.specs.Tree.{Tree}
 use Rattle.instance_model.specs.declared.limits.Limits.{Limits}
 use Rattle.instance_shape.specs.declared.fault.Known.TheVariants as is
 use Rattle.instance_shape.specs.declared.spot.Spot.{Spot}

@@ -2,7 +2,7 @@
 use Rattle.std.proofs.Common.{◌≡◌, ℕ, zero, suc, ◌+◌, ℤ, cond, List, [], ◌∷◌, ◌++◌, map, length, Option, Some, None, refl, sym, ◌∙◌, ap, option_map, unwrap_or}
 use Rattle.std.specs.Prelude.{flat_map, slice_index, slice_index_or, ◌+ℤ◌, ◌-ℤ◌}
 use Rattle.std.proofs.Math.ListN.{get_or-map}
-use Rattle.decimal_json.specs.Tree.{Tree, tree, Node}
+use Rattle.json_grammar.specs.Tree.{Tree, tree, Node}
 use Rattle.instance_model.specs.declared.parts.Exclusion.{Exclusion}
 use Rattle.instance_model.specs.declared.limits.Limits.{Limits}
 use Rattle.instance_model.specs.Tables.{allowed_of}

@@ -1,6 +1,6 @@
 -- Defines the rows of a file: what it has of an instance, in its own words and order, before anything is looked up.
 use Rattle.std.specs.Prelude.{ℕ, ℤ, Bool, List, map, flat_map}
-use Rattle.decimal_json.specs.Tree.{Tree}
+use Rattle.json_grammar.specs.Tree.{Tree}
 use Rattle.instance_shape.specs.declared.fault.Known.TheVariants as is
 use Rattle.instance_shape.specs.declared.spot.Spot.TheVariants as spot
 use Rattle.instance_shape.specs.Keys.{number_of}

@@ -1,6 +1,6 @@
 -- Defines which rows Rust's rows are, and when they are those of a text.
 use Rattle.std.specs.Prelude.{◌≡◌, [], map, string_bytes}
-use Rattle.decimal_json.specs.Tree.{Tree}
+use Rattle.json_grammar.specs.Tree.{Tree}
 use Rattle.instance_model.specs.declared.limits.Limits.{Limits}
 use Rattle.instance_shape.specs.Ranges.{AreStandard}
 use Rattle.instance_shape.specs.ShapeFaults.{shape_faults}

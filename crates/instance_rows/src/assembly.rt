@@ -1,7 +1,7 @@
 //! The instance of a file's rows.
 
 ghost use Rattle.std.specs.Prelude.{◌≡◌, None, IfOk, map, string_bytes};
-ghost use Rattle.decimal_json.specs.Tree as json;
+ghost use Rattle.json_grammar.specs.Tree as json;
 ghost use Rattle.instance_model.specs.declared.limits.Limits as limit;
 ghost use Rattle.instance_model.specs.View.{tables_of};
 ghost use Rattle.instance_shape.specs.CrossFaults.{cross_fault};

@@ -4,7 +4,7 @@ use Rattle.std.specs.Prelude.{All, pos, ◌+ℤ◌, ◌-ℤ◌, ◌≤ℤ◌, un
 use Rattle.std.proofs.lemmas.List.{length-map}
 use Rattle.std.proofs.lemmas.List.Elements.{All-weaker, All-map}
 use Rattle.fixed_num.proofs.SignedLemmas.{signed_arith}
-use Rattle.decimal_json.specs.Tree.{Tree}
+use Rattle.json_grammar.specs.Tree.{Tree}
 use Rattle.instance_shape.specs.declared.fault.Known.{Known}
 use Rattle.instance_shape.specs.declared.fault.Known.TheVariants as is
 use Rattle.instance_shape.specs.CrossFaults.{cross_fault}

@@ -2,11 +2,11 @@
 use Rattle.std.proofs.Common.{◌≡◌, ℕ, ◌<◌, ◌≤◌, ◌^◌, ◌&&◌, Bool, true, false, cond, not, List, Option, Some, None, refl, arith, unwrap_or, option_map}
 use Rattle.std.specs.Prelude.{◌||◌, ◌==◌, nat_le, nat_lt, ℤ, pos, unsigned_abs}
 use Rattle.std.proofs.lemmas.Bool.Decides.{nat_tests}
-use Rattle.decimal_json.specs.Tree.{Tree, tree, Node}
-use Rattle.decimal_json.specs.Grammar.{Parts}
-use Rattle.decimal_json.specs.Decimal.{signed}
-use Rattle.decimal_json.specs.Token.{parts_of}
-use Rattle.decimal_json.specs.Exact.{is_exact, fixed_size, fixed_parts, fixed, exact_size, exact_parts, exactly, whole, millionths}
+use Rattle.json_grammar.specs.Tree.{Tree, tree, Node}
+use Rattle.json_grammar.specs.Grammar.{Parts}
+use Rattle.decimal_numbers.specs.Decimal.{signed}
+use Rattle.json_grammar.specs.Token.{parts_of}
+use Rattle.decimal_numbers.specs.Exact.{is_exact, fixed_size, fixed_parts, fixed, exact_size, exact_parts, exactly, whole, millionths}
 use Rattle.instance_shape.specs.LookUp.{whole_at, part_at, count_at, token_at}
 
 exact_most : (p : Parts) (places most size : ℕ) → unwrap_or (exact_size p places most size) 0 ≤ most

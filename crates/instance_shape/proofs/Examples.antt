@@ -1,11 +1,11 @@
 -- The faults of shape of small texts, and the multiples of a number, worked out by hand.
 use Rattle.std.proofs.Common.{◌≡◌, ℕ, ◌+◌, ◌*◌, List, [], ◌∷◌, true, refl, subst, arith, ℤ, pos}
 use Rattle.std.specs.Prelude.{neg_ℤ}
-use Rattle.decimal_json.specs.Decimal.{numerator, denominator}
-use Rattle.decimal_json.specs.Grammar.{Parts, parts, HasParts}
-use Rattle.decimal_json.specs.Token.{parts_of}
-use Rattle.decimal_json.specs.Tree.{Tree, tree, Node, no_trees, no_members, and_member}
-use Rattle.decimal_json.proofs.Tokens.{parts_sound, one_parts}
+use Rattle.decimal_numbers.specs.Decimal.{numerator, denominator}
+use Rattle.json_grammar.specs.Grammar.{Parts, parts, HasParts}
+use Rattle.json_grammar.specs.Token.{parts_of}
+use Rattle.json_grammar.specs.Tree.{Tree, tree, Node, no_trees, no_members, and_member}
+use Rattle.json_grammar.proofs.Tokens.{parts_sound, one_parts}
 use Rattle.instance_model.specs.declared.limits.Limits.{Limits}
 use Rattle.instance_shape.specs.declared.fault.Fault.{Fault}
 use Rattle.instance_shape.specs.declared.fault.Known.TheVariants as known

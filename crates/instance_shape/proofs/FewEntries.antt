@@ -4,7 +4,7 @@ use Rattle.std.proofs.Common.{◌≡◌, ◌≢◌, ℕ, ◌+◌, ◌-◌, ◌�
 use Rattle.std.specs.Prelude.{AllPairs, slice_index, slice_index_or}
 use Rattle.std.proofs.lemmas.List.{length-map}
 use Rattle.std.proofs.lemmas.List.Sums.{sum_by-le-sum_by}
-use Rattle.decimal_json.specs.Tree.{Tree, tree, Node}
+use Rattle.json_grammar.specs.Tree.{Tree, tree, Node}
 use Rattle.instance_model.specs.Naturals.{count_sum}
 use Rattle.instance_model.specs.Tables.{allowed_of}
 use Rattle.instance_model.specs.declared.limits.Limits.{Limits}

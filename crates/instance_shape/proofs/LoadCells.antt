@@ -4,7 +4,7 @@ use Rattle.std.specs.Prelude.{All, AllPairs, slice_index, slice_index_or, nat_le
 use Rattle.std.proofs.lemmas.Bool.{and_from, le-leb, lt-ltb}
 use Rattle.std.proofs.lemmas.List.{get_or-map, length-map}
 use Rattle.std.proofs.lemmas.List.Elements.{All-nil, All-cons, All-weaker}
-use Rattle.decimal_json.specs.Tree.{Tree, tree, Node}
+use Rattle.json_grammar.specs.Tree.{Tree, tree, Node}
 use Rattle.instance_model.specs.declared.parts.LoadCell.{LoadCell}
 use Rattle.instance_model.specs.Fitting.{CellBefore, HasKey, AreCells}
 use Rattle.instance_model.specs.Tables as model

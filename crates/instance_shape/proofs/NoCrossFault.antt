@@ -5,7 +5,7 @@ use Rattle.std.proofs.lemmas.Bool.{and_parts, leb-true, eqb-true}
 use Rattle.std.proofs.lemmas.List.{length-map, length-take-le}
 use Rattle.std.proofs.lemmas.List.Elements.{All-nil, All-cons, All-weaker, All-map}
 use Rattle.std.proofs.lemmas.List.Quantifiers.{position-Some}
-use Rattle.decimal_json.specs.Tree.{Tree}
+use Rattle.json_grammar.specs.Tree.{Tree}
 use Rattle.instance_model.specs.declared.parts.Exclusion.{Exclusion}
 use Rattle.instance_model.specs.Rules.{or_else}
 use Rattle.instance_model.specs.Tables.{allowed_of}

@@ -5,11 +5,11 @@ use Rattle.std.specs.List.{AllZip}
 use Rattle.std.proofs.Math.Nat.{mul_assoc, lt_of_mul-lt-mul_right}
 use Rattle.std.proofs.lemmas.List.Elements.{All-nil, All-head, All-tail, All-append, All-map, All-weaker}
 use Rattle.std.proofs.lemmas.Nat.{pow-add}
-use Rattle.decimal_json.specs.Tree.{Tree}
-use Rattle.decimal_json.specs.Grammar.{Parts, HasParts, IsNumber}
-use Rattle.decimal_json.specs.Decimal.{number, raised_by, lowered_by, numerator, denominator, signed}
-use Rattle.decimal_json.proofs.ExactLaws.{positive}
-use Rattle.decimal_json.proofs.Tokens.{one_parts}
+use Rattle.json_grammar.specs.Tree.{Tree}
+use Rattle.json_grammar.specs.Grammar.{Parts, HasParts, IsNumber}
+use Rattle.decimal_numbers.specs.Decimal.{number, raised_by, lowered_by, numerator, denominator, signed}
+use Rattle.decimal_numbers.proofs.ExactLaws.{positive}
+use Rattle.json_grammar.proofs.Tokens.{one_parts}
 use Rattle.instance_model.specs.Tables.{Tables, allowed_of}
 use Rattle.instance_model.specs.declared.limits.Limits.{Limits}
 use Rattle.instance_shape.specs.declared.spot.Spot.TheVariants as spot

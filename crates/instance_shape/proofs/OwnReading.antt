@@ -4,8 +4,8 @@ use Rattle.std.specs.List.{AllZip}
 use Rattle.std.proofs.lemmas.Bool.{or_left, or_right}
 use Rattle.std.proofs.lemmas.List.{length-map}
 use Rattle.std.proofs.lemmas.List.Elements.{All-get_or}
-use Rattle.decimal_json.specs.Tree.{Tree, tree, Node}
-use Rattle.decimal_json.proofs.Rounding.{ten_positive}
+use Rattle.json_grammar.specs.Tree.{Tree, tree, Node}
+use Rattle.decimal_numbers.proofs.Rounding.{ten_positive}
 use Rattle.instance_model.specs.declared.limits.Limits.{Limits}
 use Rattle.instance_model.specs.Exact.{with_risks, RoundsTo, IsReading}
 use Rattle.instance_model.specs.Tables as model

@@ -5,11 +5,11 @@ use Rattle.std.proofs.Math.Nat.{mul_assoc, mul-le-mul_left, lt_of_mul-lt-mul_rig
 use Rattle.std.proofs.lemmas.Bool.{not-false, eqb-true}
 use Rattle.std.proofs.lemmas.Nat.{pow-add}
 use Rattle.fixed_num.proofs.SignedLemmas.{signed_arith}
-use Rattle.decimal_json.specs.Grammar.{Parts}
-use Rattle.decimal_json.specs.Decimal.{number, raised_by, numerator, denominator, signed, IsNearest, IsFixedOf}
-use Rattle.decimal_json.specs.Scaling.{IsRounded}
-use Rattle.decimal_json.proofs.ExactLaws.{bounds, positive}
-use Rattle.decimal_json.proofs.Tokens.{one_parts}
+use Rattle.json_grammar.specs.Grammar.{Parts}
+use Rattle.decimal_numbers.specs.Decimal.{number, raised_by, numerator, denominator, signed, IsNearest, IsFixedOf}
+use Rattle.decimal_numbers.specs.Scaling.{IsRounded}
+use Rattle.decimal_numbers.proofs.ExactLaws.{bounds, positive}
+use Rattle.json_grammar.proofs.Tokens.{one_parts}
 use Rattle.instance_model.specs.Exact.{RoundsTo}
 use Rattle.instance_shape.specs.OwnNumbers.{IsMultiple}
 

@@ -4,7 +4,7 @@ use Rattle.std.specs.Prelude.{All, slice_index, slice_index_or}
 use Rattle.std.proofs.lemmas.Bool.{cases_lt}
 use Rattle.std.proofs.lemmas.List.{get_or_append_left, get_or-append-add}
 use Rattle.std.proofs.lemmas.List.Elements.{All-get_or}
-use Rattle.decimal_json.specs.Tree.{Tree}
+use Rattle.json_grammar.specs.Tree.{Tree}
 use Rattle.instance_model.specs.Naturals.{count_sum}
 use Rattle.instance_model.specs.Tables.{allowed_of, entries_of, entries_at, entries_before, entry_place, tmax, is_allowed, delta_of}
 use Rattle.instance_model.proofs.EntryLemmas.{count_sum_le, count_sum_more, count_sum_same}

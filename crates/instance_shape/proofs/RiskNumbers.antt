@@ -2,10 +2,10 @@
 use Rattle.std.proofs.Common.{◌≡◌, ℕ, Bool, false, List, [], Option, Some, None, refl, ℤ, pos, unwrap_or, option_map, is_none}
 use Rattle.std.specs.Prelude.{All}
 use Rattle.std.proofs.lemmas.List.Elements.{All-nil}
-use Rattle.decimal_json.specs.Tree.{Tree, tree, Node}
-use Rattle.decimal_json.specs.Decimal.{IsFixedOf}
-use Rattle.decimal_json.specs.Exact.{fixed}
-use Rattle.decimal_json.proofs.ExactLaws.{fixed_sound}
+use Rattle.json_grammar.specs.Tree.{Tree, tree, Node}
+use Rattle.decimal_numbers.specs.Decimal.{IsFixedOf}
+use Rattle.decimal_numbers.specs.Exact.{fixed}
+use Rattle.decimal_numbers.proofs.ExactLaws.{fixed_sound}
 use Rattle.instance_model.specs.declared.limits.Limits.{Limits}
 use Rattle.instance_shape.specs.declared.fault.Flaw.TheVariants as flaw
 use Rattle.instance_shape.specs.declared.fault.Known.TheVariants as is

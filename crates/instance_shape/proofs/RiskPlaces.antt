@@ -2,7 +2,7 @@
 use Rattle.std.proofs.Common.{◌≡◌, ℕ, ◌+◌, ◌-◌, ◌<◌, true, false, List, [], length, get_or, None, refl, sym, ◌∙◌, ap, arith, ℤ, pos, unwrap_or}
 use Rattle.std.specs.Prelude.{slice_index, slice_index_or}
 use Rattle.std.proofs.lemmas.List.{get_or-map, length-map}
-use Rattle.decimal_json.specs.Tree.{Tree, tree, Node}
+use Rattle.json_grammar.specs.Tree.{Tree, tree, Node}
 use Rattle.instance_model.specs.Tables as model
 use Rattle.instance_model.specs.Tables.{Tables, allowed_of, entries_of, entries_at, entries_before, entry_place, risk_place, risk_of, soft_of, tmax, is_allowed, delta_of, in_run, scenarios_of, scenarios_before, periods_before}
 use Rattle.instance_model.proofs.EntryLemmas.{IsRunning, IsRunning-from, entry_place_below, scenarios_before_rises, scenarios_before_more}

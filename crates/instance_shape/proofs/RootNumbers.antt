@@ -3,8 +3,8 @@ use Rattle.std.proofs.Common.{◌≡◌, ℕ, ◌≤◌, ◌&&◌, true, false, 
 use Rattle.std.specs.Prelude.{All, nat_le}
 use Rattle.std.proofs.lemmas.Bool.Decides.{nat_tests}
 use Rattle.std.proofs.lemmas.List.Elements.{All-nil, All-map}
-use Rattle.decimal_json.specs.Tree.{Tree, tree, Node}
-use Rattle.decimal_json.specs.Exact.{whole, millionths}
+use Rattle.json_grammar.specs.Tree.{Tree, tree, Node}
+use Rattle.decimal_numbers.specs.Exact.{whole, millionths}
 use Rattle.instance_model.specs.declared.limits.Limits.{Limits}
 use Rattle.instance_shape.specs.declared.fault.Flaw.TheVariants as flaw
 use Rattle.instance_shape.specs.declared.fault.Known.TheVariants as is

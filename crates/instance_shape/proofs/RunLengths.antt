@@ -4,7 +4,7 @@ use Rattle.std.specs.Prelude.{All, slice_index, slice_index_or, if◌then◌else
 use Rattle.std.specs.List.{sum_by}
 use Rattle.std.proofs.lemmas.List.{get_or-map, length-map}
 use Rattle.std.proofs.lemmas.List.Elements.{All-weaker}
-use Rattle.decimal_json.specs.Tree.{Tree}
+use Rattle.json_grammar.specs.Tree.{Tree}
 use Rattle.instance_model.specs.Naturals.{count_sum}
 use Rattle.instance_model.specs.Tables as model
 use Rattle.instance_model.specs.Tables.{allowed_of, all_entries, entries_of, entries_at, tmax, is_allowed, delta_of, scenarios_of, scenarios_before, periods_before}

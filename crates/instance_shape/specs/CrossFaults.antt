@@ -2,7 +2,7 @@
 use Rattle.std.specs.Prelude.{◌≡◌, ℕ, zero, suc, ◌+◌, ◌-◌, ◌*◌, ℤ, pos, ◌+ℤ◌, ◌-ℤ◌, Bool, true, false, ◌&&◌, ◌||◌, ◌==◌, List, [], ◌∷◌, ◌++◌, Option, Some, None, cond, bytes_eq, map, unwrap_or, option_map, slice_index, slice_index_or, length, nat_le, nat_lt, not, take, is_some, position, sum}
 use Rattle.instance_model.specs.Tables.{allowed_of}
 use Rattle.instance_model.specs.Rules.{first_of, or_else}
-use Rattle.decimal_json.specs.Tree.{Tree, tree, Node}
+use Rattle.json_grammar.specs.Tree.{Tree, tree, Node}
 use Rattle.instance_shape.specs.declared.fault.Known.TheVariants as is
 use Rattle.instance_shape.specs.LookUp.{Entry, elements, entries, keys, known, whole_at, text_at, periods, scenarios, interventions, durations, risk_list}
 

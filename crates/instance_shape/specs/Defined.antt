@@ -3,9 +3,9 @@
 use Rattle.std.specs.Prelude.{◌≡◌, ℕ, ℤ, List, [], Some, None}
 use Rattle.instance_model.specs.Tables.{Tables}
 use Rattle.instance_model.specs.declared.limits.Limits.{Limits}
-use Rattle.decimal_json.specs.Tree.{Tree}
-use Rattle.decimal_json.specs.Grammar.{IsText}
-use Rattle.decimal_json.specs.Prefix.{first_past}
+use Rattle.json_grammar.specs.Tree.{Tree}
+use Rattle.json_grammar.specs.Grammar.{IsText}
+use Rattle.json_grammar.specs.Prefix.{first_past}
 use Rattle.instance_shape.specs.declared.fault.Fault.{Fault}
 use Rattle.instance_shape.specs.ShapeFaults.{shape_faults, IsLeast}
 use Rattle.instance_shape.specs.CrossFaults.{CrossFault, cross_fault}

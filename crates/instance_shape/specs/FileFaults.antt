@@ -1,6 +1,6 @@
--- Defines the fault of a file that counts, and says that a file has one answer: an instance, or a fault.
-use Rattle.std.specs.Prelude.{◌≡◌, ℕ, ℤ, List}
-use Rattle.decimal_json.specs.Prefix.{IsSyntaxFault, IsDepthFault, IsShallow}
+-- Defines the fault of a file that counts, and says that a file has one answer, and that it has some: an instance, or a fault.
+use Rattle.std.specs.Prelude.{◌≡◌, ◌⊎◌, ℕ, ℤ, List}
+use Rattle.json_grammar.specs.Prefix.{IsSyntaxFault, IsDepthFault, IsShallow}
 use Rattle.instance_model.specs.Tables.{Tables}
 use Rattle.instance_model.specs.declared.limits.Limits.{Limits}
 use Rattle.instance_shape.specs.declared.fault.Fault.{Fault}
@@ -27,3 +27,7 @@ pub record HaveOneAnswer (limits : Limits) (slack : ℤ) (bytes : List ℕ) : Ty
   pub instance : (a b : Tables) → Defines limits slack bytes a → Defines limits slack bytes b → a ≡ b
   pub fault : (f g : FileFault) → HasFileFault limits bytes f → HasFileFault limits bytes g → f ≡ g
   pub apart : (a : Tables) (f : FileFault) → Defines limits slack bytes a → HasFileFault limits bytes f → ⊥
+
+-- bytes stand for an instance, or have a fault that counts
+abbrev pub HaveSomeAnswer : Limits → ℤ → List ℕ → Type 0
+HaveSomeAnswer limits slack bytes = ((inst : Tables) × Defines limits slack bytes inst) ⊎ ((f : FileFault) × HasFileFault limits bytes f)

@@ -1,9 +1,9 @@
 -- Defines the risk numbers of a file as they are written, each as a whole multiple of a power of ten.
 use Rattle.std.specs.Prelude.{◌≡◌, ℕ, ◌*◌, ◌≤◌, ℤ, List, [], map, unwrap_or}
 use Rattle.std.specs.List.{AllZip}
-use Rattle.decimal_json.specs.Tree.{Tree}
-use Rattle.decimal_json.specs.Grammar.{Parts, HasParts}
-use Rattle.decimal_json.specs.Decimal.{numerator, denominator, signed}
+use Rattle.json_grammar.specs.Tree.{Tree}
+use Rattle.json_grammar.specs.Grammar.{Parts, HasParts}
+use Rattle.decimal_numbers.specs.Decimal.{numerator, denominator, signed}
 use Rattle.instance_shape.specs.LookUp.{token_at, risk_list, interventions}
 use Rattle.instance_shape.specs.FileTables.{all_below, each_run}
 

@@ -1,7 +1,7 @@
 -- Defines the shape of an instance: the spots at which values stand, and what has to stand at each.
 use Rattle.std.specs.Prelude.{ℕ, ◌+◌, Bool, true, false, ◌&&◌, List, [], ◌∷◌, ◌++◌, Option, Some, None, cond, nat_le, nat_lt, bytes_eq, is_some, option_map, unwrap_or}
-use Rattle.decimal_json.specs.Tree.{Tree, tree, Node, Trees, no_trees, and_tree, Members, no_members, and_member}
-use Rattle.decimal_json.specs.Exact.{whole, millionths}
+use Rattle.json_grammar.specs.Tree.{Tree, tree, Node, Trees, no_trees, and_tree, Members, no_members, and_member}
+use Rattle.decimal_numbers.specs.Exact.{whole, millionths}
 use Rattle.instance_shape.specs.declared.fault.Known.{Known}
 use Rattle.instance_shape.specs.declared.fault.Known.TheVariants as known
 use Rattle.instance_shape.specs.declared.spot.Spot.{Spot}

@@ -1,8 +1,8 @@
 -- Defines the faults of shape of a text, each with its place, and which of them counts.
 use Rattle.std.specs.Prelude.{◌≡◌, ℕ, ◌+◌, ◌-◌, ◌<◌, ◌⊎◌, Bool, true, false, ◌&&◌, ◌||◌, ◌==◌, List, [], ◌∷◌, ◌++◌, Option, Some, None, cond, nat_le, nat_lt, not, bytes_eq, is_some, is_none, option_map, unwrap_or, length, slice_get, filter, map, Contains}
 use Rattle.std.proofs.Common.{pred}
-use Rattle.decimal_json.specs.Tree.{Tree, tree, Node, Trees, no_trees, and_tree, Members, no_members, and_member}
-use Rattle.decimal_json.specs.Exact.{whole, fixed}
+use Rattle.json_grammar.specs.Tree.{Tree, tree, Node, Trees, no_trees, and_tree, Members, no_members, and_member}
+use Rattle.decimal_numbers.specs.Exact.{whole, fixed}
 use Rattle.instance_shape.specs.declared.fault.Known.{Known}
 use Rattle.instance_shape.specs.declared.fault.Which.{Which}
 use Rattle.instance_shape.specs.declared.fault.Which.TheVariants as which

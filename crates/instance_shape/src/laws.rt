@@ -1,7 +1,7 @@
 //! Laws of the definitions. The functions do nothing: the contract is the law.
 
 ghost use Rattle.std.specs.Prelude.{ℕ, ◌-◌, ◌^◌, ◌≤◌, ℤ, List};
-ghost use Rattle.decimal_json.specs.Tree.{Tree};
+ghost use Rattle.json_grammar.specs.Tree.{Tree};
 ghost use Rattle.instance_model.specs.Exact.{IsReading};
 ghost use Rattle.instance_model.specs.Fitting.{IsFitting};
 ghost use Rattle.instance_model.specs.Tables.{Tables};

@@ -6,7 +6,7 @@ use Rattle.instance_model.specs.Rules.{first_start_rule, first_rule, KeepsRules}
 use Rattle.instance_model.specs.declared.rule.Rule.{Rule}
 use Rattle.instance_model.specs.Exact.{IsReading, EnclosesReading}
 use Rattle.instance_model.specs.Limits.{standard_limits}
-use Rattle.decimal_json.specs.Tree.{Tree}
+use Rattle.json_grammar.specs.Tree.{Tree}
 use Rattle.instance_shape.specs.Defined.{Defines, IsTreeOf}
 use Rattle.instance_shape.specs.OwnNumbers.{AreOwnNumbers}
 use Rattle.instance_shape.specs.FileFaults.{FileFault, HasFileFault}

@@ -1,8 +1,8 @@
 -- A number that is exactly a count, at a spot of counts, as an event.
 use Rattle.std.specs.Prelude.{ℤ}
 use Rattle.std.proofs.Common.{◌≡◌, ℕ, List, [], ◌∷◌, ◌++◌, false, Option, Some, None, refl, sym, ◌∙◌, ap}
-use Rattle.decimal_json.specs.Tree.{Node, Event}
-use Rattle.decimal_json.specs.Exact.{fixed}
+use Rattle.json_grammar.specs.Tree.{Node, Event}
+use Rattle.decimal_numbers.specs.Exact.{fixed}
 use Rattle.instance_model.specs.declared.limits.Limits.{Limits}
 use Rattle.instance_shape.specs.declared.fault.Flaw.{Flaw}
 use Rattle.instance_shape.specs.declared.spot.Spot.{Spot}

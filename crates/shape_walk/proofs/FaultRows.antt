@@ -1,9 +1,9 @@
 -- The faults at an event stand at its place, in the order of the rows.
 use Rattle.std.proofs.Common.{◌≡◌, ℕ, ◌+◌, ◌==◌, ◌≤◌, ◌&&◌, Bool, true, false, Option, Some, None, List, [], ◌∷◌, ◌++◌, refl, sym, ap, subst, arith, append-nil, append_assoc, not, length}
 use Rattle.std.specs.Prelude.{is_some, is_none}
-use Rattle.decimal_json.specs.Tree.{Node, no_trees, no_members, Event, begin, finish, key}
-use Rattle.decimal_json.specs.Events.{event_at}
-use Rattle.decimal_json.specs.Exact.{whole, fixed}
+use Rattle.json_grammar.specs.Tree.{Node, no_trees, no_members, Event, begin, finish, key}
+use Rattle.json_grammar.specs.Events.{event_at}
+use Rattle.decimal_numbers.specs.Exact.{whole, fixed}
 use Rattle.instance_model.specs.declared.limits.Limits.{Limits}
 use Rattle.instance_shape.specs.declared.fault.Fault.{Fault}
 use Rattle.instance_shape.specs.declared.fault.Flaw.{Flaw}

@@ -2,8 +2,8 @@
 use Rattle.std.proofs.Common.{◌≡◌, ℕ, zero, suc, ◌+◌, ◌==◌, ◌<◌, ◌≤◌, ◌⊎◌, inl, inr, true, false, Option, Some, None, List, [], ◌∷◌, ◌++◌, refl, sym, ◌∙◌, ap, subst, arith, ◌↔◌}
 use Rattle.std.proofs.lemmas.Bool.Decides.{nat_tests}
 use Rattle.std.specs.Prelude.{slice_get}
-use Rattle.decimal_json.specs.Tree.{Tree, Event, events_of}
-use Rattle.decimal_json.specs.Events.{event_at}
+use Rattle.json_grammar.specs.Tree.{Tree, Event, events_of}
+use Rattle.json_grammar.specs.Events.{event_at}
 use Rattle.instance_model.specs.declared.limits.Limits.{Limits}
 use Rattle.instance_shape.specs.declared.fault.Fault.{Fault}
 use Rattle.instance_shape.specs.declared.fault.Flaw.{Flaw}
@@ -13,7 +13,7 @@ use Rattle.instance_shape.specs.declared.fault.Which.TheVariants as which
 use Rattle.instance_shape.specs.declared.spot.Spot.TheVariants as spot
 use Rattle.instance_shape.specs.Shape.{placed}
 use Rattle.instance_shape.specs.ShapeFaults.{where_so, row_of, is_risk, is_workload, numbers_at, values_faults, count_faults, shape_faults, IsBefore, Among, IsLeast}
-use Rattle.decimal_json.specs.Stream.{AscendFrom}
+use Rattle.json_grammar.specs.Stream.{AscendFrom}
 use Rattle.shape_walk.specs.Machine.{State, faults_at, faults_along, step, start, first_fault}
 use Rattle.shape_walk.specs.Standing.{Walk, StandsAfter}
 use Rattle.shape_walk.proofs.Along.{text_along}

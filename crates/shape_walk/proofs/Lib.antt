@@ -10,3 +10,4 @@ pub mod Keeping
 mod OneMore
 mod TextOrder
 mod Weighing
+pub mod SomeAnswer

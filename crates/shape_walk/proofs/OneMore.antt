@@ -1,7 +1,7 @@
 -- A walk takes one event more.
 use Rattle.std.proofs.Common.{◌≡◌, List, [], ◌∷◌, ◌++◌, true, Option, Some, None, Result, Ok, Err, refl, sym, ◌∙◌, ap, append_assoc, append-nil}
 use Rattle.std.specs.Prelude.{is_some, IfOk, OnOk}
-use Rattle.decimal_json.specs.Tree.{Event}
+use Rattle.json_grammar.specs.Tree.{Event}
 use Rattle.instance_model.specs.declared.limits.Limits.{Limits}
 use Rattle.instance_shape.specs.declared.fault.Fault.{Fault}
 use Rattle.shape_walk.specs.declared.taken.Taken.{Taken}

@@ -2,8 +2,8 @@
 -- Each fault is given a weight, and two lists have the same faults where their weights are equal for every choice of
 -- weights.
 use Rattle.std.proofs.Common.{◌≡◌, ℕ, ◌+◌, ◌==◌, List, [], ◌∷◌, ◌++◌, Bool, true, false, cond, length, refl, sym, ◌∙◌, ap, arith, append_assoc, append-nil, add-zero, length-append, pred, not}
-use Rattle.decimal_json.specs.Tree.{Tree, tree, Node, Trees, no_trees, and_tree, Members, no_members, and_member}
-use Rattle.decimal_json.specs.Exact.{whole}
+use Rattle.json_grammar.specs.Tree.{Tree, tree, Node, Trees, no_trees, and_tree, Members, no_members, and_member}
+use Rattle.decimal_numbers.specs.Exact.{whole}
 use Rattle.instance_model.specs.declared.limits.Limits.{Limits}
 use Rattle.instance_shape.specs.declared.fault.Fault.{Fault}
 use Rattle.instance_shape.specs.declared.fault.Flaw.{Flaw}

@@ -2,7 +2,7 @@
 -- the events, and over the tree. `Rattle.shape_walk.proofs.Keeping` joins the two.
 use Rattle.std.specs.Prelude.{ℕ, ◌+◌, List, [], ◌∷◌, true, false}
 use Rattle.std.proofs.Common.{pred}
-use Rattle.decimal_json.specs.Tree.{Tree, tree, Node, Trees, no_trees, and_tree, Members, no_members, and_member, Event, begin, finish, key}
+use Rattle.json_grammar.specs.Tree.{Tree, tree, Node, Trees, no_trees, and_tree, Members, no_members, and_member, Event, begin, finish, key}
 use Rattle.instance_shape.specs.declared.spot.Spot.{Spot}
 use Rattle.instance_shape.specs.declared.spot.Spot.TheVariants as spot
 use Rattle.instance_shape.specs.Shape.{under, element}

@@ -1,7 +1,7 @@
 -- Follows the shape over the events of a text: what is open behind some of them, and the faults that each tells. What it
 -- comes to at the end of a text is said of the text's tree, by `ShapeWalk::fault` and by `Keeping`.
 use Rattle.std.specs.Prelude.{ℕ, ◌+◌, ◌==◌, List, [], ◌∷◌, ◌++◌, Bool, true, false, cond, nat_lt, Option, Some, None}
-use Rattle.decimal_json.specs.Tree.{Node, no_trees, no_members, Event, begin, finish, key}
+use Rattle.json_grammar.specs.Tree.{Node, no_trees, no_members, Event, begin, finish, key}
 use Rattle.instance_model.specs.declared.limits.Limits.{Limits}
 use Rattle.instance_shape.specs.declared.fault.Which.TheVariants as which
 use Rattle.instance_shape.specs.declared.fault.Flaw.{Flaw}

@@ -1,7 +1,7 @@
 -- Defines what is read of an event at its spot.
 use Rattle.std.specs.Prelude.{ℕ, ℤ, Bool, List, Option, Some, None, cond}
-use Rattle.decimal_json.specs.Tree.{Node, Event, begin, finish, key}
-use Rattle.decimal_json.specs.Exact.{fixed, whole, millionths}
+use Rattle.json_grammar.specs.Tree.{Node, Event, begin, finish, key}
+use Rattle.decimal_numbers.specs.Exact.{fixed, whole, millionths}
 use Rattle.instance_shape.specs.declared.spot.Spot.{Spot}
 use Rattle.instance_shape.specs.declared.spot.Kind.{Kind}
 use Rattle.instance_shape.specs.declared.spot.Kind.TheVariants as kind

@@ -1,6 +1,6 @@
 -- Defines for which events of a text a walk stands.
 use Rattle.std.specs.Prelude.{◌≡◌, List, Option, None}
-use Rattle.decimal_json.specs.Tree.{Event}
+use Rattle.json_grammar.specs.Tree.{Event}
 use Rattle.instance_model.specs.declared.limits.Limits.{Limits}
 use Rattle.instance_shape.specs.declared.fault.Fault.{Fault}
 use Rattle.shape_walk.specs.Machine.{State, faults_along, state_along, start, first_fault}

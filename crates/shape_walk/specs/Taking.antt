@@ -1,7 +1,7 @@
 -- What a walk does with one event. Not part of any promise: only private functions cite it.
 use Rattle.std.specs.Prelude.{◌≡◌, None}
-use Rattle.decimal_json.specs.Tree.{Event}
-use Rattle.decimal_json.specs.Events.{event_at}
+use Rattle.json_grammar.specs.Tree.{Event}
+use Rattle.json_grammar.specs.Events.{event_at}
 use Rattle.shape_walk.specs.declared.taken.Taken.{Taken}
 use Rattle.shape_walk.specs.Flaws.{first_flaw, flaw_at}
 use Rattle.shape_walk.specs.Kept.{event_spot}

@@ -4,11 +4,13 @@
 mod counts;
 mod frame;
 mod judged;
+mod laws;
 mod open;
 mod seen;
 mod taken;
 mod values;
 mod walk;
 
+pub use laws::files_have_some_answer;
 pub use taken::{Read, Taken};
 pub use walk::ShapeWalk;

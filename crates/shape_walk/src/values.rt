@@ -1,8 +1,8 @@
 //! What is read of a value at its spot, and what is wrong with it.
 
 ghost use Rattle.std.specs.Prelude.{◌≡◌, ℕ, Bool, ◌++◌, ◌&&◌, false, not, is_none, is_some, nat_le, option_map, unwrap_or};
-ghost use Rattle.decimal_json.specs.Tree as json;
-ghost use Rattle.decimal_json.specs.Exact.{fixed};
+ghost use Rattle.json_grammar.specs.Tree as json;
+ghost use Rattle.decimal_numbers.specs.Exact.{fixed};
 ghost use Rattle.instance_model.specs.declared.limits.Limits.{Limits as Sizes};
 ghost use Rattle.instance_shape.specs.declared.fault.Flaw.TheVariants as flaws;
 ghost use Rattle.instance_shape.specs.Shape as shape;
@@ -13,12 +13,13 @@ ghost use Rattle.shape_walk.specs.Reads.{read_of_number, read_of_text, count_rea
 
 use crate::judged::Judged;
 use crate::taken::{Read, Taken};
-use decimal_json::{NumText, fixed_of, millionths_of, whole_of_number, whole_of_text};
+use decimal_numbers::{fixed_of, millionths_of, whole_of_number, whole_of_text};
 use instance_model::Limits;
 use instance_shape::{Flaw, Kind, Spot, Which, is_name, kind_of};
+use json_grammar::NumText;
 
 /// What is wrong with an object or a list that begins at a spot.
-#[tactic(auto, unfolding(decimal_json::specs::Exact::whole))]
+#[tactic(auto, unfolding(decimal_numbers::specs::Exact::whole))]
 pub fn begin_flaw(spot: Spot, object: bool) -> Option<Flaw>
     ensures { (limits : Sizes) (at : ℕ) → result ≡ first_flaw (begin_faults limits object spot at) }
 {
@@ -32,7 +33,7 @@ pub fn begin_flaw(spot: Spot, object: bool) -> Option<Flaw>
 }
 
 /// What is wrong with `null`, `true` or `false` at a spot.
-#[tactic(auto, unfolding(decimal_json::specs::Exact::whole))]
+#[tactic(auto, unfolding(decimal_numbers::specs::Exact::whole))]
 pub fn word_flaw(spot: Spot) -> Option<Flaw>
     ensures null { (limits : Sizes) (at : ℕ) → result ≡ first_flaw (own_faults limits spot at json.Node.null) }
     ensures boolean { (limits : Sizes) (at : ℕ) (b : Bool) → result

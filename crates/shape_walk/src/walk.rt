@@ -1,14 +1,14 @@
 //! The walk over the events of a text.
 
 ghost use Rattle.std.specs.Prelude.{◌≡◌, ◌∷◌, [], ◌++◌, ◌↔◌, ℕ, ℤ, List, Bool, false, None, Some, IfOk, OnOk, IfSome, IsTrue, is_none};
-ghost use Rattle.decimal_json.specs.Tree as json;
-ghost use Rattle.decimal_json.specs.Tree.{events_of};
-ghost use Rattle.decimal_json.specs.Events.{event_view};
+ghost use Rattle.json_grammar.specs.Tree as json;
+ghost use Rattle.json_grammar.specs.Tree.{events_of};
+ghost use Rattle.json_grammar.specs.Events.{event_view};
 ghost use Rattle.instance_model.specs.declared.limits.Limits.{Limits as Sizes};
 ghost use Rattle.instance_shape.specs.ShapeFaults.{shape_faults, IsLeast};
 ghost use Rattle.instance_shape.specs.declared.fault.Fault.{Fault as FaultValue};
-ghost use Rattle.decimal_json.specs.Stream.{AscendFrom};
-ghost use Rattle.decimal_json.specs.Exact.{fixed};
+ghost use Rattle.json_grammar.specs.Stream.{AscendFrom};
+ghost use Rattle.decimal_numbers.specs.Exact.{fixed};
 ghost use Rattle.shape_walk.specs.Awaits.{AwaitsCount};
 ghost use Rattle.shape_walk.specs.declared.taken.Read.TheVariants as reads;
 ghost use Rattle.shape_walk.specs.Kept.{spot_after};
@@ -21,7 +21,7 @@ use crate::counts::Counts;
 use crate::frame::Frame;
 use crate::taken::{Read, Taken};
 use crate::values::{begin_flaw, judge_number, judge_text, word_flaw};
-use decimal_json::{Event, NumText};
+use json_grammar::{Event, NumText};
 use instance_model::Limits;
 use instance_shape::{Fault, Flaw, Spot};
 use std::alloc::{AllocError, Global};

@@ -1,7 +1,9 @@
 //! Small texts, with their faults and spots worked out by hand.
 
 use super::*;
-use decimal_json::{Member, Node, Pull, Pulled, TextFault, Tree, read_tree};
+use json_events::{Pull, Pulled};
+use json_grammar::{Member, Node, TextFault, Tree};
+use json_tree::read_tree;
 use fixed_num::Fixed;
 use instance_shape::{Known, Which};
 use std::test::Fail;

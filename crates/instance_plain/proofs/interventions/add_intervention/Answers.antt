@@ -1,5 +1,5 @@
 use Rattle.std.proofs.Common.{◌≡◌, ◌++◌, sym, ◌∙◌, ap, arith}
-use Rattle.decimal_json.specs.Trees.{tree_view}
+use Rattle.json_grammar.specs.Trees.{tree_view}
 use Rattle.instance_shape.specs.FileTables.{risks_at, soft_at}
 use Rattle.instance_shape.specs.LookUp.{durations}
 use Rattle.instance_plain.specs.Rows.{runs_rows}

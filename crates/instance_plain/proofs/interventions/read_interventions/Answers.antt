@@ -1,7 +1,7 @@
 use Rattle.std.proofs.Common.{◌≡◌, ◌++◌, sym, ◌∙◌, ap, arith, ℕ, map, take, drop, refl, true, false, subst, Option, is_some, IfSome, ◌+◌}
 use Rattle.std.specs.Prelude.{string_bytes, Vec}
 use Rattle.std.specs.declared.alloc.Global.{Global}
-use Rattle.decimal_json.specs.Trees.{tree_view}
+use Rattle.json_grammar.specs.Trees.{tree_view}
 use Rattle.instance_shape.specs.FileTables.{risks_at, soft_at}
 use Rattle.instance_shape.specs.LookUp.{Entry, durations}
 use Rattle.instance_plain.specs.Rows.{is_sound_intervention, runs_rows}

@@ -1,5 +1,5 @@
 use Rattle.std.proofs.Common.{[], ◌∷◌, ◌++◌, sym, ◌∙◌, ap, arith, map, take}
-use Rattle.decimal_json.specs.Trees.{tree_view}
+use Rattle.json_grammar.specs.Trees.{tree_view}
 use Rattle.instance_shape.specs.LookUp.{whole_at}
 use Rattle.instance_plain.proofs.RowLemmas.{viewed_more}
 use Rattle.instance_plain.proofs.interventions.wholes.Goals as goal

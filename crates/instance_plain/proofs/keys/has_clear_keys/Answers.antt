@@ -1,5 +1,5 @@
 use Rattle.std.proofs.Common.{◌∙◌}
-use Rattle.decimal_json.specs.Trees.{members_view}
+use Rattle.json_grammar.specs.Trees.{members_view}
 use Rattle.instance_plain.proofs.KeyLemmas.{other_objects}
 use Rattle.instance_plain.proofs.keys.has_clear_keys.Goals as goal
 

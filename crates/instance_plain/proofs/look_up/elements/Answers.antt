@@ -1,5 +1,5 @@
 use Rattle.std.proofs.Common.{◌∙◌, ap, map}
-use Rattle.decimal_json.specs.Trees.{tree_view}
+use Rattle.json_grammar.specs.Trees.{tree_view}
 use Rattle.instance_plain.proofs.Lookings.{elements-list}
 use Rattle.instance_plain.proofs.look_up.elements.Goals as goal
 

@@ -1,7 +1,7 @@
 use Rattle.std.proofs.Common.{◌≡◌, ◌≤◌, List, [], map, length, Option, refl, sym, ◌∙◌, ap, subst, arith, is_some, IfSome}
 use Rattle.std.specs.Prelude.{AllPairs, ◌≢◌, pos, ◌+ℤ◌, ◌-ℤ◌, string_bytes, replicate}
 use Rattle.std.proofs.lemmas.List.{length-map}
-use Rattle.decimal_json.specs.Trees.{tree_view, member_view}
+use Rattle.json_grammar.specs.Trees.{tree_view, member_view}
 use Rattle.instance_model.specs.Limits.{standard_limits}
 use Rattle.instance_model.specs.Fitting.{AreNames}
 use Rattle.instance_shape.specs.declared.fault.Known.TheVariants as is

@@ -1,5 +1,5 @@
 use Rattle.std.proofs.Common.{sym, subst, arith, take, drop, ◌+◌}
-use Rattle.decimal_json.specs.Trees.{tree_view}
+use Rattle.json_grammar.specs.Trees.{tree_view}
 use Rattle.instance_plain.specs.Reduced.{HaveNoWorkload}
 use Rattle.instance_plain.specs.Views.{entries_view}
 use Rattle.instance_plain.proofs.Lookings.{entries-more, entries-parted}

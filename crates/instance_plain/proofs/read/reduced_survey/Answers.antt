@@ -1,5 +1,5 @@
 use Rattle.std.proofs.Common.{ap, subst, arith}
-use Rattle.decimal_json.specs.Trees.{tree_view}
+use Rattle.json_grammar.specs.Trees.{tree_view}
 use Rattle.instance_model.specs.declared.limits.Limits.{Limits}
 use Rattle.instance_model.specs.Limits.{standard_limits}
 use Rattle.instance_shape.specs.declared.spot.Spot.TheVariants as spot

@@ -1,6 +1,6 @@
 use Rattle.std.proofs.Common.{[], ◌∷◌, ◌++◌, sym, ◌∙◌, ap, arith, map, take, append_assoc}
 use Rattle.std.specs.Prelude.{◌||◌}
-use Rattle.decimal_json.specs.Trees.{tree_view}
+use Rattle.json_grammar.specs.Trees.{tree_view}
 use Rattle.instance_shape.specs.LookUp.{count_at, differs_at}
 use Rattle.instance_plain.proofs.RowLemmas.{viewed_more, rounded_more}
 use Rattle.instance_plain.proofs.rows.add_numbers.Goals as goal

@@ -1,5 +1,5 @@
 use Rattle.std.proofs.Common.{◌≡◌, ◌++◌, map, take}
-use Rattle.decimal_json.specs.Trees.{tree_view}
+use Rattle.json_grammar.specs.Trees.{tree_view}
 use Rattle.instance_shape.specs.LookUp.{count_at}
 use Rattle.instance_shape.specs.FileTables.{some_differs}
 use Rattle.instance_plain.proofs.rows.add_numbers.Given as goal

@@ -1,6 +1,6 @@
 use Rattle.std.proofs.Common.{◌+◌, ◌-◌, sym, ◌∙◌, arith, refl}
 use Rattle.std.specs.Prelude.{slice_index}
-use Rattle.decimal_json.specs.Trees.{tree_view}
+use Rattle.json_grammar.specs.Trees.{tree_view}
 use Rattle.instance_shape.specs.LookUp.{risk_list}
 use Rattle.instance_shape.specs.FileTables.{risks_at, soft_at}
 use Rattle.instance_plain.specs.Rows.{has_count}

@@ -1,5 +1,5 @@
 use Rattle.std.proofs.Common.{◌≡◌, ◌++◌, true}
-use Rattle.decimal_json.specs.Trees.{tree_view}
+use Rattle.json_grammar.specs.Trees.{tree_view}
 use Rattle.instance_shape.specs.FileTables.{risks_at, soft_at}
 use Rattle.instance_plain.specs.Rows.{run_is_sound, run_rows}
 use Rattle.instance_plain.proofs.rows.add_run.Given as goal

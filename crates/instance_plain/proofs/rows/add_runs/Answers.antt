@@ -1,6 +1,6 @@
 use Rattle.std.proofs.Common.{◌≡◌, true, false, cond, [], ◌+◌, sym, ◌∙◌, ap, arith, length}
 use Rattle.std.specs.Prelude.{slice_index}
-use Rattle.decimal_json.specs.Trees.{tree_view}
+use Rattle.json_grammar.specs.Trees.{tree_view}
 use Rattle.instance_model.specs.Tables.{allowed_of}
 use Rattle.instance_shape.specs.FileTables.{risks_at, soft_at}
 use Rattle.instance_plain.specs.Rows.{run_is_sound, run_rows}

@@ -1,15 +1,15 @@
 use Rattle.std.proofs.Common.{sym, ◌∙◌, ap, List, arith, refl, [], ◌∷◌, subst, take}
-use Rattle.decimal_json.specs.Trees.{tree_view, node_view, trees_view, members_view}
+use Rattle.json_grammar.specs.Trees.{tree_view, node_view, trees_view, members_view}
 use Rattle.instance_shape.specs.Shape.{placed, placed_node, placed_elements, placed_members, under, kind_of}
-use Rattle.decimal_json.specs.declared.tree.Tree.{Tree}
-use Rattle.decimal_json.specs.declared.tree.Member.{Member}
+use Rattle.json_grammar.specs.declared.tree.Tree.{Tree}
+use Rattle.json_grammar.specs.declared.tree.Member.{Member}
 use Rattle.instance_plain.specs.Surveys.{value_at, Surveys, TellsClear, object_faults}
 use Rattle.instance_plain.specs.Own.{falls_short}
 use Rattle.instance_plain.proofs.SurveyLemmas.{none_own, none_inside, some_value, room_inside, own_shape}
 use Rattle.instance_plain.proofs.Insides.{short_list, list_inside, bad_object, object_inside, some_inside, none_inside_of, some_survey, none_survey, Fits, both_fit, value_room}
 use denote.Param.Weighed.{at_most}
-use Rattle.decimal_json.proofs.tree.Tree.TheLaws.{the_size as tree_size}
-use Rattle.decimal_json.proofs.tree.Member.TheLaws.{the_size as member_size}
+use Rattle.json_grammar.proofs.tree.Tree.TheLaws.{the_size as tree_size}
+use Rattle.json_grammar.proofs.tree.Member.TheLaws.{the_size as member_size}
 use Rattle.instance_plain.proofs.Sizes.{node_size-tree, tree_size-member}
 use Rattle.instance_plain.proofs.Splits.{IsTurn, IsEntryTurn, turn_fault, turn_room, turn_survey, entry_fault, entry_room, entry_survey}
 use Rattle.instance_plain.proofs.survey.+survey.Goals as goal

@@ -1,5 +1,5 @@
 use Rattle.std.proofs.Common.{take}
-use Rattle.decimal_json.specs.Trees.{trees_view, members_view}
+use Rattle.json_grammar.specs.Trees.{trees_view, members_view}
 use Rattle.instance_shape.specs.Shape.{placed_elements, placed_members}
 use Rattle.instance_plain.specs.Surveys.{IsSurvey}
 use Rattle.instance_plain.proofs.survey.+survey.Given as goal

@@ -1,5 +1,5 @@
 use Rattle.std.proofs.Common.{◌≡◌, ℕ, List, [], None, sym, ◌∙◌}
-use Rattle.decimal_json.proofs.Ascending.{events_ascend}
+use Rattle.json_laws.proofs.Ascending.{events_ascend}
 use Rattle.instance_model.specs.declared.limits.Limits.{Limits}
 use Rattle.instance_rows.specs.Views.{AreRowsOf}
 use Rattle.instance_shape.specs.Ranges.{AreStandard}

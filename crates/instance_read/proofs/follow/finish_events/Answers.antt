@@ -1,9 +1,9 @@
 use Rattle.std.proofs.Common.{◌≡◌, Ok, Err, Result, length, ap, ◌∙◌, subst, rules}
-use Rattle.decimal_json.specs.Events.{event_view}
-use Rattle.decimal_json.specs.Pulls.{Stands, given_after, finished_after}
-use Rattle.decimal_json.specs.declared.fault.TextFault.{TextFault}
-use Rattle.decimal_json.specs.declared.pull.Pulled.{Pulled}
-use Rattle.decimal_json.specs.declared.pull.Pulled.TheVariants as pulled
+use Rattle.json_grammar.specs.Events.{event_view}
+use Rattle.json_events.specs.Pulls.{Stands, given_after, finished_after}
+use Rattle.json_grammar.specs.declared.fault.TextFault.{TextFault}
+use Rattle.json_events.specs.declared.pull.Pulled.{Pulled}
+use Rattle.json_events.specs.declared.pull.Pulled.TheVariants as pulled
 use Rattle.instance_read.proofs.Following.{ending, end_more, ended, stays_last, told_ends}
 use Rattle.instance_read.proofs.follow.finish_events.Goals as goal
 

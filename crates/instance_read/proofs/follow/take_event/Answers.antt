@@ -1,6 +1,6 @@
 use Rattle.std.proofs.Common.{◌≡◌, None, rules}
 use Rattle.std.proofs.lemmas.Result.{on_ok_weaker}
-use Rattle.decimal_json.specs.Events.{event_view}
+use Rattle.json_grammar.specs.Events.{event_view}
 use Rattle.instance_read.proofs.Following.{none_before, taken_more}
 use Rattle.instance_read.proofs.follow.take_event.Goals as goal
 

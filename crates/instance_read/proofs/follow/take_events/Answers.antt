@@ -1,9 +1,9 @@
 use Rattle.std.proofs.Common.{◌≡◌, false, Ok, Err, Result, length, ap, ◌∙◌, subst, rules}
-use Rattle.decimal_json.specs.Events.{event_view}
-use Rattle.decimal_json.specs.Pulls.{Stands, given_after}
-use Rattle.decimal_json.specs.declared.fault.TextFault.{TextFault}
-use Rattle.decimal_json.specs.declared.pull.Pulled.{Pulled}
-use Rattle.decimal_json.specs.declared.pull.Pulled.TheVariants as pulled
+use Rattle.json_grammar.specs.Events.{event_view}
+use Rattle.json_events.specs.Pulls.{Stands, given_after}
+use Rattle.json_grammar.specs.declared.fault.TextFault.{TextFault}
+use Rattle.json_events.specs.declared.pull.Pulled.{Pulled}
+use Rattle.json_events.specs.declared.pull.Pulled.TheVariants as pulled
 use Rattle.instance_read.proofs.Following.{follow_more, stays, told_follows}
 use Rattle.instance_read.proofs.follow.take_events.Goals as goal
 

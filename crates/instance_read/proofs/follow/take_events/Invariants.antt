@@ -1,5 +1,5 @@
 use Rattle.std.proofs.Common.{ℕ, List}
-use Rattle.decimal_json.specs.Pulls.{IsUnfinished}
+use Rattle.json_events.specs.Pulls.{IsUnfinished}
 use Rattle.instance_model.specs.declared.limits.Limits.{Limits}
 use Rattle.instance_read.specs.Readers.{IsFollowing}
 use Rattle.instance_read.proofs.follow.take_events.Given as goal

@@ -1,5 +1,5 @@
 use Rattle.std.proofs.Common.{[], ◌-◌, ◌≤◌, length, take}
-use Rattle.decimal_json.specs.Pulls.{IsUnfinished}
+use Rattle.json_events.specs.Pulls.{IsUnfinished}
 use Rattle.instance_model.specs.declared.limits.Limits.{Limits}
 use Rattle.instance_read.specs.Fed.{HasRead}
 use Rattle.instance_read.proofs.pieces.feed_all.Given as goal

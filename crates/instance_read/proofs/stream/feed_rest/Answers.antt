@@ -1,7 +1,8 @@
-use Rattle.std.proofs.Common.{◌≡◌, ℕ, length, take, rules}
+use Rattle.std.proofs.Common.{◌≡◌, ◌+◌, ℕ, length, take, rules}
 use Rattle.std.proofs.lemmas.List.{length-take-le}
+use Rattle.plan_desk.specs.declared.read_fault.ReadFault.TheVariants.{Memory}
 use Rattle.plan_desk.proofs.Unread.{read_more}
-use Rattle.instance_read.proofs.Streaming.{fed_more, fed_all}
+use Rattle.instance_read.proofs.Streaming.{fed_more, fed_all, counted}
 use Rattle.instance_read.proofs.stream.feed_rest.Goals as goal
 
 pub returns-then-n-eq0-clause-read : goal.returns-then-n-eq0-clause-read
@@ -13,12 +14,12 @@ returns-then-n-eq0-clause-read g c =
 pub returns-then-limit-count-clause-some_read : goal.returns-then-limit-count-clause-some_read
 returns-then-limit-count-clause-some_read g c =
     let d = g.D.Desk in
-    (_, search rules, read_more (d.shows c.args.desk.now) (d.shows c.pieces.desk) (d.shows c.read.new.self) c.pieces.count c.in_ok-n.n c.pieces.invariant.shows c.in_ok-n.ensures.ok)
+    (c.pieces.count + c.in_ok-n.n, (search rules, search rules), read_more (d.shows c.args.desk.now) (d.shows c.pieces.desk) (d.shows c.read.new.self) c.pieces.count c.in_ok-n.n c.pieces.invariant.shows c.in_ok-n.ensures.ok)
 
 pub returns-in_err-feed-clause-some_read : goal.returns-in_err-feed-clause-some_read
 returns-in_err-feed-clause-some_read g c =
     let d = g.D.Desk in
-    (_, search rules, read_more (d.shows c.args.desk.now) (d.shows c.pieces.desk) (d.shows c.read.new.self) c.pieces.count c.in_ok-n.n c.pieces.invariant.shows c.in_ok-n.ensures.ok)
+    (c.pieces.count + c.in_ok-n.n, counted c.from_residual-in_err-feed.result c.args.limit (c.pieces.count + c.in_ok-n.n) Memory (search rules) (search rules) (search rules), read_more (d.shows c.args.desk.now) (d.shows c.pieces.desk) (d.shows c.read.new.self) c.pieces.count c.in_ok-n.n c.pieces.invariant.shows c.in_ok-n.ensures.ok)
 
 pub pieces-preserved : goal.pieces-preserved
 pieces-preserved g c =

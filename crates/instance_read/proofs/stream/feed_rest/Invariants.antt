@@ -1,5 +1,5 @@
 use Rattle.std.proofs.Common.{◌≡◌, ◌-◌, ◌≤◌}
-use Rattle.decimal_json.specs.Pulls.{IsUnfinished}
+use Rattle.json_events.specs.Pulls.{IsUnfinished}
 use Rattle.plan_desk.specs.Desk.{ShowsSame, after_read}
 use Rattle.instance_read.specs.Fed.{HasFed}
 use Rattle.instance_read.proofs.stream.feed_rest.Given as goal

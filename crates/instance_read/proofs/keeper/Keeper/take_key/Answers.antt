@@ -1,5 +1,5 @@
 use Rattle.std.proofs.Common.{sym, ◌∙◌, ap}
-use Rattle.decimal_json.specs.Tree.{key}
+use Rattle.json_grammar.specs.Tree.{key}
 use Rattle.instance_read.specs.Keeping.{keep_rows}
 use Rattle.instance_read.specs.Keepers.{kept_of}
 use Rattle.instance_read.proofs.KeepingSteps.{other_key}

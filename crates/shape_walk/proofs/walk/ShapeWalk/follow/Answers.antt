@@ -1,6 +1,6 @@
 use Rattle.std.proofs.Common.{◌∙◌, sym, ap, subst}
-use Rattle.decimal_json.specs.Tree.{Event}
-use Rattle.decimal_json.specs.Events.{event_view}
+use Rattle.json_grammar.specs.Tree.{Event}
+use Rattle.json_grammar.specs.Events.{event_view}
 use Rattle.shape_walk.specs.Taking.{Takes}
 use Rattle.shape_walk.proofs.walk.ShapeWalk.follow.Goals as goal
 

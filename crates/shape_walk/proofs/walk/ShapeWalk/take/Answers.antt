@@ -1,6 +1,6 @@
 use Rattle.std.proofs.Common.{◌≡◌, ◌∙◌, sym, ap, true, None, rules}
 use Rattle.std.specs.Prelude.{is_some}
-use Rattle.decimal_json.specs.Events.{event_view}
+use Rattle.json_grammar.specs.Events.{event_view}
 use Rattle.shape_walk.specs.Standing.{Walk}
 use Rattle.shape_walk.proofs.OneMore.{stays, goes_on, on_ok}
 use Rattle.shape_walk.proofs.walk.ShapeWalk.take.Goals as goal

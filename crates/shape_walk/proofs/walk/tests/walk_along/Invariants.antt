@@ -1,4 +1,4 @@
-use Rattle.decimal_json.specs.Pulls.{IsUnfinished}
+use Rattle.json_events.specs.Pulls.{IsUnfinished}
 use Rattle.shape_walk.proofs.walk.tests.walk_along.Given as goal
 
 abbrev pub invariant-loop : goal.invariant-loop

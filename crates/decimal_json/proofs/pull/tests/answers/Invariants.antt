@@ -1,5 +1,0 @@
-use Rattle.decimal_json.specs.Pulls.{IsUnfinished}
-use Rattle.decimal_json.proofs.pull.tests.answers.Given as goal
-
-abbrev pub invariant-loop-piece : goal.invariant-loop-piece
-invariant-loop-piece l = IsUnfinished l.pull

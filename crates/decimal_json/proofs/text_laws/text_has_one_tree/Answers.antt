@@ -1,5 +1,0 @@
-use Rattle.decimal_json.proofs.Laws.{one_tree}
-use Rattle.decimal_json.proofs.text_laws.text_has_one_tree.Goals as goal
-
-pub returns : goal.returns
-returns c = one_tree

@@ -1,0 +1,5 @@
+pub mod Rounding
+pub mod Tallying
+pub mod Capped
+pub mod OneWord
+pub mod ExactLaws

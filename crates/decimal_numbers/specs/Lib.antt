@@ -1,0 +1,4 @@
+pub mod Decimal
+pub mod Exact
+pub mod Scaling
+pub mod Tallies

@@ -1,0 +1,4 @@
+pub mod ReadingLemmas
+pub mod Standing
+pub mod CountedNumbers
+pub mod CountTold

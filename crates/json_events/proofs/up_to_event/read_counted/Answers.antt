@@ -1,0 +1,57 @@
+use Rattle.std.proofs.Common.{rules, ◌≡◌, ◌∙◌, ◌+◌, ◌<◌, ◌≤◌, ℕ, List, length, take, drop, sym, ap, subst, arith, length-drop}
+use Rattle.std.specs.Prelude.{◌-◌}
+use Rattle.std.specs.List.{prefix_len}
+use Rattle.std.proofs.lemmas.List.Sums.{prefix_len-le-length}
+use Rattle.json_laws.specs.Machine.{is_blank}
+use Rattle.json_events.specs.CountedNumbers.{TellsCount}
+use Rattle.json_events.specs.Unreads.{unread_of}
+use Rattle.json_machine.proofs.PlainNumbers.{behind}
+use Rattle.json_events.proofs.CountTold.{count_told}
+use Rattle.json_events.proofs.up_to_event.read_counted.Goals as goal
+
+-- the rest behind the blanks has more bytes than the number
+fits : (n blanks : ℕ) (bs : List ℕ) → n < length (take (length bs - blanks) (drop blanks bs)) → n + blanks < length bs
+fits n blanks bs h = omega (arith, ap length (behind blanks bs), length-drop blanks bs)
+
+-- there are no more blanks than bytes
+some_bytes : (blanks : ℕ) (bs : List ℕ) → blanks ≡ prefix_len is_blank bs → blanks ≤ length bs
+some_bytes blanks bs e = rw e (prefix_len-le-length is_blank bs)
+
+pub slice_bounds-take_counted-count : goal.slice_bounds-take_counted-count
+slice_bounds-take_counted-count c = some_bytes c.blank_count-blanks.result c.as_slice-bytes.result.now c.blank_count-blanks.ensures
+
+pub slice_bounds-take_counted-start : goal.slice_bounds-take_counted-start
+slice_bounds-take_counted-start c = let l = some_bytes c.blank_count-blanks.result c.as_slice-bytes.result.now c.blank_count-blanks.ensures in search rules
+
+pub pass-requires : goal.pass-requires
+pass-requires c =
+    let l = some_bytes c.blank_count-blanks.result c.as_slice-bytes.result.now c.blank_count-blanks.ensures in
+    omega (arith, l, ap length c.as_slice-bytes.ensures.same)
+
+pub overflow_add-length : goal.overflow_add-length
+overflow_add-length c =
+    let bs = c.as_slice-bytes.result.now in
+    let f = fits c.in_ok-length.field-0.length c.blank_count-blanks.result bs c.in_ok-length.ensures.within in
+    omega (arith, f, ap length c.as_slice-bytes.ensures.same, c.as_slice-bytes.ensures.room)
+
+pub pass-requires-2 : goal.pass-requires-2
+pass-requires-2 c =
+    let bs = c.as_slice-bytes.result.now in
+    let blanks = c.blank_count-blanks.result in
+    let f = fits c.in_ok-length.field-0.length blanks bs c.in_ok-length.ensures.within in
+    omega (arith, f, ap length c.as_slice-bytes.ensures.same, ap length c.pass.ensures.rest, length-drop blanks (unread_of c.args.unread.now))
+
+pub returns-clause-tells : goal.returns-clause-tells
+returns-clause-tells c =
+    let m = c.args.machine.now in
+    let n = c.take_counted.new.machine in
+    let u = c.args.unread.now in
+    let v = c.pass.new.self in
+    let w = c.pass-2.new.self in
+    let bs = c.as_slice-bytes.result.now in
+    let blanks = c.blank_count-blanks.result in
+    let run = c.in_ok-length.field-0 in
+    let is = c.in_ok-length.ensures in
+    subst (λ (k : ℕ). TellsCount k run.count m u n w) (sym c.at-at.ensures)
+    (count_told m n u v w blanks run.length (take (length bs - blanks) (drop blanks bs)) run.count (search rules) (search rules) c.pass.ensures.at c.pass.ensures.rest (behind blanks bs ∙ ap (drop blanks) c.as_slice-bytes.ensures.same)
+    is.takes is.exact (λ k i s. is.sound k i s (search rules)) c.pass-2.ensures.at c.pass-2.ensures.rest)

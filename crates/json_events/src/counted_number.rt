@@ -1,0 +1,102 @@
+//! Numbers without a sign and an exponent, of at most 7 digits before the point and 12 behind it.
+
+ghost use Rattle.std.specs.Prelude.{◌≡◌, ◌≤◌, ◌+◌, ◌*◌, ◌^◌, IfSome, pos};
+ghost use Rattle.json_events.specs.CountedNumbers.{WritesDigits, IsWhole, IsCountedRun};
+
+use decimal_numbers::power_of_ten;
+use fixed_num::Fixed;
+
+/// How many digits may stand before the point.
+const MOST_WHOLE: usize = 7;
+
+/// How many digits may stand behind the point: those of 10^-12.
+const PLACES: usize = 12;
+
+/// A number of a text that is read without its token.
+#[derive(Clone, Copy, Drop)]
+pub struct CountedNumber {
+    /// The offset of its first byte.
+    pub at: u64,
+    /// Its exact value, as a count of 10^-12.
+    pub count: Fixed,
+}
+
+/// How many bytes in front are a number, and its count of 10^-12.
+#[derive(Clone, Copy, Drop)]
+pub(crate) struct CountedRun {
+    pub length: usize,
+    pub count: Fixed,
+}
+
+/// How many digits are in front, and the number that they write behind another one.
+#[derive(Clone, Copy, Drop)]
+struct DigitRun {
+    length: usize,
+    value: u64,
+}
+
+/// The number in front that is told by its count, where a comma follows it.
+#[inline]
+pub(crate) fn counted_number(bytes: &[u8]) -> Option<CountedRun>
+    ensures { IfSome result (λ run. IsCountedRun bytes.now run.length run.count) }
+{
+    let whole = digits_behind(0, bytes, MOST_WHOLE);
+    if whole.length == 0 || whole.length == bytes.len() {
+        return None;
+    }
+    if whole.length > 1 && bytes[0] == b'0' {
+        return None;
+    }
+    match bytes[whole.length] {
+        b',' => Some(CountedRun {
+            length: whole.length,
+            count: count_of(whole.value * power_of_ten(PLACES)),
+        }),
+        b'.' => counted_fraction(bytes, whole),
+        _ => None,
+    }
+}
+
+/// The same, where the digits before its point are read.
+#[inline]
+fn counted_fraction(bytes: &[u8], whole: DigitRun) -> Option<CountedRun>
+    requires { IsWhole bytes.now whole.length whole.value }
+    ensures { IfSome result (λ run. IsCountedRun bytes.now run.length run.count) }
+{
+    let fraction = digits_behind(whole.value, &bytes[whole.length + 1..], PLACES);
+    let length = whole.length + 1 + fraction.length;
+    if fraction.length == 0 || length == bytes.len() || bytes[length] != b',' {
+        return None;
+    }
+    let size = fraction.value * power_of_ten(PLACES - fraction.length);
+    Some(CountedRun {
+        length,
+        count: count_of(size),
+    })
+}
+
+/// The digits in front, at most so many, behind those of a number.
+#[inline]
+fn digits_behind(front: u64, bytes: &[u8], most: usize) -> DigitRun
+    requires room { (front + 1) * 10 ^ most ≤ 2 ^ 64 }
+    ensures writes { WritesDigits front bytes.now result.length result.value }
+    ensures most { result.length ≤ most }
+{
+    let mut value = front;
+    let mut length = 0;
+    while length < most && length < bytes.len() && bytes[length].is_ascii_digit() {
+        value = value * 10 + (bytes[length] - b'0') as u64;
+        length += 1;
+    }
+    DigitRun { length, value }
+}
+
+#[inline]
+fn count_of(size: u64) -> Fixed
+    ensures { result ≡ pos size }
+{
+    match Fixed::from_count(size as i128) {
+        Ok(count) => count,
+        Err(_) => unreachable!(),
+    }
+}

@@ -1,0 +1,11 @@
+//! The events of a JSON text that comes in pieces, each as soon as it is due, and the exact place of its first fault.
+#![tactic(auto)]
+
+mod counted_number;
+mod pull;
+mod sound_event;
+mod unread;
+mod up_to_event;
+
+pub use counted_number::CountedNumber;
+pub use pull::{Pull, Pulled};

@@ -1,0 +1,164 @@
+//! Reading a stream up to the next byte that tells something.
+
+ghost use Rattle.std.specs.Prelude.{◌≡◌, ℕ, ◌+◌, ◌<◌, ◌^◌, ◌≢◌, ◌⊎◌, List, slice_get, Some, IfSome, IsSome, Ok, None, false, length, take, option_map};
+ghost use Rattle.json_grammar.specs.Tree as json;
+ghost use Rattle.json_laws.specs.Machine.{State};
+ghost use Rattle.json_machine.specs.Machines.{IsSound, state_of, answer_of};
+ghost use Rattle.json_machine.specs.NumberRuns.{TakesNumber};
+ghost use Rattle.decimal_numbers.specs.Exact.{fixed};
+ghost use Rattle.json_events.specs.Unreads.{unread_of};
+ghost use Rattle.json_events.specs.Readings.{HasTold, ReadsOn, Shortens, IsTelling, told_events};
+ghost use Rattle.json_events.specs.CountedNumbers.{TellsCount};
+
+use crate::counted_number::{CountedNumber, CountedRun, counted_number};
+use crate::unread::Unread;
+use json_machine::{Answer, MOST_LEVELS, Machine, Mode, RawEvent, TakenNumber, blank_count};
+use std::alloc::{AllocError, Global};
+
+/// What came of reading.
+#[derive(Drop)]
+pub enum Reading {
+    /// Bytes that tell nothing.
+    Quiet,
+    /// All bytes are used.
+    Used,
+    One(RawEvent),
+    Two(RawEvent, RawEvent),
+    /// The next byte cannot follow.
+    Refused,
+    /// The next byte opens one level too many.
+    TooDeep,
+}
+
+/// Reads up to a byte that tells something, or to the end of the bytes.
+pub fn read_up_to_event(
+    alloc: Global,
+    machine: &mut Machine,
+    unread: &mut Unread,
+) -> Result<Reading, AllocError>
+    requires { IsSound unread.old.at machine.old }
+    ensures reads { (stream : List ℕ) (told : List json.Event) → HasTold machine.old unread.old stream told →
+        ReadsOn result machine.new unread.new stream told }
+    ensures not_quiet { result ≢ Ok Reading.Quiet }
+{
+    loop {
+        match read_run(alloc, machine, unread)? {
+            Reading::Quiet => {}
+            reading => return Ok(reading),
+        }
+    }
+}
+
+/// Reads blanks or the bytes that only lengthen a token, and what is behind them.
+fn read_run(
+    alloc: Global,
+    machine: &mut Machine,
+    unread: &mut Unread,
+) -> Result<Reading, AllocError>
+    requires { IsSound unread.old.at machine.old }
+    ensures reads { (stream : List ℕ) (told : List json.Event) → HasTold machine.old unread.old stream told →
+        ReadsOn result machine.new unread.new stream told }
+    ensures shortens { Shortens result unread.old unread.new }
+    ensures sound { result ≡ Ok Reading.Quiet → IsSound unread.new.at machine.new }
+{
+    let taken = machine.take_run(unread.as_slice())?;
+    unread.pass(taken);
+    read_telling(alloc, machine, unread)
+}
+
+/// Reads a number with the comma behind it, or one byte.
+fn read_telling(
+    alloc: Global,
+    machine: &mut Machine,
+    unread: &mut Unread,
+) -> Result<Reading, AllocError>
+    requires { IsSound unread.old.at machine.old }
+    ensures reads { (stream : List ℕ) (told : List json.Event) → HasTold machine.old unread.old stream told →
+        ReadsOn result machine.new unread.new stream told }
+    ensures shortens { Shortens result unread.old unread.new }
+    ensures sound { result ≡ Ok Reading.Quiet → IsSound unread.new.at machine.new }
+{
+    let number = machine.take_number(alloc, unread.at(), unread.as_slice())?;
+    if let Some(TakenNumber { length, event }) = number {
+        unread.pass(length + 1);
+        return Ok(Reading::One(event));
+    }
+    match unread.first() {
+        None => Ok(Reading::Used),
+        Some(byte) => read_byte(alloc, machine, unread, byte),
+    }
+}
+
+/// Reads a number that is told by its count with the comma behind it, and the blanks before it. `None`: nothing is read.
+#[inline]
+pub fn read_counted(machine: &mut Machine, unread: &mut Unread) -> Option<CountedNumber>
+    ensures tells { IfSome result (λ number.
+        TellsCount number.at number.count machine.old unread.old machine.new unread.new) }
+    ensures left_machine { result ≡ None → machine.new ≡ machine.old }
+    ensures left_unread { result ≡ None → unread.new ≡ unread.old }
+{
+    let bytes = unread.as_slice();
+    let blanks = blank_count(bytes);
+    let CountedRun { length, count } = take_counted(machine, &bytes[blanks..])?;
+    unread.pass(blanks);
+    let at = unread.at();
+    unread.pass(length + 1);
+    Some(CountedNumber { at, count })
+}
+
+/// Takes a number in front that is told by its count, and the comma behind it, where a value may come and the comma too.
+/// `None`: nothing is taken.
+#[inline]
+fn take_counted(machine: &mut Machine, bytes: &[u8]) -> Option<CountedRun>
+    ensures takes { (k : ℕ) → IfSome result (λ run. TakesNumber k (state_of machine.old) bytes.now run.length (json.Event.number k (take run.length bytes.now)) (state_of machine.new)) }
+    ensures within { IfSome result (λ run. run.length < length bytes.now) }
+    ensures exact { IfSome result (λ run. fixed (take run.length bytes.now) ≡ Some (run.count, false)) }
+    ensures sound { (k i : ℕ) → IsSound k machine.old → IsSome result → IsSound i machine.new }
+    ensures waits { IsSome result → (machine.old.mode ≡ Mode.Want) ⊎ (machine.old.mode ≡ Mode.First) }
+    ensures left { result ≡ None → machine.new ≡ machine.old }
+{
+    let run = counted_number(bytes)?;
+    if !machine.pass_number(bytes, run.length) {
+        return None;
+    }
+    Some(run)
+}
+
+/// Reads one byte, the first of the buffer.
+fn read_byte(
+    alloc: Global,
+    machine: &mut Machine,
+    unread: &mut Unread,
+    byte: u8,
+) -> Result<Reading, AllocError>
+    requires sound { IsSound unread.old.at machine.old }
+    requires first { slice_get (unread_of unread.old) 0 ≡ Some byte }
+    requires room { unread.old.at + 1 < 2 ^ 64 }
+    ensures reads { (stream : List ℕ) (told : List json.Event) → HasTold machine.old unread.old stream told →
+        ReadsOn result machine.new unread.new stream told }
+    ensures shortens { Shortens result unread.old unread.new }
+    ensures sound { result ≡ Ok Reading.Quiet → IsSound unread.new.at machine.new }
+{
+    let answer = machine.step(alloc, unread.at(), byte)?;
+    let Some(reading) = reading_of(answer) else {
+        return Ok(Reading::Refused);
+    };
+    if machine.depth() > MOST_LEVELS {
+        return Ok(Reading::TooDeep);
+    }
+    unread.pass(1);
+    Ok(reading)
+}
+
+/// What was told; `None` where the byte was refused.
+fn reading_of(answer: Answer) -> Option<Reading>
+    ensures told { (s : State) → answer_of answer s ≡ option_map (λ r. (s, told_events r)) result }
+    ensures telling { IfSome result (λ r. IsTelling r) }
+{
+    match answer {
+        Answer::Refused => None,
+        Answer::Quiet => Some(Reading::Quiet),
+        Answer::One(event) => Some(Reading::One(event)),
+        Answer::Two(first, second) => Some(Reading::Two(first, second)),
+    }
+}

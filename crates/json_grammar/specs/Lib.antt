@@ -1,0 +1,9 @@
+pub mod Tree
+pub mod Grammar
+pub mod Prefix
+pub mod Bytes
+pub mod Token
+pub mod Split
+pub mod Trees
+pub mod Events
+pub mod Stream

@@ -1,0 +1,10 @@
+//! What follows of the grammar of JSON texts: the laws of texts, of their faults and of streams. They are proved by the
+//! reader as a machine that takes one byte after another, which `json_machine` runs.
+#![tactic(auto)]
+
+mod text_laws;
+
+pub use text_laws::{
+    due_events_are_one_list, events_ascend, fault_excludes_text, fault_stays, text_has_one_answer,
+    text_has_one_tree,
+};

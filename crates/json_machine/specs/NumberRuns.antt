@@ -1,0 +1,36 @@
+-- Numbers that stand whole in a buffer. Not part of any promise: only private functions cite it.
+use Rattle.std.specs.Prelude.{◌≡◌, ℕ, ◌+◌, ◌≤◌, ◌<◌, List, [], ◌∷◌, ◌++◌, length, take, get_or, Bool, true, Some}
+use Rattle.json_grammar.specs.Tree as json
+use Rattle.json_grammar.specs.Grammar.{IsDigit}
+use Rattle.json_laws.specs.Machine.{State, st, Phase, number, minus, may_end, step, run}
+
+-- the first bytes, so many, take each number from one place in it to another
+pub record GoesOn (from : Phase) (bytes : List ℕ) (count : ℕ) (to : Phase) : Type 0 where
+  pub within : count ≤ length bytes
+  pub runs : (k at : ℕ) (levels : List Bool) (token : List ℕ) → run k (st levels (number at token from)) (take count bytes) ≡ Some (st levels (number at (token ++ take count bytes) to), [])
+
+-- and the number may end there
+pub record EndsNumber (from : Phase) (bytes : List ℕ) (count : ℕ) (to : Phase) : Type 0 where
+  pub goes_on : GoesOn from bytes count to
+  pub ends : may_end to ≡ true
+
+-- the first bytes, so many, are a number that begins with a digit
+pub record BeginsNumber (bytes : List ℕ) (count : ℕ) (to : Phase) : Type 0 where
+  pub number : EndsNumber minus bytes count to
+  pub some : 0 < count
+  pub first : IsDigit (get_or bytes 0 0)
+
+-- the first bytes, so many, are a number, which the byte behind them tells
+pub record TakesNumber (k : ℕ) (old : State) (bytes : List ℕ) (count : ℕ) (event : json.Event) (new : State) : Type 0 where
+  pub inside : State
+  pub runs : run k old (take count bytes) ≡ Some (inside, [])
+  pub within : count < length bytes
+  pub tells : step (k + count) inside.levels inside.mode (get_or bytes count 0) ≡ Some (new, event ∷ [])
+  pub same_levels : new.levels ≡ old.levels
+
+-- the first bytes, so many, are a number with a comma behind it
+pub record IsBeforeComma (bytes : List ℕ) (count : ℕ) : Type 0 where
+  pub to : Phase
+  pub begins : BeginsNumber bytes count to
+  pub within : count < length bytes
+  pub comma : get_or bytes count 0 ≡ 44
