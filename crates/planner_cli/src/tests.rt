@@ -99,6 +99,26 @@ const NEGATIVE: &str = r#"{"Resources":{},"Seasons":{},
 const EMPTY: &str = r#"{"Resources":{},"Seasons":{},"Interventions":{},"Exclusions":{},
 "T":1,"Scenarios_number":[1],"Quantile":1,"Alpha":1}"#;
 
+/// Numbers as texts and with a point, a Delta that goes on past tmax, a season of all periods, and a key of no meaning.
+const LOOSE: &str = r#"{"Resources":{"c1":{"max":[20.0,20.0,20.0],"min":[0.0,0.0,0.0]}},
+"Seasons":{"winter":["1","3"],"full":["1","2","3"]},
+"Interventions":{
+"I1":{"tmax":"2","Delta":[2.0,2.0,1.0],
+"workload":{"c1":{"1":{"1":14.0},"2":{"1":14.0,"2":8.0},"3":{"2":8.0}}},
+"risk":{"1":{"1":[4.0,8.0]},
+"2":{"1":[5.0,7.0,9.0],"2":[1.0,2.0,3.0]},"3":{"2":[2.0,6.0]}}},
+"I2":{"tmax":"3","Delta":[1,1,1],
+"workload":{"c1":{"3":{"3":5.5}}},
+"risk":{"1":{"1":[1,1]},"2":{"2":[3,3,3]},"3":{"3":[0.5,1.5]}}}},
+"Exclusions":{"E1":["I1","I2","winter"]},
+"T":3,"Scenarios_number":[2,3,2],
+"Quantile":0.95,"Alpha":0.5,"ComputationTime":15}"#;
+
+/// A risk of 13 decimals.
+const ROUNDED: &str = r#"{"Resources":{},"Seasons":{},"Interventions":{"I1":{"tmax":1,"Delta":[1],"workload":{},
+"risk":{"1":{"1":[1,3.0000000000005]}}}},
+"Exclusions":{},"T":1,"Scenarios_number":[2],"Quantile":0.95,"Alpha":0.5}"#;
+
 pub(crate) const BOTH: &str = "I1 1\nI2 2\n";
 
 /// Both in the first period.
@@ -118,6 +138,12 @@ const NEGATIVE_REPORT: &str =
 
 const EMPTY_REPORT: &str =
     "feasible\nscore 0\ncost 0.000000000000 0.000000000000\nmean 0.000000000000 0.000000000000\nexcess 0.000000000000 0.000000000000\nrounded 0\n";
+
+const LOOSE_REPORT: &str =
+    "feasible\nscore 9250000000000000000\ncost 3.083333333333 3.083333333334\nmean 4.666666666666 4.666666666667\nexcess 1.500000000000 1.500000000000\nrounded 0\n";
+
+const ROUNDED_REPORT: &str =
+    "feasible\nscore 1500000000000500000\ncost 1.499999999999 1.500000000002\nmean 1.999999999999 2.000000000002\nexcess 0.999999999999 1.000000000002\nrounded 1\n";
 
 pub(crate) fn owned(alloc: Global, list: &[&str]) -> Result<Vec<String>, AllocError> {
     let mut words = Vec::new(alloc);
@@ -162,6 +188,8 @@ fn plans_are_judged(rt: HostRuntime) -> Result<(), Fail> {
         (SURE, BOTH, 0, SURE_REPORT),
         (NEGATIVE, "I1 1\n", 0, NEGATIVE_REPORT),
         (EMPTY, "", 0, EMPTY_REPORT),
+        (LOOSE, "I1 1\nI2 3\n", 0, LOOSE_REPORT),
+        (ROUNDED, "I1 1\n", 0, ROUNDED_REPORT),
         (SURE, "I1 1\n", 1, "infeasible\nS1 I2\nrounded 0\n"),
         (PLAIN, "I2 3\nI1 1\n", 1, "infeasible\nS2 I2 3\nrounded 0\n"),
         (LATE, "I1 2\nI2 1\n", 1, "infeasible\nS3 I1 2\nrounded 0\n"),
@@ -214,6 +242,12 @@ fn each_fault_of_an_instance_is_told(rt: HostRuntime) -> Result<(), Fail> {
     for (instance, line) in [
         ("", "refused instance syntax 0\n"),
         (r#"{"T":513"#, "refused instance syntax 8\n"),
+        (r#"{"T":01}"#, "refused instance syntax 6\n"),
+        (r#"{"T":1}x"#, "refused instance syntax 7\n"),
+        (r#"{"T":1,"T":2"#, "refused instance syntax 12\n"),
+        (r#"{"T":1,"T":2}"#, "refused instance double 7\n"),
+        (r#"{"T":1}"#, "refused instance missing 6 Resources\n"),
+        (r#"{"T":513}"#, "refused instance limit 5 periods\n"),
         ("[[[[[[[[[[[[[[[[[", "refused instance too deep 16\n"),
         ("[]", "refused instance shape 0\n"),
         (
@@ -278,6 +312,33 @@ fn each_fault_of_an_instance_is_told(rt: HostRuntime) -> Result<(), Fail> {
         assert_eq!(rt; answer, 3, "{line}");
         assert_eq!(rt; said.as_slice(), line.as_bytes());
     }
+    Ok(())
+}
+
+// What is said of these bytes as an instance.
+fn said_of(alloc: Global, instance: &[u8]) -> Result<Vec<u8>, AllocError> {
+    let mut desk = MemDesk::make(alloc);
+    desk.put_file("I", instance)?;
+    let (_, said) = ran(alloc, &["evaluate", "I", "P"], &mut desk)?;
+    Ok(said)
+}
+
+#[test]
+fn an_instance_that_is_cut_is_refused_at_its_end(rt: HostRuntime) -> Result<(), Fail> {
+    let alloc = rt.alloc();
+    for (end, _) in LOOSE.as_bytes().iter().enumerate() {
+        let said = said_of(alloc, &LOOSE.as_bytes()[..end])?;
+        let line = format!(in alloc; "refused instance syntax {end}\n")?;
+        assert_eq!(rt; said.as_slice(), line.as_bytes());
+    }
+    Ok(())
+}
+
+#[test]
+fn a_million_brackets_are_too_deep(rt: HostRuntime) -> Result<(), Fail> {
+    let alloc = rt.alloc();
+    let said = said_of(alloc, &vec![in alloc; b'['; 1_000_000]?)?;
+    assert_eq!(rt; said.as_slice(), b"refused instance too deep 16\n".as_slice());
     Ok(())
 }
 
