@@ -2,7 +2,6 @@
 
 ghost use Rattle.std.specs.Prelude.{◌≡◌, ◌+◌, ◌≤◌, ◌<◌, ◌++◌, ◌∷◌, [], length, IfOk, OnOk, true, map, slice_index};
 ghost use Rattle.json_grammar.specs.Trees.{tree_view};
-ghost use Rattle.instance_model.specs.Tables.{allowed_of};
 ghost use Rattle.instance_shape.specs.FileTables as tables;
 ghost use Rattle.instance_shape.specs.LookUp as look;
 ghost use Rattle.instance_plain.specs.Rows.{has_count, run_is_sound, runs_are_sound, run_rows, runs_rows};
@@ -10,6 +9,7 @@ ghost use Rattle.instance_plain.specs.Rows.{has_count, run_is_sound, runs_are_so
 use crate::look_up::risk_list;
 use decimal_numbers::fixed_of;
 use fixed_num::Fixed;
+use instance_model::is_allowed_in;
 use json_grammar::{Node, Tree};
 use std::alloc::AllocError;
 
@@ -102,18 +102,6 @@ fn add_run(
     Ok(true)
 }
 
-/// Whether the start with so many before it is allowed.
-#[tactic(auto, using(std::proofs::lemmas::Bool::Decides::nat_tests), unfolding(instance_model::specs::Tables::allowed_of))]
-fn is_allowed(periods: u32, durations: &[u32], k: usize) -> bool
-    requires few { periods ≤ 512 }
-    requires start { k < length durations.now }
-    requires starts { length durations.now ≤ 512 }
-    ensures value { result ≡ allowed_of periods durations.now (k + 1) }
-    ensures ends { result ≡ true → k + 1 + slice_index durations.now k ≤ periods + 1 }
-{
-    k as u64 + 1 + durations[k] as u64 <= periods as u64 + 1
-}
-
 /// Adds the risks of all allowed runs of an intervention. False: one of them lacks a list with as many numbers as scenarios.
 pub fn add_runs(
     intervention: &Tree,
@@ -130,7 +118,7 @@ pub fn add_runs(
     ensures soft { IfOk result (λ b. b ≡ true → rows.new.soft.items ≡ rows.old.soft.items ++ runs_rows tables.soft_at periods durations.now (tree_view intervention.now)) }
 {
     for k in 0..durations.len() {
-        if !is_allowed(periods, durations, k) {
+        if !is_allowed_in(periods, durations, k as u32 + 1) {
             continue;
         }
         if !add_run(intervention, k as u32 + 1, durations[k], counts, rows)? {

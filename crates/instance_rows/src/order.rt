@@ -1,7 +1,6 @@
 //! Which lists of risks the allowed runs of an intervention take, in the order of the tables.
 
 ghost use Rattle.std.specs.Prelude.{◌≡◌, ◌+◌, ◌-◌, ◌<◌, ◌≤◌, ◌++◌, true, Some, IfOk, OnOk, find, length, slice_index, vec_len};
-ghost use Rattle.instance_model.specs.Tables.{allowed_of};
 ghost use Rattle.instance_rows.specs.Answers.{Tells};
 ghost use Rattle.instance_rows.specs.Grid.{IsGridOf, order_of, place_of, run_order, runs_order};
 ghost use Rattle.instance_rows.specs.RowFaults.{is_list_at, list_fault, run_fault, runs_fault, used_durations};
@@ -11,6 +10,7 @@ use crate::fault::{CrossFault, RowsFault};
 use crate::grid::Grid;
 use crate::risk_lists::RiskLists;
 use crate::rows::{FileRows, Work};
+use instance_model::is_allowed_in;
 use std::alloc::Global;
 
 /// The lists of risks of an intervention, and what they have to be.
@@ -58,23 +58,11 @@ fn order_runs(alloc: Global, asked: &Asked, durations: &[u32]) -> Result<Vec<usi
 {
     let mut order = Vec::new(alloc);
     for k in 0..durations.len() {
-        if is_allowed(asked.grid.periods, durations, k) {
+        if is_allowed_in(asked.grid.periods, durations, k as u32 + 1) {
             add_run(alloc, asked, k as u32 + 1, durations[k], &mut order)?;
         }
     }
     Ok(order)
-}
-
-/// Whether the start with so many before it is allowed.
-#[tactic(auto, using(std::proofs::lemmas::Bool::Decides::nat_tests), unfolding(instance_model::specs::Tables::allowed_of))]
-fn is_allowed(periods: u32, durations: &[u32], k: usize) -> bool
-    requires few { periods ≤ 512 }
-    requires start { k < length durations.now }
-    requires starts { length durations.now ≤ 512 }
-    ensures value { result ≡ allowed_of periods durations.now (k + 1) }
-    ensures ends { result ≡ true → k + 1 + slice_index durations.now k ≤ periods + 1 }
-{
-    k as u64 + 1 + durations[k] as u64 <= periods as u64 + 1
 }
 
 /// Adds the numbers of the lists of the run at a start.

@@ -1,38 +1,15 @@
 -- The instance of the tests fits.
-use Rattle.std.proofs.Common.{◌≢◌, ℕ, zero, suc, ◌*◌, ◌^◌, ◌<◌, ◌≤◌, ℤ, pos, List, [], ◌∷◌, length, refl, ap, arith, get_or, unsigned_abs, IsTrue, inl, lit<, lit≤}
-use Rattle.std.specs.List.{All, AllPairs}
+use Rattle.std.proofs.Common.{ℕ, zero, suc, ◌*◌, ◌^◌, ◌<◌, ◌≤◌, ℤ, pos, List, [], ◌∷◌, length, refl, arith, get_or, unsigned_abs, IsTrue, inl, lit<, lit≤}
+use Rattle.std.specs.List.{All}
 use Rattle.std.proofs.lemmas.List.Elements.{All-nil, All-cons, All-from_recursion}
-use Rattle.std.proofs.lemmas.List.Kept.{AllPairs-cons}
 use Rattle.instance_model.specs.declared.parts.LoadCell.{LoadCell}
 use Rattle.instance_model.specs.declared.parts.Exclusion.{Exclusion}
 use Rattle.instance_model.specs.Naturals.{count_sum}
 use Rattle.instance_model.specs.Tables.{is_allowed, in_run, allowed_of, durations, tmax, delta_of, entries_at, entries_of, all_entries, scenarios_before, periods_before}
-use Rattle.instance_model.specs.Fitting.{IsFitting, AreNames, IsName, AreCells, CellBefore}
+use Rattle.instance_model.specs.Fitting.{IsFitting, AreCells, CellBefore}
 use Rattle.instance_model.specs.Plans.{AreAllowedStarts}
+use Rattle.instance_model.proofs.SmallTables.{one, two, two_pairs, letter, apart_at, one_name, two_names}
 use Rattle.plan_moves.specs.Sample.{sample, cell_of, each_other}
-
-one : {X : Type 0} (P : X → Type 0) (x : X) → P x → All P (x ∷ [])
-one P x p = All-cons P x [] p (All-nil P)
-
-two : {X : Type 0} (P : X → Type 0) (x y : X) → P x → P y → All P (x ∷ y ∷ [])
-two P x y p q = All-cons P x (y ∷ []) p (one P y q)
-
-one_pairs : {X : Type 0} (R : X → X → Type 0) (x : X) → AllPairs R (x ∷ [])
-one_pairs R x = AllPairs-cons R x [] (All-nil (R x)) (λ i j d l k. absurd (omega (arith, k)))
-
-letter : (b : ℕ) → 32 < b → b ≢ 127 → IsName (b ∷ [])
-letter b low other = record { some = omega arith; short = omega arith; printed = one (λ c. (32 < c) × (c ≢ 127)) b (low, other) }
-
-one_name : (limit a : ℕ) → 1 ≤ limit → IsName (a ∷ []) → AreNames limit ((a ∷ []) ∷ [])
-one_name limit a few name = record { few = omega (arith, few); shaped = one IsName (a ∷ []) name; apart = one_pairs (λ x y. x ≢ y) (a ∷ []) }
-
-two_names : (limit a b : ℕ) → 2 ≤ limit → IsName (a ∷ []) → IsName (b ∷ []) → a ≢ b → AreNames limit ((a ∷ []) ∷ (b ∷ []) ∷ [])
-two_names limit a b few first second other =
-    record {
-      few = omega (arith, few);
-      shaped = two IsName (a ∷ []) (b ∷ []) first second;
-      apart = AllPairs-cons (λ x y. x ≢ y) (a ∷ []) ((b ∷ []) ∷ []) (one (λ y. (a ∷ []) ≢ y) (b ∷ []) (λ e. other (ap (λ (xs : List ℕ). get_or xs 0 0) e))) (one_pairs (λ x y. x ≢ y) (b ∷ []));
-    }
 
 cells_fit : (i : ℕ) → i < 2 → AreCells sample i (get_or sample.loads i [])
 unfolding is_allowed allowed_of in_run delta_of durations
@@ -40,7 +17,7 @@ cells_fit zero l =
     let a = cell_of 1 2 (pos 3) in
     let b = cell_of 2 2 (pos 4) in
     record {
-      ordered = AllPairs-cons CellBefore a (b ∷ []) (one (CellBefore a) b (inl (omega arith))) (one_pairs CellBefore b);
+      ordered = two_pairs CellBefore a b (inl (omega arith));
       allowed = two (λ (cell : LoadCell). IsTrue (is_allowed sample 0 cell.start)) a b refl refl;
       running = two (λ (cell : LoadCell). IsTrue (in_run sample 0 cell.start cell.period)) a b refl refl;
       resources = two (λ (cell : LoadCell). cell.resource < 1) a b (omega arith) (omega arith);
@@ -50,7 +27,7 @@ cells_fit (suc zero) l =
     let a = cell_of 1 1 (pos 1) in
     let b = cell_of 2 3 (pos 2) in
     record {
-      ordered = AllPairs-cons CellBefore a (b ∷ []) (one (CellBefore a) b (inl (omega arith))) (one_pairs CellBefore b);
+      ordered = two_pairs CellBefore a b (inl (omega arith));
       allowed = two (λ (cell : LoadCell). IsTrue (is_allowed sample 1 cell.start)) a b refl refl;
       running = two (λ (cell : LoadCell). IsTrue (in_run sample 1 cell.start cell.period)) a b refl refl;
       resources = two (λ (cell : LoadCell). cell.resource < 1) a b (omega arith) (omega arith);
@@ -83,18 +60,18 @@ sample-fits = record {
   quantile = lit≤ tt;
   scenarios_each = refl;
   scenarios_few = All-cons Few 1 (2 ∷ 1 ∷ []) (lit≤ tt, lit≤ tt) (two Few 2 1 (lit≤ tt, lit≤ tt) (lit≤ tt, lit≤ tt));
-  resources = one_name 32 67 (omega arith) (letter 67 (omega arith) (omega arith));
+  resources = one_name 32 (67 ∷ []) (omega arith) (letter 67 (omega arith) (omega arith));
   upper_each = refl;
   lower_each = refl;
   upper_small = All-from_recursion SmallLimit sample.upper (lit< tt, (lit< tt, (lit< tt, tt)));
   lower_small = All-from_recursion SmallLimit sample.lower (lit< tt, (lit< tt, (lit< tt, tt)));
-  seasons = one_name 64 83 (omega arith) (letter 83 (omega arith) (omega arith));
+  seasons = one_name 64 (83 ∷ []) (omega arith) (letter 83 (omega arith) (omega arith));
   season_each = refl;
-  names = two_names 1024 65 66 (omega arith) (letter 65 (omega arith) (omega arith)) (letter 66 (omega arith) (omega arith)) (omega arith);
+  names = two_names 1024 (65 ∷ []) (66 ∷ []) (omega arith) (letter 65 (omega arith) (omega arith)) (letter 66 (omega arith) (omega arith)) (apart_at 0 (65 ∷ []) (66 ∷ []) (omega arith));
   delta_each = refl;
   delta_some = two SomeStarts (2 ∷ 2 ∷ []) (2 ∷ 2 ∷ []) (lit≤ tt, lit≤ tt) (lit≤ tt, lit≤ tt);
   delta_small = two (λ (ds : List ℕ). All Short ds) (2 ∷ 2 ∷ []) (2 ∷ 2 ∷ []) (two Short 2 2 (lit< tt) (lit< tt)) (two Short 2 2 (lit< tt) (lit< tt));
-  exclusions = one_name 65_536 69 (omega arith) (letter 69 (omega arith) (omega arith));
+  exclusions = one_name 65_536 (69 ∷ []) (omega arith) (letter 69 (omega arith) (omega arith));
   excluded_each = refl;
   excluded = one (λ (e : Exclusion). (e.first < 2) × (e.second < 2) × (e.season < 1)) each_other (omega arith, omega arith, omega arith);
   loads_each = refl;

@@ -1,3 +1,4 @@
+-- What the contracts cite.
 pub mod KeptPlans
 pub mod Scripts
 pub mod Boards

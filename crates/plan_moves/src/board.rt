@@ -1,3 +1,4 @@
+//! The starts of a plan with all that is kept of them: contracts see the instance and the starts.
 ghost use Rattle.std.specs.Prelude.{◌≡◌, ◌+◌, ◌*◌, ◌^◌, ◌<◌, ◌≤◌, pos, ◌+ℤ◌, unsigned_abs, length, map, Some, IfOk, IfSome, IsSome, IsTrue, slice_index, slice_set, swap};
 ghost use Rattle.instance_model.specs.Tables.{is_allowed};
 ghost use Rattle.instance_model.specs.Plans.{AreAllowedStarts, start_of};
@@ -127,7 +128,8 @@ impl<'a, R: Row> Board<'a, R> {
 
     /// The key of the starts.
     pub(crate) fn key(&self) -> Key
-        ensures { result ≡ key_of self.now.instance (map Some self.now.starts) }
+        ensures value { result ≡ key_of self.now.instance (map Some self.now.starts) }
+        ensures small { unsigned_abs result.score < 10 ^ 33 }
     {
         self.inst.fits();
         Key {

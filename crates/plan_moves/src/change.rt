@@ -1,3 +1,5 @@
+//! A change of a plan.
+
 /// A change of a plan. Interventions count from 0.
 #[derive(Clone, Copy, Debug, PartialEq, Eq)]
 pub enum Change {

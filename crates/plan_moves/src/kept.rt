@@ -1,4 +1,5 @@
-ghost use Rattle.std.specs.Prelude.{◌≡◌, ◌+◌, ◌<◌, ◌≤◌, ◌↔◌, max, [], ◌∷◌, length, swap, slice_index, slice_set, IfOk, OnOk, OnErr, IfSome, IsTrue};
+//! A plan that is changed and undone: contracts see the list of plans that its changes made.
+ghost use Rattle.std.specs.Prelude.{◌≡◌, ◌+◌, ◌^◌, ◌<◌, ◌≤◌, ◌↔◌, max, [], ◌∷◌, length, swap, slice_index, slice_set, unsigned_abs, IfOk, OnOk, OnErr, IfSome, IsTrue};
 ghost use Rattle.std.specs.Bool.{OnTrue, OnFalse};
 ghost use Rattle.instance_model.specs.Tables.{is_allowed};
 ghost use Rattle.instance_model.specs.Plans.{AreAllowedStarts};
@@ -109,7 +110,8 @@ impl<'a, R: Row> Kept<'a, R> {
 
     /// The key of the present plan.
     pub fn key(&self) -> Key
-        ensures { result ≡ present_key self.now.instance self.now.plans }
+        ensures value { result ≡ present_key self.now.instance self.now.plans }
+        ensures small { unsigned_abs result.score < 10 ^ 33 }
     {
         self.board.key()
     }

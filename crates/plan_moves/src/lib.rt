@@ -13,6 +13,7 @@ mod script_line;
 mod tests;
 
 pub use change::Change;
+pub use instance_model::Key;
 pub use kept::Kept;
 pub use moves::Moves;
 pub use script_line::ScriptLine;

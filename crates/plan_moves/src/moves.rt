@@ -1,3 +1,4 @@
+//! Changes in order: contracts see the list.
 ghost use Rattle.std.specs.Prelude.{◌≡◌};
 
 use crate::Change;

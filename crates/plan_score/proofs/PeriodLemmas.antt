@@ -1,7 +1,6 @@
 -- What the calls over a period make.
-use Rattle.std.proofs.Common.{◌≡◌, ℕ, ◌-◌, ◌≤◌, refl, sym, ◌∙◌, ap, arith, ℤ, pos, ◌+ℤ◌, ◌-ℤ◌, ◌*ℤ◌, List, Option, Some, None, length, unsigned_abs, to_z, of_z, Bool, true, false, cond, take, drop, ◌++◌}
+use Rattle.std.proofs.Common.{◌≡◌, ℕ, ◌-◌, ◌≤◌, refl, sym, ◌∙◌, ap, arith, ℤ, pos, ◌+ℤ◌, ◌-ℤ◌, ◌*ℤ◌, List, Option, Some, None, length, unsigned_abs, to_z, of_z, Bool, true, false, cond}
 use Rattle.std.specs.Int.{w128, int_max}
-use Rattle.std.proofs.Math.Seq.{take-append_seam}
 use Rattle.fixed_num.specs.Sums.{total}
 use Rattle.fixed_num.specs.Rank.{mth_smallest}
 use Rattle.fixed_num.proofs.Bits.{by_bits}
@@ -57,8 +56,3 @@ IsPeriod-made inst plan t n r a g xs ys sum q e w y x en er ea es eq ee ew sq ss
       numerator_small = rw bw sw;
       soft_small = sg;
     }
-
--- ---- a slice that is written back
-
-pub written_back : (xs ys : List ℤ) (n : ℕ) → length ys ≡ n → take n (ys ++ drop (length ys) xs) ≡ ys
-written_back xs ys n e = rw (sym e) (take-append_seam ys (drop (length ys) xs))

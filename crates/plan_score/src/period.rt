@@ -1,3 +1,4 @@
+//! The scenario sums of a period, from scratch, and what they come to: contracts cite the definitions.
 ghost use Rattle.std.specs.Prelude.{◌≡◌, ◌+◌, ◌*◌, ◌<◌, ◌≤◌, ◌^◌, pos, ◌+ℤ◌, length, IfOk, OnOk, IsTrue, unsigned_abs, All, slice_index_or};
 ghost use Rattle.fixed_num.specs.Sums.{total, list_of};
 ghost use Rattle.instance_model.specs.Tables.{scenarios_of, risk_of, is_allowed, in_run};
@@ -6,7 +7,7 @@ ghost use Rattle.plan_score.specs.Periods.{IsPeriod};
 
 use crate::progress::is_in_progress;
 use crate::rank::sum_at_rank;
-use fixed_num::Steps;
+use fixed_num::{Steps, Sum};
 use instance_model::{Instance, excess_above, weighted};
 use std::alloc::AllocError;
 use std::sync::ledger::Ledger;
@@ -24,37 +25,13 @@ pub(crate) struct Period {
     pub(crate) soft: u32,
 }
 
-/// Adds the risks of intervention `i` at start `s` in period `t` to the scenario sums.
-fn add_risks<L: Ledger>(
-    inst: &Instance,
-    i: u32,
-    s: u32,
-    t: u32,
-    sums: &mut [i128],
-    steps: &mut Steps<L>,
-)
-    requires number { i < length inst.now.names }
-    requires allowed { IsTrue (is_allowed inst.now i s) }
-    requires running { IsTrue (in_run inst.now i s t) }
-    requires from { 1 ≤ t }
-    requires to { t ≤ inst.now.periods }
-    requires each { length sums.old ≡ scenarios_of inst.now t }
-    requires room { All IsSmallSum sums.old }
-    ensures { sums.new ≡ list_of (scenarios_of inst.now t) (λ k.
-        slice_index_or sums.old k (pos 0) +ℤ risk_of inst.now i s t (k + 1)) }
-{
-    for k in 0..inst.scenarios(t) {
-        sums[k as usize] += inst.risk_cell(i, s, t, k + 1, steps).count();
-    }
-}
-
 /// Adds intervention `i` to the scenario sums of those before it: 1 where its start is soft in the period, and else 0.
 fn add_run<L: Ledger>(
     inst: &Instance,
     plan: &[Option<u32>],
     t: u32,
     i: u32,
-    sums: &mut [i128],
+    sums: &mut [Sum],
     steps: &mut Steps<L>,
 ) -> u32
     requires each { length plan.now ≡ length inst.now.names }
@@ -74,17 +51,17 @@ fn add_run<L: Ledger>(
     if !is_in_progress(inst, i, s, t) {
         return 0;
     }
-    add_risks(inst, i, s, t, sums, steps);
+    inst.add_risks(i, s, t, sums, steps);
     if inst.soft(i, s, t) { 1 } else { 0 }
 }
 
 /// Makes the sums `n` zeros, in the room that they have.
-fn reset(sums: &mut Vec<i128>, n: u32) -> Result<(), AllocError>
+fn reset(sums: &mut Vec<Sum>, n: u32) -> Result<(), AllocError>
     ensures { OnOk result (sums.new.items ≡ list_of n (λ k. pos 0)) }
 {
     sums.clear();
     for k in 0..n {
-        sums.push(0)?;
+        sums.push(Sum::zero())?;
     }
     Ok(())
 }
@@ -94,7 +71,7 @@ fn sum_scenarios<L: Ledger>(
     inst: &Instance,
     plan: &[Option<u32>],
     t: u32,
-    sums: &mut Vec<i128>,
+    sums: &mut Vec<Sum>,
     steps: &mut Steps<L>,
 ) -> Result<u32, AllocError>
     requires each { length plan.now ≡ length inst.now.names }
@@ -113,6 +90,21 @@ fn sum_scenarios<L: Ledger>(
     Ok(soft)
 }
 
+/// Makes the values those of the sums, in the room that they have.
+fn read_sums<L: Ledger>(
+    sums: &[Sum],
+    values: &mut Vec<i128>,
+    steps: &mut Steps<L>,
+) -> Result<(), AllocError>
+    ensures { OnOk result (values.new.items ≡ sums.now) }
+{
+    values.clear();
+    for sum in sums {
+        values.push(sum.value(steps))?;
+    }
+    Ok(())
+}
+
 /// The sum of a period's scenario sums.
 fn total_of(sums: &[i128]) -> i128
     requires few { length sums.now ≤ 1024 }
@@ -127,12 +119,13 @@ fn total_of(sums: &[i128]) -> i128
     sum
 }
 
-/// What the scenario sums of period `t` come to. They are built in `sums`, which is left in ascending order.
+/// What the scenario sums of period `t` come to. They are built in `sums`, and read into `values`, which end in order.
 pub(crate) fn period_of<L: Ledger>(
     inst: &Instance,
     plan: &[Option<u32>],
     t: u32,
-    sums: &mut Vec<i128>,
+    sums: &mut Vec<Sum>,
+    values: &mut Vec<i128>,
     steps: &mut Steps<L>,
 ) -> Result<Period, AllocError>
     requires each { length plan.now ≡ length inst.now.names }
@@ -143,8 +136,9 @@ pub(crate) fn period_of<L: Ledger>(
 {
     inst.fits();
     let soft = sum_scenarios(inst, plan, t, sums, steps)?;
-    let total = total_of(sums.as_slice());
-    let quantile = sum_at_rank(sums, inst.rank(t));
+    read_sums(sums.as_slice(), values, steps)?;
+    let total = total_of(values.as_slice());
+    let quantile = sum_at_rank(values, inst.rank(t));
     let excess = excess_above(inst.scenarios(t), quantile, total);
     let numerator = weighted(inst.alpha(), total, excess);
     Ok(Period {

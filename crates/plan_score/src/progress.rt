@@ -1,3 +1,4 @@
+//! Whether an intervention is in progress.
 ghost use Rattle.std.specs.Prelude.{◌≡◌, ◌<◌, length, IsTrue};
 ghost use Rattle.instance_model.specs.Tables.{is_allowed, in_run as in_run_of};
 

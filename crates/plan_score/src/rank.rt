@@ -1,3 +1,4 @@
+//! The scenario sum at a rank: a contract sees it as the m-th smallest of the list.
 ghost use Rattle.std.specs.Prelude.{◌≡◌, ◌≤◌, length, All};
 ghost use Rattle.fixed_num.specs.Rank.{mth_smallest};
 ghost use Rattle.instance_model.specs.Plans.{IsSmallSum};

@@ -1,3 +1,4 @@
+//! The first broken rule on starts, by intervention.
 ghost use Rattle.std.specs.Prelude.{◌≡◌, ◌<◌, length};
 ghost use Rattle.instance_model.specs.Rules.{start_rule_at, first_start_rule};
 

@@ -1,3 +1,4 @@
+//! The values of a plan over all periods: a contract sees them as the record that the definitions make.
 ghost use Rattle.std.specs.Prelude.{◌≡◌, ◌+◌, ◌*◌, ◌^◌, ◌<◌, ◌≤◌, length, IfOk, unsigned_abs};
 ghost use Rattle.instance_model.specs.Naturals.{ceil_div_of};
 ghost use Rattle.instance_model.specs.Plans.{RunsAreAllowed};
@@ -36,7 +37,7 @@ pub(crate) struct Totals {
     pub(crate) mean_slack: u64,
 }
 
-/// What all periods add up to. One vector serves for the scenario sums of each.
+/// What all periods add up to. Two vectors serve for the scenario sums of each, as sums and as numbers.
 fn totals_of<L: Ledger>(
     alloc: Global,
     inst: &Instance,
@@ -48,6 +49,7 @@ fn totals_of<L: Ledger>(
     ensures { IfOk result (AreTotals inst.now plan.now inst.now.periods) }
 {
     let mut sums = Vec::new(alloc);
+    let mut values = Vec::new(alloc);
     let mut score = Enclosure { low: 0, high: 0 };
     let mut mean = Enclosure { low: 0, high: 0 };
     let mut excess = Enclosure { low: 0, high: 0 };
@@ -55,7 +57,7 @@ fn totals_of<L: Ledger>(
     let mut mean_slack: u64 = 0;
     for u in 0..inst.periods() {
         let n = inst.scenarios(u + 1);
-        let period = period_of(inst, plan, u + 1, &mut sums, steps)?;
+        let period = period_of(inst, plan, u + 1, &mut sums, &mut values, steps)?;
         score.add(period.numerator, n);
         mean.add(period.total, n);
         excess.add_above_zero(period.excess, n, period.soft);
@@ -94,8 +96,9 @@ pub(crate) fn values_on<L: Ledger>(
     requires each { length plan.now ≡ length inst.now.names }
     requires allowed { RunsAreAllowed inst.now plan.now }
     ensures value { IfOk result (λ values. values ≡ values_of inst.now plan.now) }
-    ensures small { IfOk result (λ values. unsigned_abs values.score < 10 ^ 36) }
+    ensures small { IfOk result (λ values. unsigned_abs values.score < 10 ^ 33) }
 {
+    inst.fits();
     let mut steps: Steps<L> = Steps::zero(blank);
     let totals = totals_of(alloc, inst, plan, &mut steps)?;
     let periods = inst.periods();

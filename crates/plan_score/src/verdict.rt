@@ -1,3 +1,4 @@
+//! The verdict on a plan: contracts say when each answer comes, and what its values enclose.
 ghost use Rattle.std.specs.Prelude.{◌≡◌, ◌<◌, ◌^◌, ℕ, ℤ, List, length, None, Some, IfOk, OnErr, unsigned_abs};
 ghost use Rattle.instance_model.specs.Exact.{IsReading, EnclosesReading};
 ghost use Rattle.instance_model.specs.Plans.{RunsAreAllowed};
@@ -44,7 +45,7 @@ pub fn plan_values(
     requires each { length plan.now ≡ length inst.now.names }
     requires allowed { RunsAreAllowed inst.now plan.now }
     ensures values { IfOk result (λ values. values ≡ values_of inst.now plan.now) }
-    ensures small { IfOk result (λ values. unsigned_abs values.score < 10 ^ 36) }
+    ensures small { IfOk result (λ values. unsigned_abs values.score < 10 ^ 33) }
 {
     values_on::<Brand>(alloc, inst, plan, Blank::new(1))
 }
@@ -61,6 +62,8 @@ pub fn judge(alloc: Global, inst: &Instance, plan: &[Option<u32>]) -> Result<Ver
         first_rule inst.now plan.now ≡ None)) }
     ensures values { IfOk result (λ verdict. IfFeasible verdict (λ values.
         values ≡ values_of inst.now plan.now)) }
+    ensures small { IfOk result (λ verdict. IfFeasible verdict (λ values.
+        unsigned_abs values.score < 10 ^ 33)) }
 
     // Whatever numbers, of which f make one count, the kept counts may have been rounded from.
     ensures encloses { IfOk result (λ verdict. IfFeasible verdict (λ values.

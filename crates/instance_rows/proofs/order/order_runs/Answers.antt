@@ -11,7 +11,7 @@ use Rattle.instance_rows.proofs.Firsts.{first_more}
 use Rattle.instance_rows.proofs.Telling.{told_first}
 use Rattle.instance_rows.proofs.Turns.{lists_more}
 use Rattle.instance_rows.proofs.order.order_runs.Goals as goal
-use Rattle.instance_rows.proofs.order.order_runs.Goals.{then-is_allowed+in_ok-add_run, else-is_allowed}
+use Rattle.instance_rows.proofs.order.order_runs.Goals.{then-is_allowed_in+in_ok-add_run, else-is_allowed_in}
 
 pub loop-k-init : goal.loop-k-init
 unfolding first_of
@@ -21,7 +21,7 @@ pub returns-in_err-add_run-clause-told : goal.returns-in_err-add_run-clause-told
 returns-in_err-add_run-clause-told c =
     let p = err_from_is_err_and c.from_residual.result c.from_residual.ensures.1 in
     let a = c.args.asked.now in let ds = c.args.durations.now in let k = c.loop-k.k in
-    let b : allowed_of a.grid.now.periods ds (k + 1) ≡ true = sym c.if-is_allowed.ensures.value in
+    let b : allowed_of a.grid.now.periods ds (k + 1) ≡ true = sym c.if-is_allowed_in.ensures.value in
     rw (p.1, p.2) (told_first _ k (λ k. cond (allowed_of a.grid.now.periods ds (k + 1)) (run_fault a.counts.now a.name.now a.lists.now (k + 1) (slice_index ds k)) None) _ _
     c.loop-k-test.true c.loop-k.invariant.none (ap (λ q. cond q (run_fault a.counts.now a.name.now a.lists.now (k + 1) (slice_index ds k)) None) (sym b)) c.in_err-add_run.ensures.told)
 
@@ -37,18 +37,18 @@ loop-k-preserved c =
     let before : List ℕ = lists_below k (λ k. cond (allowed_of a.grid.now.periods ds (k + 1)) (run_order a.lists.now (k + 1) (slice_index ds k)) []) in
     record {
       none = first_more k (λ k. cond (allowed_of a.grid.now.periods ds (k + 1)) (run_fault a.counts.now a.name.now a.lists.now (k + 1) (slice_index ds k)) None) c.loop-k.invariant.none
-          (elim c.if-is_allowed.branch [
-            | then-is_allowed+in_ok-add_run w ↦ under true (sym w.if-is_allowed.ensures.value) run None ∙ w.in_ok-add_run.ensures.told
-            | else-is_allowed w ↦ under false (sym w.if-is_allowed.ensures.value) run None
+          (elim c.if-is_allowed_in.branch [
+            | then-is_allowed_in+in_ok-add_run w ↦ under true (sym w.if-is_allowed_in.ensures.value) run None ∙ w.in_ok-add_run.ensures.told
+            | else-is_allowed_in w ↦ under false (sym w.if-is_allowed_in.ensures.value) run None
           ]);
       order =
-          (elim c.if-is_allowed.branch [
-            | then-is_allowed+in_ok-add_run w ↦
+          (elim c.if-is_allowed_in.branch [
+            | then-is_allowed_in+in_ok-add_run w ↦
                 ap (λ (v : Vec ℕ Global). v.items) w.order-is ∙ w.in_ok-add_run.ensures.order ∙ ap (λ q. q ++ places) c.loop-k.invariant.order
-                ∙ ap (λ q. before ++ q) (sym (under true (sym w.if-is_allowed.ensures.value) places []))
-            | else-is_allowed w ↦
+                ∙ ap (λ q. before ++ q) (sym (under true (sym w.if-is_allowed_in.ensures.value) places []))
+            | else-is_allowed_in w ↦
                 ap (λ (v : Vec ℕ Global). v.items) w.order-is ∙ c.loop-k.invariant.order ∙ sym (append-nil before)
-                ∙ ap (λ q. before ++ q) (sym (under false (sym w.if-is_allowed.ensures.value) places []))
+                ∙ ap (λ q. before ++ q) (sym (under false (sym w.if-is_allowed_in.ensures.value) places []))
           ])
           ∙ sym (lists_more k (λ k. cond (allowed_of a.grid.now.periods ds (k + 1)) (run_order a.lists.now (k + 1) (slice_index ds k)) []));
     }

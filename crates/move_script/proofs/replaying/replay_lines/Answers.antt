@@ -18,7 +18,7 @@ returns-in_err-say_key-clause-said g c =
     let new = g.D.Desk.shows c.say_key.new.desk in
     let here = subst (Reaches inst opening script 0) (sym c.requires.alone) (reaches_none inst opening script) in
     let p = err_from_is_err_and c.from_residual.result c.from_residual.ensures.1 in
-    rw (p.1, p.2) (said_part inst opening script 0 plans inst c.key.result old old new refl c.key.ensures here (said_none inst opening script old) c.in_err-say_key.ensures.err)
+    rw (p.1, p.2) (said_part inst opening script 0 plans inst c.key.result old old new refl c.key.ensures.value here (said_none inst opening script old) c.in_err-say_key.ensures.err)
 
 pub loop-i-init : goal.loop-i-init
 loop-i-init g c =
@@ -33,7 +33,7 @@ loop-i-init g c =
       instance = refl;
       reached = here;
       room = search rules;
-      said = said_more inst opening script 0 plans inst c.key.result old old new refl c.key.ensures here (said_none inst opening script old) c.in_ok-say_key.ensures.ok;
+      said = said_more inst opening script 0 plans inst c.key.result old old new refl c.key.ensures.value here (said_none inst opening script old) c.in_ok-say_key.ensures.ok;
       later = search rules;
       same = search rules;
     }
@@ -84,7 +84,7 @@ returns-in_err-say_key-2-clause-said g c =
     let here = reaches_more inst opening script c.loop-i.i c.loop-i.kept.plans plans (Move 0 0) c.loop-i.kept.instance c.loop-i.invariant.instance c.loop-i.invariant.reached (omega arith) c.in_ok-follow.ensures.ok in
     let p = err_from_is_err_and c.from_residual-in_err-say_key-2.result c.from_residual-in_err-say_key-2.ensures.1 in
     rw (p.1, p.2) (said_part inst opening script (c.loop-i.i + 1) plans c.follow.new.kept.instance c.key-key.result old mid new
-    (c.in_ok-follow.ensures.instance ∙ c.loop-i.invariant.instance) c.key-key.ensures here c.loop-i.invariant.said c.in_err-say_key-2.ensures.err)
+    (c.in_ok-follow.ensures.instance ∙ c.loop-i.invariant.instance) c.key-key.ensures.value here c.loop-i.invariant.said c.in_err-say_key-2.ensures.err)
 
 pub loop-i-preserved : goal.loop-i-preserved
 loop-i-preserved g c =
@@ -101,7 +101,7 @@ loop-i-preserved g c =
       instance = same;
       reached = here;
       room = omega (arith, c.in_ok-follow.ensures.spare, c.loop-i.invariant.room);
-      said = said_more inst opening script (c.loop-i.i + 1) plans c.follow.new.kept.instance c.key-key.result old mid new same c.key-key.ensures here c.loop-i.invariant.said c.in_ok-say_key-2.ensures.ok;
+      said = said_more inst opening script (c.loop-i.i + 1) plans c.follow.new.kept.instance c.key-key.result old mid new same c.key-key.ensures.value here c.loop-i.invariant.said c.in_ok-say_key-2.ensures.ok;
       later = search rules;
       same = search rules;
     }

@@ -49,7 +49,7 @@ soft-requires-clause-allowed g c =
 pub returns-then-soft-clause-after : goal.returns-then-soft-clause-after
 returns-then-soft-clause-after g c =
     let running : in_run c.args.inst.now c.args.i c.in-Some.s c.args.t ≡ true = sym c.is_in_progress.ensures ∙ c.if-not-is_in_progress.false in
-    c.add_risks.ensures ∙ ap (λ (xs : List ℤ). list_of (scenarios_of c.args.inst.now c.args.t) (λ k. get_or xs k (pos 0) +ℤ risk_of c.args.inst.now c.args.i c.in-Some.s c.args.t (k + 1))) c.requires.before ∙ sums_before_more c.args.inst.now c.args.plan.now c.args.t c.args.i (λ k. risk_of c.args.inst.now c.args.i c.in-Some.s c.args.t (k + 1)) (λ k. risk_at-running c.args.inst.now c.args.t (k + 1) c.args.i c.in-Some.s (start_of c.args.plan.now c.args.i) c.in-Some.is running)
+    c.add_risks.ensures.sums ∙ ap (λ (xs : List ℤ). list_of (scenarios_of c.args.inst.now c.args.t) (λ k. get_or xs k (pos 0) +ℤ risk_of c.args.inst.now c.args.i c.in-Some.s c.args.t (k + 1))) c.requires.before ∙ sums_before_more c.args.inst.now c.args.plan.now c.args.t c.args.i (λ k. risk_of c.args.inst.now c.args.i c.in-Some.s c.args.t (k + 1)) (λ k. risk_at-running c.args.inst.now c.args.t (k + 1) c.args.i c.in-Some.s (start_of c.args.plan.now c.args.i) c.in-Some.is running)
 
 pub returns-then-soft-clause-soft : goal.returns-then-soft-clause-soft
 returns-then-soft-clause-soft g c =
@@ -59,7 +59,7 @@ returns-then-soft-clause-soft g c =
 pub returns-else-soft-clause-after : goal.returns-else-soft-clause-after
 returns-else-soft-clause-after g c =
     let running : in_run c.args.inst.now c.args.i c.in-Some.s c.args.t ≡ true = sym c.is_in_progress.ensures ∙ c.if-not-is_in_progress.false in
-    c.add_risks.ensures ∙ ap (λ (xs : List ℤ). list_of (scenarios_of c.args.inst.now c.args.t) (λ k. get_or xs k (pos 0) +ℤ risk_of c.args.inst.now c.args.i c.in-Some.s c.args.t (k + 1))) c.requires.before ∙ sums_before_more c.args.inst.now c.args.plan.now c.args.t c.args.i (λ k. risk_of c.args.inst.now c.args.i c.in-Some.s c.args.t (k + 1)) (λ k. risk_at-running c.args.inst.now c.args.t (k + 1) c.args.i c.in-Some.s (start_of c.args.plan.now c.args.i) c.in-Some.is running)
+    c.add_risks.ensures.sums ∙ ap (λ (xs : List ℤ). list_of (scenarios_of c.args.inst.now c.args.t) (λ k. get_or xs k (pos 0) +ℤ risk_of c.args.inst.now c.args.i c.in-Some.s c.args.t (k + 1))) c.requires.before ∙ sums_before_more c.args.inst.now c.args.plan.now c.args.t c.args.i (λ k. risk_of c.args.inst.now c.args.i c.in-Some.s c.args.t (k + 1)) (λ k. risk_at-running c.args.inst.now c.args.t (k + 1) c.args.i c.in-Some.s (start_of c.args.plan.now c.args.i) c.in-Some.is running)
 
 pub returns-else-soft-clause-soft : goal.returns-else-soft-clause-soft
 returns-else-soft-clause-soft g c =

@@ -1,10 +1,10 @@
 use Rattle.std.proofs.Common.{◌≡◌, ◌∙◌, ◌+◌, sym, ap, arith, pos, ℕ, length}
 use Rattle.fixed_num.specs.Sums.{list_of}
+use Rattle.fixed_num.proofs.SumLemmas.{written_back}
 use Rattle.instance_model.specs.Naturals.{count_sum}
 use Rattle.instance_model.specs.Plans.{soft_at, soft_count, start_of}
 use Rattle.instance_model.proofs.EntryLemmas.{count_sum-zero, count_sum_more}
 use Rattle.instance_model.proofs.BoardLemmas.{sums_before-none, sums_before-all, length-sums_before}
-use Rattle.plan_score.proofs.PeriodLemmas.{written_back}
 use Rattle.plan_score.proofs.period.sum_scenarios.Goals as goal
 
 pub loop-i-init : goal.loop-i-init

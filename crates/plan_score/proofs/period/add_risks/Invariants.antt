@@ -1,9 +1,0 @@
-use Rattle.std.proofs.Common.{◌≡◌, ◌<◌, ◌≤◌, ◌+◌, ℕ, ◌+ℤ◌, pos, get_or}
-use Rattle.instance_model.specs.Tables.{risk_of}
-use Rattle.plan_score.proofs.period.add_risks.Given as goal
-
-abbrev pub invariant-loop-k : goal.invariant-loop-k
-invariant-loop-k g l = record {
-  done : (j : ℕ) → j < l.k → get_or l.sums j (pos 0) ≡ get_or l.initial.sums j (pos 0) +ℤ risk_of l.inst l.i l.s l.t (j + 1);
-  rest : (j : ℕ) → l.k ≤ j → get_or l.sums j (pos 0) ≡ get_or l.initial.sums j (pos 0);
-}
