@@ -126,21 +126,14 @@ fn add_whole(words: &mut String, alloc: Global, bytes: &[u8]) -> Result<(), Text
 }
 
 /// The words of a text that is read as a whole, and its fault.
-fn words_of_whole(
-    alloc: Global,
-    bytes: &[u8],
-) -> (String, Result<(), TextFault>) {
+fn words_of_whole(alloc: Global, bytes: &[u8]) -> (String, Result<(), TextFault>) {
     let mut words = String::new(alloc);
     let end = add_whole(&mut words, alloc, bytes);
     (words, end)
 }
 
 /// The words of a text that is pushed in pieces of a size, and its fault.
-fn words_of_pieces(
-    alloc: Global,
-    bytes: &[u8],
-    size: usize,
-) -> (String, Result<(), TextFault>)
+fn words_of_pieces(alloc: Global, bytes: &[u8], size: usize) -> (String, Result<(), TextFault>)
     requires { 0 < size }
 {
     let mut words = String::new(alloc);
@@ -195,12 +188,7 @@ fn answers(
 }
 
 /// Whether the answers to three pieces are these words and this end.
-fn is_told(
-    alloc: Global,
-    pieces: [&[u8]; 3],
-    want: &str,
-    fault: Result<(), TextFault>,
-) -> bool {
+fn is_told(alloc: Global, pieces: [&[u8]; 3], want: &str, fault: Result<(), TextFault>) -> bool {
     match answers(alloc, pieces) {
         Ok((words, end)) => words.as_str() == want && end == fault,
         Err(_) => false,
@@ -236,11 +224,15 @@ fn counted_of(pull: &mut Pull) -> Option<(u64, i128)>
     requires { IsUnfinished pull.old }
     ensures { IsUnfinished pull.new }
 {
-    pull.next_counted().map(|number| (number.at, number.count.count()))
+    pull.next_counted()
+        .map(|number| (number.at, number.count.count()))
 }
 
 /// What `next_counted` tells behind the opening bracket of a list, and all that is told behind it.
-fn counted_and_rest(alloc: Global, text: &[u8]) -> Result<(Option<(u64, i128)>, String), TextFault> {
+fn counted_and_rest(
+    alloc: Global,
+    text: &[u8],
+) -> Result<(Option<(u64, i128)>, String), TextFault> {
     let mut pull = Pull::make(alloc)?;
     push_to(&mut pull, text)?;
     next_of(&mut pull)?;

@@ -32,8 +32,8 @@ pub fn fixed_of(num: &NumText) -> Result<(Fixed, bool), TooLarge>
     counted(negative, rounded(parts, 12))
 }
 
-/// The value of a number, or of a text that is a number token, where it is exactly a whole number from 0 to 999,999,999.
-/// Takes no memory.
+/// The value of a number, or of a text that is a number token, where it is exactly a whole number from 0 to
+/// 999,999,999. Takes no memory.
 pub fn whole_of(node: &Node) -> Option<u32>
     ensures whole { IfSome result (λ n. IsWholeOf (node_view node.now) n) }
     ensures no_other { (n : ℕ) → IsWholeOf (node_view node.now) n → result ≡ Some n }

@@ -13,7 +13,8 @@ use json_grammar::Parts;
 /// exponent is never made: time is linear in the token's length.
 pub(crate) fn rounded(parts: Parts<'_>, places: u32) -> Rounded
     requires { HasDigits (parts_view parts) }
-    ensures { Rounds (numerator (parts_view parts.entry) places) (denominator (parts_view parts.entry)) result.size result.differs }
+    ensures { Rounds (numerator (parts_view parts.entry) places) (denominator (parts_view parts.entry))
+        result.size result.differs }
 {
     if fits_one_word(&parts, places) {
         let size = one_word_size(&parts, places);

@@ -17,7 +17,7 @@ use Rattle.shape_walk.specs.Standing.{Walk}
 use Rattle.instance_read.specs.Keepers.{kept_of}
 use Rattle.instance_read.specs.Keeping.{rows_kept}
 use Rattle.instance_read.specs.Readers.{HaveEnded}
-use Rattle.instance_read.specs.Told.{of_rows}
+use Rattle.instance_read.specs.PartFaults.{of_rows}
 use Rattle.instance_read.specs.declared.keeper.Keeper.{Keeper}
 use Rattle.instance_read.proofs.KeepingLaw.{rows_kept-events}
 

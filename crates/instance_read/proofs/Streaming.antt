@@ -9,7 +9,7 @@ use Rattle.instance_model.specs.declared.limits.Limits.{Limits}
 use Rattle.instance_read.specs.Fed.{HasRead, HasFed, HasRest}
 use Rattle.instance_read.specs.Reading as stops
 use Rattle.instance_read.specs.Reading.{CountsStreamFault}
-use Rattle.instance_read.specs.Told.{IsOfBytes}
+use Rattle.instance_read.specs.PartFaults.{IsOfBytes}
 use Rattle.instance_read.specs.declared.fault.InstanceFault.{InstanceFault}
 use Rattle.instance_read.specs.declared.fault.StreamFault.{StreamFault}
 use Rattle.instance_read.specs.declared.fault.StreamFault.TheVariants as stream

@@ -4,4 +4,4 @@ pub mod Keepers
 pub mod Keeping
 pub mod Readers
 pub mod Reading
-pub mod Told
+pub mod PartFaults

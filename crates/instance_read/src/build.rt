@@ -9,7 +9,7 @@ ghost use Rattle.instance_read.specs.Readers.{HaveEnded, HaveEndedSomewhere};
 
 use crate::fault::InstanceFault;
 use crate::keeper::Keeper;
-use crate::told::{of_rows, of_shape};
+use crate::part_faults::{of_rows, of_shape};
 use fixed_num::Fixed;
 use instance_model::Instance;
 use instance_rows::assemble;

@@ -3,8 +3,8 @@ ghost use Rattle.std.specs.Prelude.{◌≡◌};
 ghost use Rattle.instance_read.specs.declared.fault.InstanceFault.TheVariants as instance_faults;
 ghost use Rattle.instance_read.specs.declared.fault.StreamFault.TheVariants as stream_faults;
 
-use json_grammar::Text;
 use instance_shape::{Known, Which};
+use json_grammar::Text;
 use plan_desk::Failed;
 use std::alloc::AllocError;
 use thiserror::Error;

@@ -13,11 +13,11 @@ ghost use Rattle.instance_read.specs.Keeping as spec;
 ghost use Rattle.instance_read.specs.Keepers.{kept_of};
 
 use crate::empty::{no_bands, no_rows, no_work, no_workload};
-use json_grammar::{Event, Text};
 use fixed_num::Fixed;
 use indexmap::IndexSet;
 use instance_rows::{Bands, FileRows, Load, Work, Workload};
 use instance_shape::Spot;
+use json_grammar::{Event, Text};
 use shape_walk::Read;
 use std::alloc::{AllocError, Global};
 use std::mem;

@@ -6,11 +6,11 @@ mod empty;
 mod fault;
 mod follow;
 mod keeper;
+mod part_faults;
 mod pieces;
 mod read;
 mod reader;
 mod stream;
-mod told;
 
 pub use fault::{InstanceFault, StreamFault};
 pub use instance_shape::{Known, Which};

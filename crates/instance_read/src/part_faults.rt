@@ -4,12 +4,12 @@ ghost use Rattle.std.specs.Prelude.{◌≡◌, Some};
 ghost use Rattle.instance_rows.specs.Answers.{fault_view};
 ghost use Rattle.instance_shape.specs.FileFaults.{shape, across};
 ghost use Rattle.instance_read.specs.Faults.{fault_of};
-ghost use Rattle.instance_read.specs.Told as spec;
+ghost use Rattle.instance_read.specs.PartFaults as spec;
 
 use crate::fault::{InstanceFault, StreamFault};
-use json_grammar::{Text, TextFault};
 use instance_rows::{CrossFault, RowsFault};
 use instance_shape::{Fault, Flaw};
+use json_grammar::{Text, TextFault};
 
 /// A fault of the text.
 pub fn of_text(fault: TextFault) -> InstanceFault

@@ -4,11 +4,11 @@ use crate::build::build;
 use crate::fault::InstanceFault;
 use crate::follow::{finish_events, take_events};
 use crate::keeper::Keeper;
-use crate::told::of_text;
-use json_events::Pull;
-use json_grammar::TextFault;
+use crate::part_faults::of_text;
 use fixed_num::Fixed;
 use instance_model::{Instance, Limits};
+use json_events::Pull;
+use json_grammar::TextFault;
 use shape_walk::ShapeWalk;
 use std::alloc::{AllocError, Global};
 

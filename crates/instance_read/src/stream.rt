@@ -15,9 +15,9 @@ ghost use Rattle.instance_read.specs.Fed.{HasRead, HasRest, IsUnfed};
 ghost use Rattle.instance_read.specs.Reading.{CountsStreamFault, IsCountAt as IsStreamCountAt};
 
 use crate::fault::{InstanceFault, StreamFault};
+use crate::part_faults::of_bytes;
 use crate::pieces::PIECE;
 use crate::reader::Reader;
-use crate::told::of_bytes;
 use fixed_num::Fixed;
 use instance_model::Instance;
 use plan_desk::{Desk, ReadFault};

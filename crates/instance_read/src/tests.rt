@@ -1,5 +1,5 @@
-//! Small files, with their instances and faults worked out by hand. Each call of the crate stands in a function of its own
-//! without its clauses, which the proof of a loop would carry along.
+//! Small files, with their instances and faults worked out by hand. Each call of the crate stands in a function of its
+//! own without its clauses, which the proof of a loop would carry along.
 #![tactic(auto, unfolding(instance_model::specs::Tables::in_run))]
 
 ghost use Rattle.std.specs.Prelude.{◌≡◌, ◌<◌};
@@ -50,11 +50,7 @@ fn of_bytes(alloc: Global, limits: &Limits, bytes: &[u8]) -> Result<Instance, In
 }
 
 /// The answer to the file of a desk.
-fn of_desk(
-    alloc: Global,
-    limits: &Limits,
-    desk: &mut MemDesk,
-) -> Result<Instance, StreamFault>
+fn of_desk(alloc: Global, limits: &Limits, desk: &mut MemDesk) -> Result<Instance, StreamFault>
     requires { AreStandard limits.now }
 {
     read_instance_from(alloc, limits, slack(), desk, "I")
@@ -142,7 +138,11 @@ fn tells_text(
 {
     assert_eq!(rt; told_whole(alloc, limits, bytes)?.as_str(), want);
     for most in [1usize, 7, 4096] {
-        assert_eq!(rt; told_by(alloc, limits, bytes, most)?.as_str(), want, "by {most}");
+        assert_eq!(rt;
+            told_by(alloc, limits, bytes, most)?.as_str(),
+            want,
+            "by {most}"
+        );
     }
     Ok(())
 }
@@ -236,7 +236,10 @@ fn told_within(
 ) -> Result<String, AllocError> {
     let text = GOOD.replacen(alloc, edit.0, edit.1, 1)?;
     let limits = limits_of(limit);
-    told_of_stream(alloc, of_file(alloc, &limits, text.as_bytes(), 100, failing))
+    told_of_stream(
+        alloc,
+        of_file(alloc, &limits, text.as_bytes(), 100, failing),
+    )
 }
 
 /// The standard limits with this one on the bytes.

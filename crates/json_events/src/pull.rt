@@ -151,7 +151,8 @@ impl Pull {
 
     /// The next event, where it is a number without a sign and an exponent, of at most 7 digits before the point and 12
     /// behind it, in a list or an object, and the comma behind it was pushed: its place and its exact value. `None` says
-    /// nothing of the events that are due. It takes no memory, and is a shorter way to most numbers than `next_event`.
+    /// nothing of the events that are due. It takes no memory, and is a shorter way to most numbers than
+    /// `next_event`.
     #[inline]
     pub fn next_counted(&mut self) -> Option<CountedNumber>
         requires { IsUnfinished self.old }
@@ -177,7 +178,8 @@ impl Pull {
     }
 
     /// Ends the stream, and answers the next event that is due, or `Done` where the stream is a text nested at most 16
-    /// deep and all its events are given; never `More`. Call it behind the last push until it answers `Done` or a fault.
+    /// deep and all its events are given; never `More`. Call it behind the last push until it answers `Done` or a
+    /// fault.
     ///
     /// # Errors
     ///
@@ -186,8 +188,8 @@ impl Pull {
     pub fn finish(&mut self) -> Result<Pulled, TextFault>
         ensures stands { (stream : List ℕ) (given : ℕ) (finished : Bool) → Stands self.old stream given finished →
             Stands self.new stream (given_after result given) (finished_after result finished) }
-        ensures due { (stream : List ℕ) (given : ℕ) (finished : Bool) (e : Event) → Stands self.old stream given finished →
-            result ≡ Ok (Pulled.Event e) → IsNextDue stream true given (event_view e) }
+        ensures due { (stream : List ℕ) (given : ℕ) (finished : Bool) (e : Event) →
+            Stands self.old stream given finished → result ≡ Ok (Pulled.Event e) → IsNextDue stream true given (event_view e) }
         ensures next { (stream : List ℕ) (given : ℕ) (finished : Bool) (e : Event) (tree : json.Tree) →
             Stands self.old stream given finished → result ≡ Ok (Pulled.Event e) →
             IsText stream tree → slice_get (json.events_of tree) given ≡ Some (event_view e) }

@@ -89,7 +89,8 @@ fn read_telling(
     }
 }
 
-/// Reads a number that is told by its count with the comma behind it, and the blanks before it. `None`: nothing is read.
+/// Reads a number that is told by its count with the comma behind it, and the blanks before it. `None`: nothing is
+/// read.
 #[inline]
 pub fn read_counted(machine: &mut Machine, unread: &mut Unread) -> Option<CountedNumber>
     ensures tells { IfSome result (λ number.
@@ -106,11 +107,13 @@ pub fn read_counted(machine: &mut Machine, unread: &mut Unread) -> Option<Counte
     Some(CountedNumber { at, count })
 }
 
-/// Takes a number in front that is told by its count, and the comma behind it, where a value may come and the comma too.
-/// `None`: nothing is taken.
+/// Takes a number in front that is told by its count, and the comma behind it, where a value may come and the comma
+/// too. `None`: nothing is taken.
 #[inline]
 fn take_counted(machine: &mut Machine, bytes: &[u8]) -> Option<CountedRun>
-    ensures takes { (k : ℕ) → IfSome result (λ run. TakesNumber k (state_of machine.old) bytes.now run.length (json.Event.number k (take run.length bytes.now)) (state_of machine.new)) }
+    ensures takes { (k : ℕ) → IfSome result (λ run.
+        TakesNumber k (state_of machine.old) bytes.now run.length (json.Event.number k (take run.length bytes.now))
+        (state_of machine.new)) }
     ensures within { IfSome result (λ run. run.length < length bytes.now) }
     ensures exact { IfSome result (λ run. fixed (take run.length bytes.now) ≡ Some (run.count, false)) }
     ensures sound { (k i : ℕ) → IsSound k machine.old → IsSome result → IsSound i machine.new }

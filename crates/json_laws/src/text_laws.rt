@@ -7,8 +7,8 @@ ghost use Rattle.json_grammar.specs.Prefix.{IsSyntaxFault, IsShallow, IsDepthFau
 ghost use Rattle.json_grammar.specs.Stream.{IsDue, AscendFrom};
 ghost use Rattle.json_laws.specs.Answers.{TextAnswer, IsAnswerTo, HasAnswer};
 
-/// Each byte text is the text of a tree that is nested at most 16 deep, or has a fault of syntax or of depth, and one of
-/// these alone, at one place.
+/// Each byte text is the text of a tree that is nested at most 16 deep, or has a fault of syntax or of depth, and one
+/// of these alone, at one place.
 pub fn text_has_one_answer()
     ensures some { (bytes : List ℕ) → HasAnswer bytes }
     ensures one { (bytes : List ℕ) (one other : TextAnswer) → IsAnswerTo bytes one → IsAnswerTo bytes other →

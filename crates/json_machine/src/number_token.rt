@@ -37,7 +37,8 @@ impl Machine {
         ensures sound { OnOk result (IsSound (k + 1) self.new) }
         ensures near { IfOk result (λ a. AnswerNear k a) }
         ensures moves { IfOk result
-            (λ a. step k (levels_of self.old.levels.items) (machine.number self.old.at self.old.token.items (phase_of phase)) byte
+            (λ a. step k (levels_of self.old.levels.items)
+            (machine.number self.old.at self.old.token.items (phase_of phase)) byte
             ≡ answer_of a (state_of self.new)) }
         ensures kept { OnErr result (SameMachine self.old self.new) }
     {
@@ -89,12 +90,13 @@ impl Machine {
         }))
     }
 
-    /// Takes a number in front and the comma behind it, where a value may come and the comma too, and tells no event of it:
-    /// the caller knows the number. False: nothing is taken.
+    /// Takes a number in front and the comma behind it, where a value may come and the comma too, and tells no event of
+    /// it: the caller knows the number. False: nothing is taken.
     #[inline]
     pub fn pass_number(&mut self, bytes: &[u8], length: usize) -> bool
         requires { IsBeforeComma bytes.now length }
-        ensures takes { (k : ℕ) → IsTrue result → TakesNumber k (state_of self.old) bytes.now length (json.Event.number k (take length bytes.now)) (state_of self.new) }
+        ensures takes { (k : ℕ) → IsTrue result → TakesNumber k (state_of self.old) bytes.now length
+            (json.Event.number k (take length bytes.now)) (state_of self.new) }
         ensures sound { (k i : ℕ) → IsSound k self.old → IsTrue result → IsSound i self.new }
         ensures waits { IsTrue result → (self.old.mode ≡ Mode.Want) ⊎ (self.old.mode ≡ Mode.First) }
         ensures left { result ≡ false → self.new ≡ self.old }

@@ -27,7 +27,8 @@ impl Machine {
         requires near { self.old.at < k }
         requires room { k + 1 < 2 ^ 64 }
         ensures moves { IfOk result
-            (λ a. step k (levels_of self.old.levels.items) (machine.string is_key self.old.at self.old.token.items (within_of within)) byte
+            (λ a. step k (levels_of self.old.levels.items)
+            (machine.string is_key self.old.at self.old.token.items (within_of within)) byte
             ≡ answer_of a (state_of self.new)) }
         ensures sound { OnOk result (IsSound (k + 1) self.new) }
         ensures near { IfOk result (λ a. AnswerNear k a) }

@@ -136,7 +136,8 @@ impl Machine {
     #[tactic(auto, using(crate::proofs::Levels::levels), unfolding(json_laws::specs::Machine::after_step))]
     pub(crate) fn behind_comma(&self) -> Option<Mode>
         ensures moves { IfSome result (λ mode. (k at : ℕ) (token : List ℕ) →
-            after_step k (levels_of self.now.levels.items) 44 ≡ go (levels_of self.now.levels.items) (mode_of mode at token)) }
+            after_step k (levels_of self.now.levels.items) 44
+            ≡ go (levels_of self.now.levels.items) (mode_of mode at token)) }
         ensures between { IfSome result (λ mode. (mode ≡ Mode.Want) ⊎ (mode ≡ Mode.NextKey)) }
     {
         match self.levels.last() {

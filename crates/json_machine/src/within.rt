@@ -122,7 +122,8 @@ fn tail_step(byte: u8, more: u8) -> Option<(Within, Told)>
 
 /// The same behind a first byte that narrows the second one.
 fn narrow_tail(byte: u8, low: u8, high: u8, more: u8) -> Option<(Within, Told)>
-    ensures moves { option_map moved result ≡ cond (machine.between low high byte) (Some (machine.tails more, byte ∷ [])) None }
+    ensures moves { option_map moved result
+        ≡ cond (machine.between low high byte) (Some (machine.tails more, byte ∷ [])) None }
     ensures holds { IfSome result (λ r. Holds r.0) }
 {
     if byte < low || high < byte {

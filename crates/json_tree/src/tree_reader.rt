@@ -32,7 +32,8 @@ fn advance(
         AreSound es }
     ensures sound { OnOk result (IsSound (k + 1) machine.new) }
     ensures moves { IfOk result
-        (λ taken. Advances taken k (state_of machine.old) byte (state_of machine.new) (built_of builder.old) (built_of builder.new)) }
+        (λ taken. Advances taken k (state_of machine.old) byte (state_of machine.new)
+        (built_of builder.old) (built_of builder.new)) }
 {
     if machine.quiet_step(k, byte)? {
         return Ok(true);
@@ -55,7 +56,8 @@ fn advance_aloud(
         AreSound es }
     ensures sound { OnOk result (IsSound (k + 1) machine.new) }
     ensures moves { IfOk result
-        (λ taken. Advances taken k (state_of machine.old) byte (state_of machine.new) (built_of builder.old) (built_of builder.new)) }
+        (λ taken. Advances taken k (state_of machine.old) byte (state_of machine.new)
+        (built_of builder.old) (built_of builder.new)) }
 {
     match machine.step(alloc, k, byte)? {
         Answer::Refused => return Ok(false),

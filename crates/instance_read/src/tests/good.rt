@@ -85,7 +85,10 @@ const RUNNING: [Running; 4] = [
 
 /// An instance has the sizes of the file.
 fn has_sizes(rt: &impl Abort, inst: &Instance) {
-    assert_eq!(rt; (inst.periods(), inst.resources(), inst.seasons()), (2, 1, 1));
+    assert_eq!(rt;
+        (inst.periods(), inst.resources(), inst.seasons()),
+        (2, 1, 1)
+    );
     assert_eq!(rt; (inst.interventions(), inst.exclusions()), (2, 1));
 }
 
@@ -175,12 +178,7 @@ fn has_rounding(rt: &impl Abort, inst: &Instance, running: &Running) {
 }
 
 /// It has the risks of this period.
-fn has_risks<L: Ledger>(
-    rt: &impl Abort,
-    inst: &Instance,
-    running: &Running,
-    steps: &mut Steps<L>,
-) {
+fn has_risks<L: Ledger>(rt: &impl Abort, inst: &Instance, running: &Running, steps: &mut Steps<L>) {
     is_running(rt, inst, running);
     let (i, s, t) = (running.intervention, running.start, running.period);
     assert!(rt; running.risks.len() == inst.scenarios(t) as usize);

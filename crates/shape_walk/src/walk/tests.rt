@@ -1,5 +1,7 @@
 //! Small texts, with their faults and spots worked out by hand.
 
+ghost use Rattle.json_events.specs.Pulls.{IsUnfinished};
+
 use super::*;
 use json_events::{Pull, Pulled};
 use json_grammar::{Member, Node, TextFault, Tree};
@@ -74,6 +76,11 @@ fn walk_over(
     Ok((walk.fault(), told))
 }
 
+/// The first fault of a text.
+fn fault_of(alloc: Global, limits: &Limits, text: &[u8]) -> Result<Option<Fault>, TextFault> {
+    Ok(walk_over(alloc, limits, text)?.0)
+}
+
 fn fault(at: u64, flaw: Flaw) -> Option<Fault> {
     Some(Fault { at, flaw })
 }
@@ -125,8 +132,7 @@ fn first_faults(rt: HostRuntime) -> Result<(), Fail> {
         (b"{\"Quantile\":0}", fault(12, Flaw::Shape)),
     ];
     for (text, want) in table {
-        let (fault, _) = walk_over(rt.alloc(), &limits, text)?;
-        assert_eq!(rt; fault, want);
+        assert_eq!(rt; fault_of(rt.alloc(), &limits, text)?, want);
     }
     Ok(())
 }
@@ -138,6 +144,18 @@ fn count(number: i128) -> Read {
         count,
         rounded: false,
     }
+}
+
+/// What is read of a text, with the spots.
+fn read_in(alloc: Global, text: &[u8]) -> Result<Vec<(Spot, Read)>, TextFault> {
+    let (_, told) = walk_over(alloc, &Limits::standard(), text)?;
+    let mut read = Vec::new(alloc);
+    for (spot, one) in &told {
+        if *one != Read::Nothing {
+            read.push((*spot, *one))?;
+        }
+    }
+    Ok(read)
 }
 
 #[test]
@@ -160,15 +178,19 @@ fn what_is_read(rt: HostRuntime) -> Result<(), Fail> {
         (Spot::Quantile, Read::Millionths(950_000)),
         (Spot::Alpha, Read::Millionths(500_000)),
     ];
-    let (_, told) = walk_over(rt.alloc(), &Limits::standard(), GOOD)?;
-    let mut read = Vec::new(rt.alloc());
-    for (spot, one) in &told {
-        if *one != Read::Nothing {
-            read.push((*spot, *one))?;
-        }
-    }
+    let read = read_in(rt.alloc(), GOOD)?;
     assert_eq!(rt; read.as_slice(), want.as_slice());
     Ok(())
+}
+
+/// The spots of all events of a text.
+fn spots_in(alloc: Global, text: &[u8]) -> Result<Vec<Spot>, TextFault> {
+    let (_, told) = walk_over(alloc, &Limits::standard(), text)?;
+    let mut spots = Vec::new(alloc);
+    for (spot, _) in &told {
+        spots.push(*spot)?;
+    }
+    Ok(spots)
 }
 
 #[test]
@@ -193,13 +215,17 @@ fn spots_of_all_events(rt: HostRuntime) -> Result<(), Fail> {
         Spot::Skipped,
         Spot::Root,
     ];
-    let (_, told) = walk_over(rt.alloc(), &Limits::standard(), text)?;
-    let mut spots = Vec::new(rt.alloc());
-    for (spot, _) in &told {
-        spots.push(*spot)?;
-    }
+    let spots = spots_in(rt.alloc(), text)?;
     assert_eq!(rt; spots.as_slice(), want.as_slice());
     Ok(())
+}
+
+/// The next event that is due, without the clauses of the call, which the proof of a loop would carry along.
+fn next_of(pull: &mut Pull) -> Result<Pulled, TextFault>
+    requires { IsUnfinished pull.old }
+    ensures { IsUnfinished pull.new }
+{
+    pull.next_event()
 }
 
 /// A walk over the events that the first bytes of a text tell.
@@ -209,12 +235,18 @@ fn walk_along(alloc: Global, limits: &Limits, bytes: &[u8]) -> Result<ShapeWalk,
     let mut pull = Pull::make(alloc)?;
     pull.push(bytes)?;
     for _ in 0..100 {
-        match pull.next_event()? {
+        match next_of(&mut pull)? {
             Pulled::Event(event) => tell(&mut walk, &mut told, event)?,
             Pulled::More | Pulled::Done => return Ok(walk),
         }
     }
     Ok(walk)
+}
+
+/// Where a count is awaited behind the first bytes of a text.
+fn awaited_behind(alloc: Global, bytes: &[u8]) -> Result<Option<Spot>, TextFault> {
+    let walk = walk_along(alloc, &Limits::standard(), bytes)?;
+    Ok(walk.awaits_count())
 }
 
 #[test]
@@ -235,8 +267,7 @@ fn where_counts_are_awaited(rt: HostRuntime) -> Result<(), Fail> {
         (b"{\"T\":0,\"Resources\":{\"c\":{\"max\":[", None),
     ];
     for (bytes, want) in table {
-        let walk = walk_along(rt.alloc(), &Limits::standard(), bytes)?;
-        assert_eq!(rt; walk.awaits_count(), want);
+        assert_eq!(rt; awaited_behind(rt.alloc(), bytes)?, want);
     }
     Ok(())
 }
