@@ -1,5 +1,7 @@
+-- Lemmas of desks.
 pub mod Appended
 pub mod Places
 pub mod Unread
 pub mod Kept
 pub mod Composed
+pub mod Written
