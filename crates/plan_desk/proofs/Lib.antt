@@ -5,3 +5,4 @@ pub mod Unread
 pub mod Kept
 pub mod Composed
 pub mod Written
+pub mod FileWrites

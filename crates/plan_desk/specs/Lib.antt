@@ -8,3 +8,4 @@ pub mod Mem
 pub mod Real
 pub mod Names
 pub mod Written
+pub mod FileWrites
