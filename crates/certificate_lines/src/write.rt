@@ -1,25 +1,18 @@
 // A line is written.
-ghost use Rattle.std.specs.Prelude.{◌≡◌, [], ◌∷◌, ◌++◌, decimal, OnOk, OnErr, IsTrue};
-ghost use Rattle.plan_desk.specs.Desk.{ShowsSame, after_write};
-ghost use Rattle.plan_desk.specs.Faults.{CountsFault, IsFaultOf};
-ghost use Rattle.plan_desk.specs.declared.call.DeskCall.{DeskCall};
-ghost use Rattle.text_lines.specs.Written.{WritesPart};
+ghost use Rattle.std.specs.Prelude.{◌≡◌, [], ◌∷◌, ◌++◌, IsTrue};
+ghost use Rattle.plan_desk.specs.Written.{WritesText};
 ghost use Rattle.certificate_lines.specs.Spelling.{spelling, words};
 ghost use Rattle.certificate_lines.specs.Steps.{keyword_of, operands, bound_text, side_text, version_text};
 
 use crate::keyword::Keyword;
 use crate::{Bound, CertificateLine, Side, Version};
 use fixed_num::Line;
-use plan_desk::{Desk, Failed, write_all};
+use plan_desk::{Desk, Failed, write_all, write_pieces};
 
 /// Writes a line with its line feed to the end of the file that is open. Takes no memory.
 pub fn write_line<D: Desk>(line: &CertificateLine, desk: &mut D) -> Result<(), Failed>
     requires opened { IsTrue (D.shows desk.old).output.opened }
-    ensures ok { OnOk result (ShowsSame (D.shows desk.new) (after_write (spelling line.now ++ 10 ∷ []) (D.shows desk.old))) }
-
-    // A first part of the line was written, not all of it, and the file is still open.
-    ensures err { OnErr result (WritesPart (spelling line.now ++ 10 ∷ []) (D.shows desk.old) (D.shows desk.new)) }
-    ensures faults { CountsFault (D.shows desk.old) (D.shows desk.new) (IsFaultOf DeskCall.Write (D.shows desk.old).output.name) result }
+    ensures { WritesText (spelling line.now ++ 10 ∷ []) (D.shows desk.old) (D.shows desk.new) result }
 {
     let keyword = keyword_of(line);
     write_all(desk, keyword.text())?;
@@ -30,11 +23,7 @@ pub fn write_line<D: Desk>(line: &CertificateLine, desk: &mut D) -> Result<(), F
 /// Writes the line of a tail with its line feed to the end of the file that is open. Takes no memory.
 pub fn write_tail<D: Desk>(t: u32, weight: u32, places: &[u32], desk: &mut D) -> Result<(), Failed>
     requires opened { IsTrue (D.shows desk.old).output.opened }
-    ensures ok { OnOk result (ShowsSame (D.shows desk.new) (after_write (spelling (CertificateLine.Tail t weight places.now) ++ 10 ∷ []) (D.shows desk.old))) }
-
-    // A first part of the line was written, not all of it, and the file is still open.
-    ensures err { OnErr result (WritesPart (spelling (CertificateLine.Tail t weight places.now) ++ 10 ∷ []) (D.shows desk.old) (D.shows desk.new)) }
-    ensures faults { CountsFault (D.shows desk.old) (D.shows desk.new) (IsFaultOf DeskCall.Write (D.shows desk.old).output.name) result }
+    ensures { WritesText (spelling (CertificateLine.Tail t weight places.now) ++ 10 ∷ []) (D.shows desk.old) (D.shows desk.new) result }
 {
     write_all(desk, Keyword::Tail.text())?;
     write_words(&[u64::from(t), u64::from(weight)], desk)?;
@@ -68,9 +57,7 @@ fn keyword_of(line: &CertificateLine) -> Keyword
 // Writes what follows the keyword.
 fn write_operands<D: Desk>(line: &CertificateLine, desk: &mut D) -> Result<(), Failed>
     requires opened { IsTrue (D.shows desk.old).output.opened }
-    ensures ok { OnOk result (ShowsSame (D.shows desk.new) (after_write (operands line.now) (D.shows desk.old))) }
-    ensures err { OnErr result (WritesPart (operands line.now) (D.shows desk.old) (D.shows desk.new)) }
-    ensures faults { CountsFault (D.shows desk.old) (D.shows desk.new) (IsFaultOf DeskCall.Write (D.shows desk.old).output.name) result }
+    ensures { WritesText (operands line.now) (D.shows desk.old) (D.shows desk.new) result }
 {
     match line {
         CertificateLine::Title(version) => write_version(*version, desk),
@@ -96,9 +83,7 @@ fn write_operands<D: Desk>(line: &CertificateLine, desk: &mut D) -> Result<(), F
 
 fn write_version<D: Desk>(version: Version, desk: &mut D) -> Result<(), Failed>
     requires opened { IsTrue (D.shows desk.old).output.opened }
-    ensures ok { OnOk result (ShowsSame (D.shows desk.new) (after_write (version_text version) (D.shows desk.old))) }
-    ensures err { OnErr result (WritesPart (version_text version) (D.shows desk.old) (D.shows desk.new)) }
-    ensures faults { CountsFault (D.shows desk.old) (D.shows desk.new) (IsFaultOf DeskCall.Write (D.shows desk.old).output.name) result }
+    ensures { WritesText (version_text version) (D.shows desk.old) (D.shows desk.new) result }
 {
     match version {
         Version::One => write_all(desk, b" 1"),
@@ -108,9 +93,7 @@ fn write_version<D: Desk>(version: Version, desk: &mut D) -> Result<(), Failed>
 
 fn write_bound<D: Desk>(bound: Bound, desk: &mut D) -> Result<(), Failed>
     requires opened { IsTrue (D.shows desk.old).output.opened }
-    ensures ok { OnOk result (ShowsSame (D.shows desk.new) (after_write (bound_text bound) (D.shows desk.old))) }
-    ensures err { OnErr result (WritesPart (bound_text bound) (D.shows desk.old) (D.shows desk.new)) }
-    ensures faults { CountsFault (D.shows desk.old) (D.shows desk.new) (IsFaultOf DeskCall.Write (D.shows desk.old).output.name) result }
+    ensures { WritesText (bound_text bound) (D.shows desk.old) (D.shows desk.new) result }
 {
     match bound {
         Bound::NoPlan => write_all(desk, b" none"),
@@ -120,9 +103,7 @@ fn write_bound<D: Desk>(bound: Bound, desk: &mut D) -> Result<(), Failed>
 
 fn write_band<D: Desk>(c: u64, t: u64, side: Side, desk: &mut D) -> Result<(), Failed>
     requires opened { IsTrue (D.shows desk.old).output.opened }
-    ensures ok { OnOk result (ShowsSame (D.shows desk.new) (after_write (words (c ∷ t ∷ []) ++ side_text side) (D.shows desk.old))) }
-    ensures err { OnErr result (WritesPart (words (c ∷ t ∷ []) ++ side_text side) (D.shows desk.old) (D.shows desk.new)) }
-    ensures faults { CountsFault (D.shows desk.old) (D.shows desk.new) (IsFaultOf DeskCall.Write (D.shows desk.old).output.name) result }
+    ensures { WritesText (words (c ∷ t ∷ []) ++ side_text side) (D.shows desk.old) (D.shows desk.new) result }
 {
     write_words(&[c, t], desk)?;
     write_all(desk, side_bytes(side))
@@ -145,9 +126,7 @@ fn write_pair_and_words<D: Desk>(
     desk: &mut D,
 ) -> Result<(), Failed>
     requires opened { IsTrue (D.shows desk.old).output.opened }
-    ensures ok { OnOk result (ShowsSame (D.shows desk.new) (after_write (words (t ∷ weight ∷ places.now)) (D.shows desk.old))) }
-    ensures err { OnErr result (WritesPart (words (t ∷ weight ∷ places.now)) (D.shows desk.old) (D.shows desk.new)) }
-    ensures faults { CountsFault (D.shows desk.old) (D.shows desk.new) (IsFaultOf DeskCall.Write (D.shows desk.old).output.name) result }
+    ensures { WritesText (words (t ∷ weight ∷ places.now)) (D.shows desk.old) (D.shows desk.new) result }
 {
     write_words(&[t, weight], desk)?;
     write_words(places, desk)
@@ -156,12 +135,10 @@ fn write_pair_and_words<D: Desk>(
 // Writes numbers, each behind a blank.
 fn write_words<D: Desk>(numbers: &[u64], desk: &mut D) -> Result<(), Failed>
     requires opened { IsTrue (D.shows desk.old).output.opened }
-    ensures ok { OnOk result (ShowsSame (D.shows desk.new) (after_write (words numbers.now) (D.shows desk.old))) }
-    ensures err { OnErr result (WritesPart (words numbers.now) (D.shows desk.old) (D.shows desk.new)) }
-    ensures faults { CountsFault (D.shows desk.old) (D.shows desk.new) (IsFaultOf DeskCall.Write (D.shows desk.old).output.name) result }
+    ensures { WritesText (words numbers.now) (D.shows desk.old) (D.shows desk.new) result }
 {
     for number in numbers {
-        write_word(digits_of(*number).bytes(), desk)?;
+        write_word(Line::of_natural(*number).bytes(), desk)?;
     }
     Ok(())
 }
@@ -169,12 +146,10 @@ fn write_words<D: Desk>(numbers: &[u64], desk: &mut D) -> Result<(), Failed>
 // The same of smaller numbers.
 fn write_places<D: Desk>(places: &[u32], desk: &mut D) -> Result<(), Failed>
     requires opened { IsTrue (D.shows desk.old).output.opened }
-    ensures ok { OnOk result (ShowsSame (D.shows desk.new) (after_write (words places.now) (D.shows desk.old))) }
-    ensures err { OnErr result (WritesPart (words places.now) (D.shows desk.old) (D.shows desk.new)) }
-    ensures faults { CountsFault (D.shows desk.old) (D.shows desk.new) (IsFaultOf DeskCall.Write (D.shows desk.old).output.name) result }
+    ensures { WritesText (words places.now) (D.shows desk.old) (D.shows desk.new) result }
 {
     for place in places {
-        write_word(digits_of(u64::from(*place)).bytes(), desk)?;
+        write_word(Line::of_natural(u64::from(*place)).bytes(), desk)?;
     }
     Ok(())
 }
@@ -182,17 +157,7 @@ fn write_places<D: Desk>(places: &[u32], desk: &mut D) -> Result<(), Failed>
 // Writes a blank and a word.
 fn write_word<D: Desk>(bytes: &[u8], desk: &mut D) -> Result<(), Failed>
     requires opened { IsTrue (D.shows desk.old).output.opened }
-    ensures ok { OnOk result (ShowsSame (D.shows desk.new) (after_write (32 ∷ bytes.now) (D.shows desk.old))) }
-    ensures err { OnErr result (WritesPart (32 ∷ bytes.now) (D.shows desk.old) (D.shows desk.new)) }
-    ensures faults { CountsFault (D.shows desk.old) (D.shows desk.new) (IsFaultOf DeskCall.Write (D.shows desk.old).output.name) result }
+    ensures { WritesText (32 ∷ bytes.now) (D.shows desk.old) (D.shows desk.new) result }
 {
-    write_all(desk, b" ")?;
-    write_all(desk, bytes)
-}
-
-// A number in decimal digits.
-fn digits_of(number: u64) -> Line
-    ensures { result ≡ decimal number }
-{
-    Line::of_int(i128::from(number))
+    write_pieces(desk, &[b" ", bytes])
 }

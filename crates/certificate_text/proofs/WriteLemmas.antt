@@ -1,16 +1,16 @@
 -- Lines that are written one after the other.
-use Rattle.std.proofs.Common.{◌≡◌, ℕ, ◌+◌, ◌-◌, ◌*◌, ◌/◌, ◌%◌, ◌<◌, ◌≤◌, arith, Bool, true, false, cond, ◌==◌, List, [], ◌∷◌, ◌++◌, length, take, drop, get_or, map, Option, Some, None, Result, OnOk, OnErr, refl, sym, ◌∙◌, ap, subst}
+use Rattle.std.proofs.Common.{◌≡◌, ℕ, ◌+◌, ◌-◌, ◌*◌, ◌/◌, ◌%◌, ◌<◌, ◌≤◌, arith, Bool, true, false, cond, ◌==◌, List, [], ◌∷◌, ◌++◌, length, take, drop, get_or, map, Option, Some, None, Result, Ok, Err, IsErr, refl, sym, ◌∙◌, ap, subst, append_assoc}
 use Rattle.std.specs.List.{flat_map}
 use Rattle.std.proofs.Math.Nat.{add-mul, one-mul}
 use Rattle.std.proofs.Math.Seq.{take-add}
 use Rattle.std.proofs.lemmas.Nat.{mul-le, div-mul-add, mod-mul-add, row_fits_turned}
 use Rattle.std.proofs.lemmas.List.{append-nil, take_more, take_all, take-append-drop, map-append, map_more, length-take-le, length-drop, get_or-take, get_or-drop}
 use Rattle.std.proofs.lemmas.Grind.{flat_map-append}
-use Rattle.std.proofs.lemmas.Result.{on_ok_weaker, on_err_weaker}
-use Rattle.plan_desk.specs.Desk.{Shown, ShowsSame, after_write}
-use Rattle.plan_desk.proofs.Appended.{write_none, write_more}
-use Rattle.text_lines.specs.Written.{WritesPart}
-use Rattle.text_lines.proofs.PieceLemmas.{part_more, part_longer}
+use Rattle.plan_desk.specs.declared.call.Failed.{Failed}
+use Rattle.plan_desk.specs.Desk.{Shown}
+use Rattle.plan_desk.specs.Written.{PutsText, HasPut}
+use Rattle.plan_desk.specs.Written.Way.{writing}
+use Rattle.plan_desk.proofs.Written.{begins, cut, fails, grows, last, respelled}
 use Rattle.instance_model.specs.Tables.{Tables}
 use Rattle.lagrange_bound.specs.declared.tail.Tail.{Tail}
 use Rattle.lagrange_bound.specs.Prices.{PriceList, IsPriceList, tail_of}
@@ -24,45 +24,39 @@ use Rattle.certificate_text.proofs.LimitLemmas.{limits_append, is_zero, zero_of}
 use Rattle.certificate_text.proofs.TailLemmas.{tail_line, tails_append}
 
 -- these lines were written
-abbrev pub Wrote : List CertificateLine → Shown → Shown → Type 0
-Wrote lines old new = ShowsSame new (after_write (text_of_lines lines) old)
+abbrev pub HasLines : List CertificateLine → (old new : Shown) → Type 0
+HasLines lines old new = HasPut writing (text_of_lines lines) old new
 
--- a first part of these lines was written
-abbrev pub WrotePart : List CertificateLine → Shown → Shown → Type 0
-WrotePart lines old new = WritesPart (text_of_lines lines) old new
+-- these lines are written by a call
+abbrev pub PutsLines : {T : Type 0} → List CertificateLine → (old new : Shown) → Result T Failed → Type 0
+PutsLines lines old new result = PutsText writing (text_of_lines lines) old new result
 
 text-append : (xs ys : List CertificateLine) → text_of_lines (xs ++ ys) ≡ text_of_lines xs ++ text_of_lines ys
 text-append xs ys = flat_map-append line_text xs ys
 
-module _ (xs ys : List CertificateLine) (old mid new : Shown) where
-  pub lines_more : Wrote xs old mid → Wrote ys mid new → Wrote (xs ++ ys) old new
-  lines_more h k = subst (λ bytes. ShowsSame new (after_write bytes old)) (sym (text-append xs ys)) (write_more (text_of_lines xs) (text_of_lines ys) old mid new h k)
+-- a last call writes what is left
+pub lines_last : {T : Type 0} {old mid new : Shown} (r : Result T Failed) (xs ys : List CertificateLine) → HasLines xs old mid → PutsLines ys mid new r → PutsLines (xs ++ ys) old new r
+lines_last r xs ys first puts = respelled writing (sym (text-append xs ys)) (last writing r first puts)
 
-  pub part_behind : Wrote xs old mid → WrotePart ys mid new → WrotePart (xs ++ ys) old new
-  part_behind h k = subst (λ bytes. WritesPart bytes old new) (sym (text-append xs ys)) (part_more (text_of_lines xs) (text_of_lines ys) old mid new h k)
-
-pub part_before : (xs ys : List CertificateLine) (old new : Shown) → WrotePart xs old new → WrotePart (xs ++ ys) old new
-part_before xs ys old new h = subst (λ bytes. WritesPart bytes old new) (sym (text-append xs ys)) (part_longer (text_of_lines xs) (text_of_lines ys) old new h)
-
--- the same of what a last call answers
-module _ {T E : Type 0} (r : Result T E) (xs ys : List CertificateLine) (old mid new : Shown) where
-  pub ok_more : Wrote xs old mid → OnOk r (Wrote ys mid new) → OnOk r (Wrote (xs ++ ys) old new)
-  ok_more h k = on_ok_weaker r (λ last. lines_more xs ys old mid new h last) k
-
-  pub err_more : Wrote xs old mid → OnErr r (WrotePart ys mid new) → OnErr r (WrotePart (xs ++ ys) old new)
-  err_more h k = on_err_weaker r (λ part. part_behind xs ys old mid new h part) k
+-- a call failed, and more lines were to follow
+pub lines_cut : {T U : Type 0} {e : Failed} {old new : Shown} (r : Result T Failed) → IsErr r → (xs ys : List CertificateLine) → PutsLines {T = U} xs old new (Err e) → PutsLines (xs ++ ys) old new r
+lines_cut r is xs ys puts = respelled writing (sym (text-append xs ys)) (cut writing r is (text_of_lines ys) puts)
 
 -- ---- one step of a loop
-pub nothing : (lines : List CertificateLine) (s : Shown) → lines ≡ [] → Wrote lines s s
-nothing lines s e = subst (λ ls. Wrote ls s s) (sym e) (write_none s)
+pub nothing : (lines : List CertificateLine) (s : Shown) → lines ≡ [] → HasLines lines s s
+nothing lines s e = subst (λ ls. HasLines ls s s) (sym e) (begins writing s)
 
-module _ (front more : List CertificateLine) (old mid new : Shown) (written : Wrote front old mid) where
-  pub step_on : (next : List CertificateLine) → next ≡ front ++ more → Wrote more mid new → Wrote next old new
-  step_on next e h = subst (λ ls. Wrote ls old new) (sym e) (lines_more front more old mid new written h)
+module _ (front more next : List CertificateLine) (step : next ≡ front ++ more) where
+  pub step_on : {T : Type 0} {x : T} {old mid new : Shown} → HasLines front old mid → PutsLines more mid new (Ok x) → HasLines next old new
+  step_on written puts = grows writing (ap text_of_lines step ∙ text-append front more) written puts
 
-  pub step_stops : (next rest whole : List CertificateLine) → next ≡ front ++ more → whole ≡ next ++ rest → WrotePart more mid new → WrotePart whole old new
-  step_stops next rest whole e f h =
-      subst (λ ls. WrotePart ls old new) (sym f) (part_before next rest old new (subst (λ ls. WrotePart ls old new) (sym e) (part_behind front more old mid new written h)))
+  pub step_stops : {T U : Type 0} {e : Failed} {old mid new : Shown} (r : Result T Failed) → IsErr r → (rest whole : List CertificateLine) → whole ≡ next ++ rest → HasLines front old mid → PutsLines {T = U} more mid new (Err e) → PutsLines whole old new r
+  step_stops r is rest whole f written puts =
+      fails writing r is (text_of_lines rest)
+      (ap text_of_lines f
+      ∙ text-append next rest
+      ∙ ap (λ text. text ++ text_of_lines rest) (ap text_of_lines step ∙ text-append front more)
+      ∙ append_assoc (text_of_lines front) (text_of_lines more) (text_of_lines rest)) written puts
 
 -- ---- lines that are listed, one for each element
 module _ {A : Type 0} (f : A → CertificateLine) (xs : List A) (n : ℕ) (d : A) (low : n < length xs) where

@@ -1,9 +1,6 @@
 // The entries of a price list are written.
-ghost use Rattle.std.specs.Prelude.{◌≡◌, ◌+◌, ◌<◌, ◌≤◌, [], ◌∷◌, length, map, OnOk, OnErr, IsTrue};
-ghost use Rattle.plan_desk.specs.Desk.{ShowsSame, after_write};
-ghost use Rattle.plan_desk.specs.Faults.{CountsFault, IsFaultOf};
-ghost use Rattle.plan_desk.specs.declared.call.DeskCall.{DeskCall};
-ghost use Rattle.text_lines.specs.Written.{WritesPart};
+ghost use Rattle.std.specs.Prelude.{◌≡◌, ◌+◌, ◌<◌, ◌≤◌, [], ◌∷◌, length, map, IsTrue};
+ghost use Rattle.plan_desk.specs.Written.{WritesText};
 ghost use Rattle.lagrange_bound.specs.Prices.{IsPriceList, tail_of};
 ghost use Rattle.lagrange_bound.specs.Changes.{IsBandPlace};
 ghost use Rattle.certificate_text.specs.Text.{text_of_lines, limit_lines, tail_lines, ex_line, entry_lines};
@@ -18,9 +15,7 @@ use plan_desk::{Desk, Failed};
 pub fn write_entries<D: Desk>(inst: &Instance, prices: &Prices, desk: &mut D) -> Result<(), Failed>
     requires opened { IsTrue (D.shows desk.old).output.opened }
     requires in_range { IsPriceList inst.now prices.now }
-    ensures ok { OnOk result (ShowsSame (D.shows desk.new) (after_write (text_of_lines (entry_lines inst.now prices.now)) (D.shows desk.old))) }
-    ensures err { OnErr result (WritesPart (text_of_lines (entry_lines inst.now prices.now)) (D.shows desk.old) (D.shows desk.new)) }
-    ensures faults { CountsFault (D.shows desk.old) (D.shows desk.new) (IsFaultOf DeskCall.Write (D.shows desk.old).output.name) result }
+    ensures { WritesText (text_of_lines (entry_lines inst.now prices.now)) (D.shows desk.old) (D.shows desk.new) result }
 {
     write_limits(inst, prices, Side::Over, desk)?;
     write_limits(inst, prices, Side::Under, desk)?;
@@ -37,9 +32,7 @@ fn write_limits<D: Desk>(
 ) -> Result<(), Failed>
     requires opened { IsTrue (D.shows desk.old).output.opened }
     requires in_range { IsPriceList inst.now prices.now }
-    ensures ok { OnOk result (ShowsSame (D.shows desk.new) (after_write (text_of_lines (limit_lines (limit_form side) inst.now.periods 0 (limit_table side prices.now))) (D.shows desk.old))) }
-    ensures err { OnErr result (WritesPart (text_of_lines (limit_lines (limit_form side) inst.now.periods 0 (limit_table side prices.now))) (D.shows desk.old) (D.shows desk.new)) }
-    ensures faults { CountsFault (D.shows desk.old) (D.shows desk.new) (IsFaultOf DeskCall.Write (D.shows desk.old).output.name) result }
+    ensures { WritesText (text_of_lines (limit_lines (limit_form side) inst.now.periods 0 (limit_table side prices.now))) (D.shows desk.old) (D.shows desk.new) result }
 {
     for c in 0..inst.resources() {
         write_row(inst, prices, side, c, desk)?;
@@ -58,9 +51,7 @@ fn write_row<D: Desk>(
     requires opened { IsTrue (D.shows desk.old).output.opened }
     requires in_range { IsPriceList inst.now prices.now }
     requires resource { c < length inst.now.resource_names }
-    ensures ok { OnOk result (ShowsSame (D.shows desk.new) (after_write (text_of_lines (row_lines inst.now side prices.now c)) (D.shows desk.old))) }
-    ensures err { OnErr result (WritesPart (text_of_lines (row_lines inst.now side prices.now c)) (D.shows desk.old) (D.shows desk.new)) }
-    ensures faults { CountsFault (D.shows desk.old) (D.shows desk.new) (IsFaultOf DeskCall.Write (D.shows desk.old).output.name) result }
+    ensures { WritesText (text_of_lines (row_lines inst.now side prices.now c)) (D.shows desk.old) (D.shows desk.new) result }
 {
     for u in 0..inst.periods() {
         write_limit(inst, prices, side, c, u + 1, desk)?;
@@ -80,9 +71,7 @@ fn write_limit<D: Desk>(
     requires opened { IsTrue (D.shows desk.old).output.opened }
     requires in_range { IsPriceList inst.now prices.now }
     requires place { IsBandPlace inst.now c t }
-    ensures ok { OnOk result (ShowsSame (D.shows desk.new) (after_write (text_of_lines (price_lines side (c + 1) t (limit_of inst.now side prices.now c t))) (D.shows desk.old))) }
-    ensures err { OnErr result (WritesPart (text_of_lines (price_lines side (c + 1) t (limit_of inst.now side prices.now c t))) (D.shows desk.old) (D.shows desk.new)) }
-    ensures faults { CountsFault (D.shows desk.old) (D.shows desk.new) (IsFaultOf DeskCall.Write (D.shows desk.old).output.name) result }
+    ensures { WritesText (text_of_lines (price_lines side (c + 1) t (limit_of inst.now side prices.now c t))) (D.shows desk.old) (D.shows desk.new) result }
 {
     let v = limit_price(inst, prices, side, c, t);
     if v == 0 {
@@ -105,9 +94,7 @@ fn limit_price(inst: &Instance, prices: &Prices, side: Side, c: u32, t: u32) -> 
 fn write_tails<D: Desk>(inst: &Instance, prices: &Prices, desk: &mut D) -> Result<(), Failed>
     requires opened { IsTrue (D.shows desk.old).output.opened }
     requires in_range { IsPriceList inst.now prices.now }
-    ensures ok { OnOk result (ShowsSame (D.shows desk.new) (after_write (text_of_lines (tail_lines 1 prices.now.tails)) (D.shows desk.old))) }
-    ensures err { OnErr result (WritesPart (text_of_lines (tail_lines 1 prices.now.tails)) (D.shows desk.old) (D.shows desk.new)) }
-    ensures faults { CountsFault (D.shows desk.old) (D.shows desk.new) (IsFaultOf DeskCall.Write (D.shows desk.old).output.name) result }
+    ensures { WritesText (text_of_lines (tail_lines 1 prices.now.tails)) (D.shows desk.old) (D.shows desk.new) result }
 {
     for u in 0..inst.periods() {
         write_tail_of(inst, prices, u + 1, desk)?;
@@ -126,9 +113,7 @@ fn write_tail_of<D: Desk>(
     requires in_range { IsPriceList inst.now prices.now }
     requires from { 1 ≤ t }
     requires to { t ≤ inst.now.periods }
-    ensures ok { OnOk result (ShowsSame (D.shows desk.new) (after_write (text_of_lines (tail_lines t (tail_of prices.now t ∷ []))) (D.shows desk.old))) }
-    ensures err { OnErr result (WritesPart (text_of_lines (tail_lines t (tail_of prices.now t ∷ []))) (D.shows desk.old) (D.shows desk.new)) }
-    ensures faults { CountsFault (D.shows desk.old) (D.shows desk.new) (IsFaultOf DeskCall.Write (D.shows desk.old).output.name) result }
+    ensures { WritesText (text_of_lines (tail_lines t (tail_of prices.now t ∷ []))) (D.shows desk.old) (D.shows desk.new) result }
 {
     match prices.tail(inst, t) {
         Some(tail) => write_tail(t, tail.weight, tail.places.as_slice(), desk),
@@ -138,9 +123,7 @@ fn write_tail_of<D: Desk>(
 
 fn write_ex<D: Desk>(ex: &[ExPrice], desk: &mut D) -> Result<(), Failed>
     requires opened { IsTrue (D.shows desk.old).output.opened }
-    ensures ok { OnOk result (ShowsSame (D.shows desk.new) (after_write (text_of_lines (map ex_line ex.now)) (D.shows desk.old))) }
-    ensures err { OnErr result (WritesPart (text_of_lines (map ex_line ex.now)) (D.shows desk.old) (D.shows desk.new)) }
-    ensures faults { CountsFault (D.shows desk.old) (D.shows desk.new) (IsFaultOf DeskCall.Write (D.shows desk.old).output.name) result }
+    ensures { WritesText (text_of_lines (map ex_line ex.now)) (D.shows desk.old) (D.shows desk.new) result }
 {
     for x in ex {
         put_line(line_of_ex(*x), desk)?;

@@ -1,9 +1,6 @@
 // One line is written.
-ghost use Rattle.std.specs.Prelude.{◌+◌, [], ◌∷◌, OnOk, OnErr, IsTrue, ◌≡◌};
-ghost use Rattle.plan_desk.specs.Desk.{ShowsSame, after_write};
-ghost use Rattle.plan_desk.specs.Faults.{CountsFault, IsFaultOf};
-ghost use Rattle.plan_desk.specs.declared.call.DeskCall.{DeskCall};
-ghost use Rattle.text_lines.specs.Written.{WritesPart};
+ghost use Rattle.std.specs.Prelude.{◌+◌, [], ◌∷◌, IsTrue, ◌≡◌};
+ghost use Rattle.plan_desk.specs.Written.{WritesText};
 ghost use Rattle.certificate_text.specs.Text.{text_of_lines, node_line, ex_line};
 ghost use Rattle.certificate_text.specs.Steps.{limit_form};
 
@@ -14,9 +11,7 @@ use plan_desk::{Desk, Failed};
 
 pub fn put_line<D: Desk>(line: CertificateLine, desk: &mut D) -> Result<(), Failed>
     requires opened { IsTrue (D.shows desk.old).output.opened }
-    ensures ok { OnOk result (ShowsSame (D.shows desk.new) (after_write (text_of_lines (line ∷ [])) (D.shows desk.old))) }
-    ensures err { OnErr result (WritesPart (text_of_lines (line ∷ [])) (D.shows desk.old) (D.shows desk.new)) }
-    ensures faults { CountsFault (D.shows desk.old) (D.shows desk.new) (IsFaultOf DeskCall.Write (D.shows desk.old).output.name) result }
+    ensures { WritesText (text_of_lines (line ∷ [])) (D.shows desk.old) (D.shows desk.new) result }
 {
     write_line(&line, desk)
 }

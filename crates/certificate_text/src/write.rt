@@ -1,10 +1,7 @@
 // A certificate is written.
-ghost use Rattle.std.specs.Prelude.{[], ◌∷◌, ◌++◌, length, map, All, OnOk, OnErr, IsTrue};
+ghost use Rattle.std.specs.Prelude.{[], ◌∷◌, ◌++◌, length, map, All, IsTrue};
 ghost use Rattle.std.specs.List.{flat_map};
-ghost use Rattle.plan_desk.specs.Desk.{ShowsSame, after_write};
-ghost use Rattle.plan_desk.specs.Faults.{CountsFault, IsFaultOf};
-ghost use Rattle.plan_desk.specs.declared.call.DeskCall.{DeskCall};
-ghost use Rattle.text_lines.specs.Written.{WritesPart};
+ghost use Rattle.plan_desk.specs.Written.{WritesText};
 ghost use Rattle.lagrange_bound.specs.Prices.{IsPriceList};
 ghost use Rattle.branch_tree.specs.Ranges.{IsInRange};
 ghost use Rattle.certificate_text.specs.Text.{text_of_lines, list_lines, node_line, tree_lines, certificate_text};
@@ -26,11 +23,7 @@ pub fn write_certificate<D: Desk>(
 ) -> Result<(), Failed>
     requires opened { IsTrue (D.shows desk.old).output.opened }
     requires in_range { IsInRange inst.now cert.now }
-    ensures ok { OnOk result (ShowsSame (D.shows desk.new) (after_write (certificate_text inst.now cert.now) (D.shows desk.old))) }
-
-    // A first part of the text was written, not all of it, and the file is still open.
-    ensures err { OnErr result (WritesPart (certificate_text inst.now cert.now) (D.shows desk.old) (D.shows desk.new)) }
-    ensures faults { CountsFault (D.shows desk.old) (D.shows desk.new) (IsFaultOf DeskCall.Write (D.shows desk.old).output.name) result }
+    ensures { WritesText (certificate_text inst.now cert.now) (D.shows desk.old) (D.shows desk.new) result }
 {
     write_header(cert, desk)?;
     write_lists(inst, cert.lists.as_slice(), desk)?;
@@ -39,9 +32,7 @@ pub fn write_certificate<D: Desk>(
 
 fn write_header<D: Desk>(cert: &Certificate, desk: &mut D) -> Result<(), Failed>
     requires opened { IsTrue (D.shows desk.old).output.opened }
-    ensures ok { OnOk result (ShowsSame (D.shows desk.new) (after_write (text_of_lines (header_lines cert.now)) (D.shows desk.old))) }
-    ensures err { OnErr result (WritesPart (text_of_lines (header_lines cert.now)) (D.shows desk.old) (D.shows desk.new)) }
-    ensures faults { CountsFault (D.shows desk.old) (D.shows desk.new) (IsFaultOf DeskCall.Write (D.shows desk.old).output.name) result }
+    ensures { WritesText (text_of_lines (header_lines cert.now)) (D.shows desk.old) (D.shows desk.new) result }
 {
     put_line(CertificateLine::Title(cert.version), desk)?;
     put_line(CertificateLine::Bound(cert.bound), desk)?;
@@ -52,9 +43,7 @@ fn write_header<D: Desk>(cert: &Certificate, desk: &mut D) -> Result<(), Failed>
 fn write_lists<D: Desk>(inst: &Instance, lists: &[Prices], desk: &mut D) -> Result<(), Failed>
     requires opened { IsTrue (D.shows desk.old).output.opened }
     requires in_range { All (IsPriceList inst.now) lists.now }
-    ensures ok { OnOk result (ShowsSame (D.shows desk.new) (after_write (text_of_lines (flat_map (list_lines inst.now) lists.now)) (D.shows desk.old))) }
-    ensures err { OnErr result (WritesPart (text_of_lines (flat_map (list_lines inst.now) lists.now)) (D.shows desk.old) (D.shows desk.new)) }
-    ensures faults { CountsFault (D.shows desk.old) (D.shows desk.new) (IsFaultOf DeskCall.Write (D.shows desk.old).output.name) result }
+    ensures { WritesText (text_of_lines (flat_map (list_lines inst.now) lists.now)) (D.shows desk.old) (D.shows desk.new) result }
 {
     for prices in lists {
         write_list(inst, prices, desk)?;
@@ -65,9 +54,7 @@ fn write_lists<D: Desk>(inst: &Instance, lists: &[Prices], desk: &mut D) -> Resu
 fn write_list<D: Desk>(inst: &Instance, prices: &Prices, desk: &mut D) -> Result<(), Failed>
     requires opened { IsTrue (D.shows desk.old).output.opened }
     requires in_range { IsPriceList inst.now prices.now }
-    ensures ok { OnOk result (ShowsSame (D.shows desk.new) (after_write (text_of_lines (list_lines inst.now prices.now)) (D.shows desk.old))) }
-    ensures err { OnErr result (WritesPart (text_of_lines (list_lines inst.now prices.now)) (D.shows desk.old) (D.shows desk.new)) }
-    ensures faults { CountsFault (D.shows desk.old) (D.shows desk.new) (IsFaultOf DeskCall.Write (D.shows desk.old).output.name) result }
+    ensures { WritesText (text_of_lines (list_lines inst.now prices.now)) (D.shows desk.old) (D.shows desk.new) result }
 {
     put_line(CertificateLine::Prices, desk)?;
     write_entries(inst, prices, desk)
@@ -75,9 +62,7 @@ fn write_list<D: Desk>(inst: &Instance, prices: &Prices, desk: &mut D) -> Result
 
 fn write_tree<D: Desk>(nodes: &[Node], desk: &mut D) -> Result<(), Failed>
     requires opened { IsTrue (D.shows desk.old).output.opened }
-    ensures ok { OnOk result (ShowsSame (D.shows desk.new) (after_write (text_of_lines (tree_lines nodes.now)) (D.shows desk.old))) }
-    ensures err { OnErr result (WritesPart (text_of_lines (tree_lines nodes.now)) (D.shows desk.old) (D.shows desk.new)) }
-    ensures faults { CountsFault (D.shows desk.old) (D.shows desk.new) (IsFaultOf DeskCall.Write (D.shows desk.old).output.name) result }
+    ensures { WritesText (text_of_lines (tree_lines nodes.now)) (D.shows desk.old) (D.shows desk.new) result }
 {
     put_line(CertificateLine::Tree, desk)?;
     write_nodes(nodes, desk)
@@ -85,9 +70,7 @@ fn write_tree<D: Desk>(nodes: &[Node], desk: &mut D) -> Result<(), Failed>
 
 fn write_nodes<D: Desk>(nodes: &[Node], desk: &mut D) -> Result<(), Failed>
     requires opened { IsTrue (D.shows desk.old).output.opened }
-    ensures ok { OnOk result (ShowsSame (D.shows desk.new) (after_write (text_of_lines (map node_line nodes.now)) (D.shows desk.old))) }
-    ensures err { OnErr result (WritesPart (text_of_lines (map node_line nodes.now)) (D.shows desk.old) (D.shows desk.new)) }
-    ensures faults { CountsFault (D.shows desk.old) (D.shows desk.new) (IsFaultOf DeskCall.Write (D.shows desk.old).output.name) result }
+    ensures { WritesText (text_of_lines (map node_line nodes.now)) (D.shows desk.old) (D.shows desk.new) result }
 {
     for node in nodes {
         put_line(line_of_node(*node), desk)?;

@@ -1,5 +1,5 @@
 //! A short text on the stack.
-ghost use Rattle.std.specs.Prelude.{◌≡◌, ◌+◌, ◌<◌, ◌≤◌, ◌^◌, List, ℕ, [], ◌++◌, length, take};
+ghost use Rattle.std.specs.Prelude.{◌≡◌, ◌+◌, ◌<◌, ◌≤◌, ◌^◌, List, ℕ, [], ◌++◌, decimal, length, take};
 ghost use Rattle.std.specs.Fmt.{signed_decimal};
 ghost use Rattle.fixed_num.specs.Texts.{fixed_text, padded};
 
@@ -35,6 +35,13 @@ impl Line {
         let mut line = Line::empty();
         line.push(Buffer::new().format(n).as_bytes());
         line
+    }
+
+    /// The decimal digits of a number from 0 on.
+    pub fn of_natural(n: u64) -> Line
+        ensures { result ≡ decimal n }
+    {
+        Line::of_int(i128::from(n))
     }
 
     /// The text of `n / 10^12` with 12 decimals.
@@ -103,6 +110,13 @@ mod tests {
             (i128::MIN, "-170141183460469231731687303715884105728"),
         ] {
             assert_eq!(rt; Line::of_int(n).bytes(), text.as_bytes(), "{n}");
+        }
+    }
+
+    #[test]
+    fn writes_numbers_from_0_on(rt: HostRuntime) {
+        for (n, text) in [(0, "0"), (10, "10"), (u64::MAX, "18446744073709551615")] {
+            assert_eq!(rt; Line::of_natural(n).bytes(), text.as_bytes(), "{n}");
         }
     }
 

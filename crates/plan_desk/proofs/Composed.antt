@@ -1,8 +1,8 @@
 -- One call of a desk after another, as its callers compose them.
-use Rattle.std.proofs.Common.{◌≡◌, List, ℕ, ◌++◌, refl, sym, ◌∙◌, ap, subst, append_assoc}
+use Rattle.std.proofs.Common.{◌≡◌, ◌≤◌, List, ℕ, ◌++◌, refl, sym, ◌∙◌, ap, subst, append_assoc, arith}
 use Rattle.std.specs.Prelude.{Option, Some, None, option_map, IfSome, IsSomeAnd}
 use Rattle.plan_desk.specs.Desk.{Shown, Input, Output, ShowsSame, after_take_in, after_say}
-use Rattle.plan_desk.specs.Contents.{WhereToldHolds, TellsSuch, Says}
+use Rattle.plan_desk.specs.Contents.{WhereToldHolds, TellsSuch, Says, OnlyReads, KeepsFiles}
 
 -- a piece was said
 pub says_all : (text : List ℕ) (old new : Shown) → ShowsSame new (after_say text old) → Says text old new
@@ -52,3 +52,32 @@ told_holds name P Q s tells holds = go s.input.unread s.output.holds tells holds
     go None files p q = absurd p
     go (Some xs) None p q = absurd p
     go (Some xs) (Some files) p q = held_such (files name) p q
+
+-- nothing was done
+pub reads_none : (s : Shown) → OnlyReads s s
+reads_none s = record { output = refl; said = refl; later = omega arith }
+
+pub keeps_none : (s : Shown) → KeepsFiles s s
+keeps_none s = record { output = refl; later = omega arith }
+
+-- one such call was made after another
+pub reads_more : (old mid new : Shown) → OnlyReads old mid → OnlyReads mid new → OnlyReads old new
+reads_more old mid new first next = record {
+  output = next.output ∙ first.output;
+  said = next.said ∙ first.said;
+  later = omega (arith, first.later, next.later);
+}
+
+pub keeps_more : (old mid new : Shown) → KeepsFiles old mid → KeepsFiles mid new → KeepsFiles old new
+keeps_more old mid new first next = record {
+  output = next.output ∙ first.output;
+  later = omega (arith, first.later, next.later);
+}
+
+-- a call that only reads writes no file
+pub reads_keeps : (old new : Shown) → OnlyReads old new → KeepsFiles old new
+reads_keeps old new reads = record { output = reads.output; later = reads.later }
+
+-- what is said after a call that only reads is said since before it
+pub says_after : (text : List ℕ) (old mid new : Shown) → OnlyReads old mid → Says text mid new → Says text old new
+says_after text old mid new reads said = said ∙ ap (option_map (λ xs. xs ++ text)) reads.said

@@ -39,3 +39,14 @@ IsCountAt limit Memory count = count ≤ limit
 abbrev pub StopsAt : List ℕ → (limit : ℕ) → (old new : Shown) → ReadFault → Type 0
 StopsAt name limit old new fault = ((fault ≡ Failed) × ShowsSame new (after_failed_take_in old))
     ⊎ ((bytes : List ℕ) × ((count : ℕ) × (IsCountAt limit fault count × (HoldsBytes old name bytes × ShowsSame new (after_take_in name (drop count bytes) old)))))
+
+-- a call that only reads: what files hold and what was said is as before, and the count of faults never falls
+pub record OnlyReads (old new : Shown) : Type 0 where
+  pub output : new.output ≡ old.output
+  pub said : new.said ≡ old.said
+  pub later : old.faults ≤ new.faults
+
+-- a call that writes no file: what files hold is as before, and the count of faults never falls
+pub record KeepsFiles (old new : Shown) : Type 0 where
+  pub output : new.output ≡ old.output
+  pub later : old.faults ≤ new.faults

@@ -1,3 +1,4 @@
+-- What contracts say of a desk.
 pub mod Desk
 pub mod Faults
 pub mod Contents
@@ -6,3 +7,5 @@ pub mod Stored
 pub mod Mem
 pub mod Real
 pub mod Names
+pub mod Written
+pub mod FileWrites

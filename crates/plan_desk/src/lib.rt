@@ -19,7 +19,7 @@ mod real;
 pub use bytes::Bytes;
 pub use call::{DeskCall, Failed};
 pub use desk::Desk;
-pub use loops::{read_all, say_all, write_all};
+pub use loops::{read_all, say_all, say_pieces, write_all, write_pieces};
 pub use mem::MemDesk;
 pub use read_fault::ReadFault;
 pub use real::RealDesk;

@@ -1,7 +1,9 @@
 // Loops over a desk, until a file is read or a piece is taken whole.
 ghost use Rattle.std.specs.Prelude.{◌≡◌, ℕ, ◌+◌, ◌<◌, ◌≤◌, List, [], ◌++◌, length, take, drop, vec_len, IfOk, OnOk, OnErr, IfErr, IfSome, IsErrOf, IsTrue};
-ghost use Rattle.plan_desk.specs.Desk.{ShowsSame, after_take_in, after_read, all_read, after_write, after_say};
-ghost use Rattle.plan_desk.specs.Faults.{CountsFault, CountsReadFault, IsFaultOf, IsReadFaultOf};
+ghost use Rattle.std.specs.List.{flat_map};
+ghost use Rattle.plan_desk.specs.Desk.{ShowsSame, after_take_in, after_read, all_read};
+ghost use Rattle.plan_desk.specs.Faults.{CountsReadFault, IsFaultOf, IsReadFaultOf};
+ghost use Rattle.plan_desk.specs.Written.{WritesText, SaysText};
 ghost use Rattle.plan_desk.specs.Contents.{WhereToldHolds, StopsReading, StopsAt, IsCountAt};
 ghost use Rattle.plan_desk.specs.declared.call.DeskCall.{DeskCall};
 
@@ -43,12 +45,7 @@ pub fn read_all<D: Desk>(
 /// Writes the whole piece to the file that is open. Takes no memory.
 pub fn write_all<D: Desk>(desk: &mut D, piece: &[u8]) -> Result<(), Failed>
     requires opened { IsTrue (D.shows desk.old).output.opened }
-    ensures ok { OnOk result (ShowsSame (D.shows desk.new) (after_write piece.now (D.shows desk.old))) }
-
-    // A first part of the piece was written, not all of it, and the file is still open.
-    ensures err { OnErr result ((n : ℕ) × (n < length piece.now)
-        × ShowsSame (D.shows desk.new) (after_write (take n piece.now) (D.shows desk.old))) }
-    ensures faults { CountsFault (D.shows desk.old) (D.shows desk.new) (IsFaultOf DeskCall.Write (D.shows desk.old).output.name) result }
+    ensures { WritesText piece.now (D.shows desk.old) (D.shows desk.new) result }
 {
     let mut written = 0;
     while written < piece.len() {
@@ -59,16 +56,32 @@ pub fn write_all<D: Desk>(desk: &mut D, piece: &[u8]) -> Result<(), Failed>
 
 /// Says the whole piece. Takes no memory.
 pub fn say_all<D: Desk>(desk: &mut D, piece: &[u8]) -> Result<(), Failed>
-    ensures ok { OnOk result (ShowsSame (D.shows desk.new) (after_say piece.now (D.shows desk.old))) }
-
-    // A first part of the piece was said, not all of it.
-    ensures err { OnErr result ((n : ℕ) × (n < length piece.now)
-        × ShowsSame (D.shows desk.new) (after_say (take n piece.now) (D.shows desk.old))) }
-    ensures faults { CountsFault (D.shows desk.old) (D.shows desk.new) (IsFaultOf DeskCall.Say (Some [])) result }
+    ensures { SaysText piece.now (D.shows desk.old) (D.shows desk.new) result }
 {
     let mut said = 0;
     while said < piece.len() {
         said += desk.say(&piece[said..])?;
+    }
+    Ok(())
+}
+
+/// Writes the pieces, one behind another, to the file that is open. Takes no memory.
+pub fn write_pieces<D: Desk>(desk: &mut D, pieces: &[&[u8]]) -> Result<(), Failed>
+    requires opened { IsTrue (D.shows desk.old).output.opened }
+    ensures { WritesText (flat_map (λ piece. piece.now) pieces.now) (D.shows desk.old) (D.shows desk.new) result }
+{
+    for piece in pieces {
+        write_all(desk, piece)?;
+    }
+    Ok(())
+}
+
+/// Says the pieces, one behind another. Takes no memory.
+pub fn say_pieces<D: Desk>(desk: &mut D, pieces: &[&[u8]]) -> Result<(), Failed>
+    ensures { SaysText (flat_map (λ piece. piece.now) pieces.now) (D.shows desk.old) (D.shows desk.new) result }
+{
+    for piece in pieces {
+        say_all(desk, piece)?;
     }
     Ok(())
 }

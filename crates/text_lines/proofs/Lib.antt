@@ -1,7 +1,6 @@
 pub mod LineLemmas
 pub mod DigitLemmas
 pub mod NameLemmas
-pub mod PieceLemmas
 pub mod NumeralLemmas
 pub mod TestLemmas
 pub mod CutLemmas
