@@ -6,3 +6,4 @@ pub mod LoadLemmas
 pub mod MeetingLemmas
 pub mod Refuting
 pub mod Soundness
+pub mod LeafLemmas

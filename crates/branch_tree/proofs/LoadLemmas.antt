@@ -60,9 +60,9 @@ start_passed side f p a s best l h t =
     let m : a + (s - a) ≡ s = omega (arith, l) in
     h ∙ sym (ap (λ (k : ℕ). some_extreme side f (filter p (range_with_len a k))) n ∙ ap (some_extreme side f) (filter_more p a (s - a) s m ∙ ap (λ (b : Bool). filter p (range_with_len a (s - a)) ++ cond b (s ∷ []) []) t ∙ append-nil (filter p (range_with_len a (s - a)))))
 
-pub all_taken : (side : Side) (f : ℕ → ℤ) (inst : Tables) (i : ℕ) (span : Span) (s : ℕ) (best : Option ℤ) → s ≡ span.to + 1 → best ≡ some_extreme side f (filter (is_allowed inst i) (range_with_len span.from (s - span.from))) → best ≡ some_extreme side f (starts_in inst i span)
+pub all_taken : (side : Side) (f : ℕ → ℤ) (inst : Tables) (i : ℕ) (span : Span) (s : ℕ) (best : Option ℤ) → s - span.from ≡ span.to + 1 - span.from → best ≡ some_extreme side f (filter (is_allowed inst i) (range_with_len span.from (s - span.from))) → best ≡ some_extreme side f (starts_in inst i span)
 unfolding starts_in
-all_taken side f inst i span s best e h = subst (λ (s : ℕ). best ≡ some_extreme side f (filter (is_allowed inst i) (range_with_len span.from (s - span.from)))) e h
+all_taken side f inst i span s best e h = subst (λ (k : ℕ). best ≡ some_extreme side f (filter (is_allowed inst i) (range_with_len span.from k))) e h
 
 -- ---- where there is a start, and where there is none
 pub extreme_found : (side : Side) (f : ℕ → ℤ) (ks : List ℕ) (o : Option ℤ) (z : ℤ) → o ≡ some_extreme side f ks → o ≡ Some z → (0 < length ks) × (z ≡ extreme_over side f ks)

@@ -8,29 +8,27 @@ use Rattle.instance_model.specs.Tables.{Tables, is_allowed, in_run, upper_of, lo
 use Rattle.instance_model.specs.Fitting.{IsFitting}
 use Rattle.instance_model.specs.Plans.{start_of, is_running, load_at, load_sum}
 use Rattle.instance_model.specs.Rules.{IsFeasible}
+use Rattle.instance_model.proofs.BoardLemmas.{start_of-starts}
 use Rattle.instance_model.proofs.RuleLemmas.{KeepsRules-from}
 use Rattle.lagrange_bound.specs.declared.span.Span.{Span}
 use Rattle.lagrange_bound.specs.Least.{least_over}
 use Rattle.lagrange_bound.specs.Boxes.{span_of, starts_in, IsPlanIn}
+use Rattle.lagrange_bound.specs.TailLemmas.{least_over_le}
+use Rattle.lagrange_bound.proofs.WorthLemmas.{named, running}
 use Rattle.certificate_lines.specs.declared.line.Side.{Side}
 use Rattle.certificate_lines.specs.declared.line.Side.TheVariants.{Over, Under}
 use Rattle.branch_tree.specs.Loads.{greatest_over, load_by_start, least_load, greatest_load}
 use Rattle.branch_tree.specs.Holding.{IsStartIn, BandHolds, ExclHolds, IsSingle, first_starts}
-use Rattle.branch_tree.proofs.StartLemmas.{in_starts, least_over_le, greatest_over_ge}
+use Rattle.branch_tree.proofs.StartLemmas.{in_starts, greatest_over_ge}
 
 -- ---- the starts of a plan
-pub start_of-map : (xs : List ℕ) (j : ℕ) → j < length xs → start_of (map Some xs) j ≡ Some (get_or xs j 0)
-start_of-map [] j h = absurd (omega (arith, h))
-start_of-map (x ∷ xs) zero h = refl
-start_of-map (x ∷ xs) (suc j) h = start_of-map xs j (omega (arith, h))
-
 some_same : {A : Type 0} (a b : A) → Some a ≡ Some b → a ≡ b
 some_same a b e = cc
 
 pub feasible_allowed : (inst : Tables) (starts : List ℕ) → length starts ≡ length inst.names → IsFeasible inst (map Some starts) → (i : ℕ) → i < length inst.names → IsTrue (is_allowed inst i (get_or starts i 0))
 feasible_allowed inst starts each f i h =
     let w = (KeepsRules-from inst (map Some starts) f).starts i h in
-    let e = some_same w.start (get_or starts i 0) (sym w.given ∙ start_of-map starts i (rw each h)) in
+    let e = some_same w.start (get_or starts i 0) (sym w.given ∙ start_of-starts starts i (rw each h)) in
     subst (λ (s : ℕ). IsTrue (is_allowed inst i s)) e w.allowed
 
 pub start_in : (inst : Tables) (box : List Span) (starts : List ℕ) (i : ℕ) → IsPlanIn inst box starts → i < length inst.names → IsStartIn inst box i (get_or starts i 0)
@@ -43,7 +41,7 @@ start_in inst box starts i p l = record {
 -- ---- loads
 loads_same : (inst : Tables) (starts : List ℕ) (c t : ℕ) → length starts ≡ length inst.names → load_sum inst (map Some starts) c t ≡ sum_below (length inst.names) (λ i. load_by_start inst c t i (get_or starts i 0))
 unfolding load_sum load_by_start
-loads_same inst starts c t each = sum_below_same (length inst.names) (λ i. load_at inst c t i (start_of (map Some starts) i)) (λ i. load_at inst c t i (Some (get_or starts i 0))) (λ i l. ap (λ (o : Option ℕ). load_at inst c t i o) (start_of-map starts i (rw each l)))
+loads_same inst starts c t each = sum_below_same (length inst.names) (λ i. load_at inst c t i (start_of (map Some starts) i)) (λ i. load_at inst c t i (Some (get_or starts i 0))) (λ i l. ap (λ (o : Option ℕ). load_at inst c t i o) (start_of-starts starts i (rw each l)))
 
 least_load_le : (inst : Tables) (box : List Span) (starts : List ℕ) (c t : ℕ) → IsPlanIn inst box starts → least_load inst box c t ≤ℤ load_sum inst (map Some starts) c t
 unfolding least_load
@@ -63,19 +61,12 @@ band_refutes inst box starts c t Over p l m n h = between (least_load inst box c
 band_refutes inst box starts c t Under p l m n h = between (lower_of inst c t) (load_sum inst (map Some starts) c t) (greatest_load inst box c t) ((KeepsRules-from inst (map Some starts) p.feasible).loads c t l m n).not_below (greatest_load_ge inst box starts c t p) h.load
 
 -- ---- exclusions
-named : (inst : Tables) (e : ℕ) → IsFitting inst → e < length inst.exclusion_names → ((exclusion_of inst e).first < length inst.names) × ((exclusion_of inst e).second < length inst.names)
-unfolding exclusion_of
-named inst e f h = let w = f.excluded e (record { first = 0; second = 0; season = 0 }) (omega (arith, h, f.excluded_each)) in (w.0, w.1)
-
-runs : (inst : Tables) (starts : List ℕ) (i t : ℕ) → length starts ≡ length inst.names → i < length inst.names → IsTrue (in_run inst i (get_or starts i 0) t) → IsTrue (is_running inst (map Some starts) i t)
-runs inst starts i t each l h = rw (start_of-map starts i (rw each l)) h
-
 pub excl_refutes : (inst : Tables) (box : List Span) (starts : List ℕ) (e : ℕ) → IsFitting inst → IsPlanIn inst box starts → e < length inst.exclusion_names → ExclHolds inst box e → ⊥
 excl_refutes inst box starts e f p l h =
     let x = exclusion_of inst e in
     let w = named inst e f l in
     let m = h (get_or starts x.first 0) (get_or starts x.second 0) (start_in inst box starts x.first p w.0) (start_in inst box starts x.second p w.1) in
-    (KeepsRules-from inst (map Some starts) p.feasible).seasons e m.0 l m.1.from m.1.to m.1.season (runs inst starts x.first m.0 p.each w.0 m.1.first, runs inst starts x.second m.0 p.each w.1 m.1.second)
+    (KeepsRules-from inst (map Some starts) p.feasible).seasons e m.0 l m.1.from m.1.to m.1.season (running inst starts x.first m.0 (omega (arith, w, p.each)) m.1.first, running inst starts x.second m.0 (omega (arith, w, p.each)) m.1.second)
 
 -- ---- a box of single starts
 from_at : (box : List Span) (k : ℕ) → get_or (first_starts box) k 0 ≡ (span_of box k).from

@@ -69,7 +69,7 @@ plan_kept inst box starts i x p h l m = record {
   to = λ j n. changed_at (λ j y. get_or starts j 0 ≤ y.to) box i x h m j (p.to j n);
 }
 
-le_or_lt : (x y : ℕ) → (x ≤ y) ⊎ (y < x)
+pub le_or_lt : (x y : ℕ) → (x ≤ y) ⊎ (y < x)
 le_or_lt x y = at (nat_le x y) refl
   where
     at : (b : Bool) → nat_le x y ≡ b → (x ≤ y) ⊎ (y < x)

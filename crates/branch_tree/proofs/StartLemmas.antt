@@ -1,35 +1,21 @@
--- Allowed starts of an interval, and the least and the greatest value over them.
+-- Allowed starts of an interval, and the greatest value over places.
 use Rattle.std.proofs.Common.{◌≡◌, ℕ, zero, suc, ◌+◌, ◌-◌, ◌<◌, refl, sym, ◌∙◌, ap, subst, arith, ℤ, ◌≤ℤ◌, Bool, true, false, cond, List, [], ◌∷◌, length, get_or, map, fold, filter, IsTrue, Contains, All, Option, Some, None, is_some, IfSome, IfNone}
 use Rattle.std.specs.List.{range_with_len}
-use Rattle.std.specs.Int.{int_min, int_max}
-use Rattle.std.proofs.lemmas.Int.{fold-int_max_bounds, fold-int_min_bounds}
+use Rattle.std.specs.Int.{int_max}
+use Rattle.std.proofs.lemmas.Int.{fold-int_max_bounds}
 use Rattle.std.proofs.lemmas.List.Elements.{All-contains}
 use Rattle.std.proofs.lemmas.List.FromFn.{get_or-range_with_len, length-range_with_len}
 use Rattle.instance_model.specs.Tables.{Tables, is_allowed}
 use Rattle.std.proofs.lemmas.Bool.{false≢true}
 use Rattle.duration_calendar.specs.Calendar.{IsAllowedIn, IsFirstAllowed}
 use Rattle.lagrange_bound.specs.declared.span.Span.{Span}
-use Rattle.lagrange_bound.specs.Least.{least_over}
 use Rattle.lagrange_bound.specs.Boxes.{starts_in}
+use Rattle.lagrange_bound.proofs.WorthLemmas.{in_starts as is_in_starts}
 use Rattle.branch_tree.specs.Loads.{greatest_over}
 
 -- ---- starts in an interval
-contains_filter : (p : ℕ → Bool) (xs : List ℕ) (x : ℕ) → Contains xs x → p x ≡ true → Contains (filter p xs) x
-contains_filter p [] x (k, h, e) t = absurd (omega (arith, h))
-contains_filter p (y ∷ xs) x (zero, h, e) t = subst (λ (z : ℕ). Contains (cond (p z) (z ∷ filter p xs) (filter p xs)) x) (sym e) (subst (λ (b : Bool). Contains (cond b (x ∷ filter p xs) (filter p xs)) x) (sym t) (zero, omega arith, refl))
-contains_filter p (y ∷ xs) x (suc k, h, e) t = at (p y) (contains_filter p xs x (k, omega (arith, h), e) t)
-  where
-    at : (b : Bool) → Contains (filter p xs) x → Contains (cond b (y ∷ filter p xs) (filter p xs)) x
-    at true (j, l, e) = (suc j, omega (arith, l), e)
-    at false c = c
-
 pub in_starts : (inst : Tables) (i s : ℕ) (span : Span) → IsAllowedIn inst i span.from span.to s → Contains (starts_in inst i span) s
-unfolding starts_in
-in_starts inst i s span a =
-    contains_filter (is_allowed inst i) (range_with_len span.from (span.to + 1 - span.from)) s (s - span.from, rw (length-range_with_len span.from (span.to + 1 - span.from)) (omega (arith, a.from, a.to)), get_or-range_with_len span.from (span.to + 1 - span.from) (s - span.from) s (omega (arith, a.from, a.to)) ∙ back) a.allowed
-  where
-    back : span.from + (s - span.from) ≡ s
-    back = omega (arith, a.from)
+in_starts inst i s span a = is_in_starts inst i s span a.allowed a.from a.to
 
 pub has_start_from : (inst : Tables) (i s : ℕ) (span : Span) → IsAllowedIn inst i span.from span.to s → 0 < length (starts_in inst i span)
 has_start_from inst i s span a = let w = in_starts inst i s span a in omega (arith, w.1)
@@ -48,15 +34,6 @@ greatest_over_ge f (j ∷ ks) k c = at c (fold-int_max_bounds (f j) (map f ks) (
     at : Contains (j ∷ ks) k → ((f j ≤ℤ fold int_max (f j) (map f ks)) × All (λ x. x ≤ℤ fold int_max (f j) (map f ks)) (map f ks)) → f k ≤ℤ fold int_max (f j) (map f ks)
     at (zero, h, e) b = subst (λ (i : ℕ). f i ≤ℤ fold int_max (f j) (map f ks)) e b.0
     at (suc i, h, e) b = All-contains (λ x. x ≤ℤ fold int_max (f j) (map f ks)) (map f ks) (f k) b.1 (mapped f ks i k (omega (arith, h)) e)
-
-pub least_over_le : (f : ℕ → ℤ) (ks : List ℕ) (k : ℕ) → Contains ks k → least_over f ks ≤ℤ f k
-unfolding least_over
-least_over_le f [] k (i, h, e) = absurd (omega (arith, h))
-least_over_le f (j ∷ ks) k c = at c (fold-int_min_bounds (f j) (map f ks) (fold int_min (f j) (map f ks)) refl)
-  where
-    at : Contains (j ∷ ks) k → ((fold int_min (f j) (map f ks) ≤ℤ f j) × All (λ x. fold int_min (f j) (map f ks) ≤ℤ x) (map f ks)) → fold int_min (f j) (map f ks) ≤ℤ f k
-    at (zero, h, e) b = subst (λ (i : ℕ). fold int_min (f j) (map f ks) ≤ℤ f i) e b.0
-    at (suc i, h, e) b = All-contains (λ x. fold int_min (f j) (map f ks) ≤ℤ x) (map f ks) (f k) b.1 (mapped f ks i k (omega (arith, h)) e)
 
 -- ---- a start that is found
 found : (p : ℕ → Bool) (xs : List ℕ) → 0 < length (filter p xs) → (x : ℕ) × Contains xs x × (p x ≡ true)

@@ -1,3 +1,4 @@
+-- What the contracts cite.
 pub mod Trees
 pub mod Loads
 pub mod Extremes

@@ -1,6 +1,6 @@
 -- Trees of boxes. A split of intervention i after start m has a left part with the starts up to m, and a right part with those
 -- from m + 1 on.
-use Rattle.std.specs.Prelude.{ℕ, ◌+◌, ◌<◌, ◌≤◌, List, [], ◌∷◌, ◌++◌, length, map, slice_set}
+use Rattle.std.specs.Prelude.{◌≡◌, ℕ, ◌+◌, ◌<◌, ◌≤◌, List, [], ◌∷◌, ◌++◌, length, map, slice_index, slice_set}
 use Rattle.std.specs.List.{range_with_len}
 use Rattle.instance_model.specs.Tables.{Tables, tmax}
 use Rattle.lagrange_bound.specs.declared.span.Span.{Span}
@@ -37,6 +37,12 @@ pub record IsSplit (box : List Span) (i m : ℕ) : Type 0 where
   pub number : i < length box
   pub from : (span_of box i).from ≤ m
   pub to : m < (span_of box i).to
+
+-- one start for each interval, within it
+pub record AreStartsIn (box : List Span) (starts : List ℕ) : Type 0 where
+  pub each : length starts ≡ length box
+  pub from : (i : ℕ) → i < length box → (span_of box i).from ≤ slice_index starts i
+  pub to : (i : ℕ) → i < length box → slice_index starts i ≤ (span_of box i).to
 
 -- ---- leaves
 

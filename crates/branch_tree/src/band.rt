@@ -1,6 +1,7 @@
-ghost use Rattle.std.specs.Prelude.{◌≡◌, ◌<◌, ◌≤◌, ◌^◌, ◌*◌, length, IsTrue, ◌↔◌, IfSome, IfNone, unsigned_abs};
-ghost use Rattle.instance_model.specs.Tables.{is_allowed};
-ghost use Rattle.lagrange_bound.specs.Boxes.{IsBox, HasStarts, starts_in};
+//! The test of a `band` leaf: its contract says that it is exact.
+ghost use Rattle.std.specs.Prelude.{◌≡◌, ℕ, ◌<◌, ◌≤◌, ◌^◌, ◌*◌, length, IsTrue, ◌↔◌, IfSome, IfNone, unsigned_abs};
+ghost use Rattle.instance_model.specs.Tables.{is_allowed, tmax};
+ghost use Rattle.lagrange_bound.specs.Boxes.{HasStarts, span_of, starts_in};
 ghost use Rattle.branch_tree.specs.Loads.{load_by_start};
 ghost use Rattle.branch_tree.specs.Extremes.{extreme, extreme_with, some_extreme, extreme_load};
 ghost use Rattle.branch_tree.specs.Holding.{BandHolds};
@@ -50,7 +51,6 @@ fn furthest(side: Side, best: Option<Fixed>, load: Fixed) -> Fixed
 fn extreme_load_in(inst: &Instance, c: u32, t: u32, side: Side, i: u32, span: Span) -> Option<Fixed>
     requires number { i < length inst.now.names }
     requires resource { c < length inst.now.resource_names }
-    requires order { span.from ≤ span.to }
     requires small { span.to ≤ 512 }
     ensures { result ≡ some_extreme side (load_by_start inst.now c t i) (starts_in inst.now i span) }
 {
@@ -65,7 +65,8 @@ fn extreme_load_in(inst: &Instance, c: u32, t: u32, side: Side, i: u32, span: Sp
 
 /// The sum of these loads over all interventions, where each interval has an allowed start.
 fn extreme_load_of(inst: &Instance, spans: &[Span], c: u32, t: u32, side: Side) -> Option<i128>
-    requires spans { IsBox inst.now spans.now }
+    requires each { length spans.now ≡ length inst.now.names }
+    requires ends { (i : ℕ) → i < length inst.now.names → (span_of spans.now i).to ≤ tmax inst.now i }
     requires resource { c < length inst.now.resource_names }
     ensures value { IfSome result (λ load. load ≡ extreme_load inst.now spans.now c t side) }
     ensures small { IfSome result (λ load. unsigned_abs load ≤ 1024 * 10 ^ 20) }
@@ -83,9 +84,10 @@ fn extreme_load_of(inst: &Instance, spans: &[Span], c: u32, t: u32, side: Side) 
 }
 
 /// Whether each interval has an allowed start, and whatever they are, the load of resource `c` in period `t` leaves the limit of
-/// this side. Takes no memory.
+/// this side. An interval may end before it begins: it has no start then. Takes no memory.
 pub fn band_holds(inst: &Instance, spans: &[Span], c: u32, t: u32, side: Side) -> bool
-    requires spans { IsBox inst.now spans.now }
+    requires each { length spans.now ≡ length inst.now.names }
+    requires ends { (i : ℕ) → i < length inst.now.names → (span_of spans.now i).to ≤ tmax inst.now i }
     requires resource { c < length inst.now.resource_names }
     requires from { 1 ≤ t }
     requires to { t ≤ inst.now.periods }

@@ -1,3 +1,4 @@
+//! A walk over the boxes of a tree: contracts see the list of the boxes that wait.
 ghost use Rattle.std.specs.Prelude.{◌≡◌, ◌<◌, [], ◌∷◌, length, IsTrue, IfOk, OnOk, OnErr, ◌↔◌, All, reverse};
 ghost use Rattle.std.specs.Bool.{OnTrue, OnFalse};
 ghost use Rattle.branch_tree.specs.Trees.{IsSplit, below, above, root_box};

@@ -1,3 +1,4 @@
+//! A certificate, as plain data.
 use crate::{Nodes, PriceLists};
 use certificate_lines::{Bound, Version};
 

@@ -1,7 +1,8 @@
-ghost use Rattle.std.specs.Prelude.{ℕ, ◌<◌, ◌≤◌, length, IsTrue, ◌↔◌};
+//! The test of an `excl` leaf: its contract says that it is exact.
+ghost use Rattle.std.specs.Prelude.{◌≡◌, ℕ, ◌<◌, ◌≤◌, length, IsTrue, ◌↔◌};
 ghost use Rattle.duration_calendar.specs.Windows.{IsInHorizon};
-ghost use Rattle.instance_model.specs.Tables.{is_allowed};
-ghost use Rattle.lagrange_bound.specs.Boxes.{IsBox};
+ghost use Rattle.instance_model.specs.Tables.{is_allowed, tmax};
+ghost use Rattle.lagrange_bound.specs.Boxes.{span_of};
 ghost use Rattle.branch_tree.specs.Holding.{ExclHolds};
 ghost use Rattle.branch_tree.specs.Meetings.{MeetsAt, MeetsEach, EachMeetsEach};
 
@@ -26,7 +27,6 @@ fn meets_each(inst: &Instance, season: u32, window: Window, i: u32, span: Span) 
     requires season { season < length inst.now.season_names }
     requires horizon { IsInHorizon inst.now window }
     requires number { i < length inst.now.names }
-    requires order { span.from ≤ span.to }
     requires small { span.to ≤ 512 }
     ensures { IsTrue result ↔ MeetsEach inst.now season window i span }
 {
@@ -45,9 +45,7 @@ fn each_meets_each(inst: &Instance, exclusion: Exclusion, first: Span, second: S
     requires season { exclusion.season < length inst.now.season_names }
     requires number { exclusion.first < length inst.now.names }
     requires other { exclusion.second < length inst.now.names }
-    requires order { first.from ≤ first.to }
     requires small { first.to ≤ 512 }
-    requires second_order { second.from ≤ second.to }
     requires second_small { second.to ≤ 512 }
     ensures { IsTrue result ↔ EachMeetsEach inst.now exclusion first second }
 {
@@ -63,9 +61,10 @@ fn each_meets_each(inst: &Instance, exclusion: Exclusion, first: Span, second: S
 }
 
 /// Whether each pair of allowed starts, one of each of the two interventions of exclusion `e`, meets in a period of its
-/// season; also where it names one intervention twice. Takes no memory.
+/// season; also where it names one intervention twice. An interval may end before it begins. Takes no memory.
 pub fn excl_holds(inst: &Instance, spans: &[Span], e: u32) -> bool
-    requires spans { IsBox inst.now spans.now }
+    requires each { length spans.now ≡ length inst.now.names }
+    requires ends { (i : ℕ) → i < length inst.now.names → (span_of spans.now i).to ≤ tmax inst.now i }
     requires exclusion { e < length inst.now.exclusion_names }
     ensures { IsTrue result ↔ ExclHolds inst.now spans.now e }
 {

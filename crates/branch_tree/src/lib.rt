@@ -20,7 +20,10 @@ pub use box_path::BoxPath;
 pub use certificate::Certificate;
 pub use certificate_lines::{Bound, Side, Version};
 pub use excl::excl_holds;
-pub use laws::{nodes_are_one_tree, parts_are_boxes, parts_hold_plans, valid_bounds_plans};
+pub use laws::{
+    leaves_hold_starts, leaves_refute_plans, nodes_are_one_tree, parts_are_boxes, parts_hold_plans,
+    parts_hold_starts, valid_bounds_plans,
+};
 pub use node::{Node, Nodes};
 pub use price_lists::PriceLists;
 pub use starts::{has_start, has_starts};

@@ -1,3 +1,4 @@
+//! Nodes of a tree in pre-order: contracts see the list.
 ghost use Rattle.std.specs.Prelude.{◌≡◌};
 
 use certificate_lines::Side;

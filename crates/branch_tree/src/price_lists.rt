@@ -1,3 +1,4 @@
+//! The price lists of a certificate: contracts see the list.
 ghost use Rattle.std.specs.Prelude.{◌≡◌};
 
 use lagrange_bound::Prices;

@@ -1,5 +1,7 @@
-ghost use Rattle.std.specs.Prelude.{◌≡◌, ◌<◌, ◌≤◌, length, IsTrue, ◌↔◌};
-ghost use Rattle.lagrange_bound.specs.Boxes.{IsBox, HasStarts, span_of, starts_in};
+//! The intervals of a box, and whether they have allowed starts.
+ghost use Rattle.std.specs.Prelude.{◌≡◌, ℕ, ◌<◌, ◌≤◌, length, IsTrue, ◌↔◌};
+ghost use Rattle.instance_model.specs.Tables.{tmax};
+ghost use Rattle.lagrange_bound.specs.Boxes.{HasStarts, span_of, starts_in};
 
 use duration_calendar::first_allowed;
 use instance_model::Instance;
@@ -7,10 +9,10 @@ use lagrange_bound::Span;
 
 /// The interval of intervention `i`.
 pub(crate) fn span_at(inst: &Instance, spans: &[Span], i: u32) -> Span
-    requires spans { IsBox inst.now spans.now }
+    requires each { length spans.now ≡ length inst.now.names }
+    requires ends { (k : ℕ) → k < length inst.now.names → (span_of spans.now k).to ≤ tmax inst.now k }
     requires number { i < length inst.now.names }
     ensures value { result ≡ span_of spans.now i }
-    ensures order { result.from ≤ result.to }
     ensures small { result.to ≤ 512 }
 {
     let _few = inst.periods();
@@ -28,11 +30,11 @@ pub fn has_start(inst: &Instance, i: u32, span: Span) -> bool
 
 /// Whether each interval of a box has an allowed start. Takes no memory.
 pub fn has_starts(inst: &Instance, spans: &[Span]) -> bool
-    requires { IsBox inst.now spans.now }
+    requires { length spans.now ≡ length inst.now.names }
     ensures { IsTrue result ↔ HasStarts inst.now spans.now }
 {
     for i in 0..inst.interventions() {
-        if !has_start(inst, i, span_at(inst, spans, i)) {
+        if !has_start(inst, i, spans[i as usize]) {
             return false;
         }
     }

@@ -1,3 +1,4 @@
+//! The walk over the nodes of a certificate, for any goal: its contract is the verdict, and what that proves.
 ghost use Rattle.std.specs.Prelude.{◌≡◌, IfOk};
 ghost use Rattle.branch_tree.specs.Ranges.{IsInRange};
 ghost use Rattle.branch_tree.specs.Validity.{BoundsPlans};

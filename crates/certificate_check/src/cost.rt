@@ -1,3 +1,4 @@
+//! The test of a `cost` leaf.
 ghost use Rattle.std.specs.Prelude.{◌<◌, ◌≤◌, ◌^◌, length, IsTrue, ◌↔◌, unsigned_abs};
 ghost use Rattle.lagrange_bound.specs.Boxes.{IsBox};
 ghost use Rattle.branch_tree.specs.Ranges.{IsBoundInRange};

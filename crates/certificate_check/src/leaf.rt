@@ -1,3 +1,4 @@
+//! The test of any leaf on its box.
 ghost use Rattle.std.specs.Prelude.{length, IsTrue, IfOk, ◌↔◌};
 ghost use Rattle.lagrange_bound.specs.Boxes.{IsBox};
 ghost use Rattle.branch_tree.specs.Ranges.{IsBoundInRange, IsLeafInRange};

@@ -1,3 +1,4 @@
+//! The test of a `point` leaf.
 ghost use Rattle.std.specs.Prelude.{◌≡◌, map, Some, length, IsTrue, IfOk, ◌↔◌};
 ghost use Rattle.lagrange_bound.specs.Boxes.{IsBox};
 ghost use Rattle.branch_tree.specs.Ranges.{IsBoundInRange};
@@ -5,7 +6,7 @@ ghost use Rattle.branch_tree.specs.Holding.{IsSingle, first_starts, PointHolds};
 
 use crate::cost::is_at_least;
 use branch_tree::Bound;
-use instance_model::Instance;
+use instance_model::{Instance, plan_of};
 use lagrange_bound::{Goal, Span};
 use plan_score::broken_rule;
 use std::alloc::{AllocError, Global};
@@ -31,17 +32,6 @@ fn starts_of(alloc: Global, spans: &[Span]) -> Result<Vec<u32>, AllocError>
         starts.push(span.from)?;
     }
     Ok(starts)
-}
-
-/// The plan of these starts.
-fn plan_of(alloc: Global, starts: &[u32]) -> Result<Vec<Option<u32>>, AllocError>
-    ensures { IfOk result (λ plan. plan.items ≡ map Some starts.now) }
-{
-    let mut plan = Vec::new(alloc);
-    for start in starts {
-        plan.push(Some(*start))?;
-    }
-    Ok(plan)
 }
 
 /// Whether each interval is a single start, and the plan of these starts isn't feasible or has a value of at least the bound.

@@ -1,3 +1,4 @@
+//! The check for the score, which the program makes.
 ghost use Rattle.std.specs.Prelude.{◌≡◌, IfOk};
 ghost use Rattle.lagrange_bound.specs.Goals.{risk_base, risk_value};
 ghost use Rattle.branch_tree.specs.Ranges.{IsInRange};

@@ -1,3 +1,4 @@
+//! The price tables of a certificate's lists, the list of zeros first.
 ghost use Rattle.std.specs.Prelude.{All, IfOk};
 ghost use Rattle.lagrange_bound.specs.Prices.{IsPriceList};
 ghost use Rattle.certificate_check.specs.Priced.{AreTables};

@@ -1,4 +1,4 @@
-//! Exact numbers: counts of 10^-12, their sums, whole numbers that are kept, quotients and texts, and a counter of steps.
+//! Exact numbers: counts of 10^-12, their sums, amounts, quotients and texts, and a counter of steps.
 #![tactic(auto)]
 
 mod amount;

@@ -27,10 +27,18 @@ two_pairs R x y r = AllPairs-cons R x (y ∷ []) (one (R x) y r) (one_pairs R y)
 -- ---- names of one and two bytes
 
 pub letter : (b : ℕ) → 32 < b → b ≢ 127 → IsName (b ∷ [])
-letter b low other = record { some = omega arith; short = omega arith; printed = one (λ c. (32 < c) × (c ≢ 127)) b (low, other) }
+letter b low other = record {
+  some = omega arith;
+  short = omega arith;
+  printed = one (λ c. (32 < c) × (c ≢ 127)) b (low, other);
+}
 
 pub two_letters : (a b : ℕ) → 32 < a → a ≢ 127 → 32 < b → b ≢ 127 → IsName (a ∷ b ∷ [])
-two_letters a b la na lb nb = record { some = omega arith; short = omega arith; printed = two (λ c. (32 < c) × (c ≢ 127)) a b (la, na) (lb, nb) }
+two_letters a b la na lb nb = record {
+  some = omega arith;
+  short = omega arith;
+  printed = two (λ c. (32 < c) × (c ≢ 127)) a b (la, na) (lb, nb);
+}
 
 -- two names are not the same where they differ in their byte at k
 pub apart_at : (k : ℕ) (xs ys : List ℕ) → get_or xs k 0 ≢ get_or ys k 0 → xs ≢ ys
@@ -42,11 +50,19 @@ pub no_names : (limit : ℕ) → AreNames limit []
 no_names limit = record { few = omega arith; shaped = All-nil IsName; apart = no_pairs (λ a b. a ≢ b) }
 
 pub one_name : (limit : ℕ) (name : List ℕ) → 1 ≤ limit → IsName name → AreNames limit (name ∷ [])
-one_name limit name few fits = record { few = omega (arith, few); shaped = one IsName name fits; apart = one_pairs (λ a b. a ≢ b) name }
+one_name limit name few fits = record {
+  few = omega (arith, few);
+  shaped = one IsName name fits;
+  apart = one_pairs (λ a b. a ≢ b) name;
+}
 
 pub two_names : (limit : ℕ) (a b : List ℕ) → 2 ≤ limit → IsName a → IsName b → a ≢ b → AreNames limit (a ∷ b ∷ [])
 two_names limit a b few first second other =
-    record { few = omega (arith, few); shaped = two IsName a b first second; apart = two_pairs (λ a b. a ≢ b) a b other }
+    record {
+      few = omega (arith, few);
+      shaped = two IsName a b first second;
+      apart = two_pairs (λ a b. a ≢ b) a b other;
+    }
 
 -- ---- workloads
 

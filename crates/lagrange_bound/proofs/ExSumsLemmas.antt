@@ -4,7 +4,6 @@ use Rattle.std.specs.List.{AllByRecursion}
 use Rattle.std.proofs.lemmas.Bool.Decides.{nat_tests}
 use Rattle.std.proofs.lemmas.Nat.{same_from_place, mul-add-lt}
 use Rattle.std.proofs.lemmas.List.{get_or-set_same, get_or-set_other, get_or-replicate, get_or_past, length-replicate, get_or_append_left, get_or_push, length-append, take_all}
-use Rattle.std.proofs.Math.Seq.{take-append_seam}
 use Rattle.std.proofs.Math.ListN.{length-set}
 use Rattle.std.proofs.lemmas.List.Sums.{sum_by_more}
 use Rattle.std.proofs.lemmas.List.Recursion.{is_sum_by}
@@ -108,10 +107,6 @@ pub AreExSums-all : (inst : Tables) (xs ys : List ExPrice) (n : ℕ) (sums : Lis
 AreExSums-all inst xs ys n sums h e same =
     let whole : take n xs ≡ ys = ap (λ (m : ℕ). take m xs) e ∙ take_all (length xs) xs (omega arith) ∙ same in
     subst (λ (zs : List ExPrice). AreExSums inst zs sums) whole h
-
--- a whole slice that is written back
-pub written_back : (xs ys : List ℕ) (n : ℕ) → length ys ≡ n → take n (ys ++ drop (length ys) xs) ≡ ys
-written_back xs ys n e = ap (λ (m : ℕ). take m (ys ++ drop (length ys) xs)) (sym e) ∙ take-append_seam ys (drop (length ys) xs)
 
 pub small_more : (a old new : ℕ) → new ≤ old + 2_000_000_000 → old ≤ a * 2_000_000_000 → new ≤ (a + 1) * 2_000_000_000
 small_more a old new h k = omega arith

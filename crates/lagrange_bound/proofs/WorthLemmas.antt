@@ -32,7 +32,7 @@ starts_allowed inst starts each k = record { each = each; allowed = λ i l. at i
     at i l w = subst (λ (s : ℕ). IsTrue (is_allowed inst i s)) (some w.start (get_or starts i 0) (sym w.given ∙ start_of-starts starts i l)) w.allowed
 
 -- an allowed start in an interval is among its allowed starts
-in_starts : (inst : Tables) (i s : ℕ) (span : Span) → IsTrue (is_allowed inst i s) → span.from ≤ s → s ≤ span.to → Contains (starts_in inst i span) s
+pub in_starts : (inst : Tables) (i s : ℕ) (span : Span) → IsTrue (is_allowed inst i s) → span.from ≤ s → s ≤ span.to → Contains (starts_in inst i span) s
 unfolding starts_in
 in_starts inst i s span h l m =
     kept (is_allowed inst i) (range_with_len span.from (span.to + 1 - span.from)) s (s - span.from, rw (length-range_with_len span.from (span.to + 1 - span.from)) (omega (arith, l, m)), get_or-range_with_len span.from (span.to + 1 - span.from) (s - span.from) s (omega (arith, l, m)) ∙ back) h
@@ -50,11 +50,11 @@ in_starts inst i s span h l m =
         at false c = c
 
 -- ---- the interventions of each price keep apart
-named : (inst : Tables) (e : ℕ) → IsFitting inst → e < length inst.exclusion_names → ((exclusion_of inst e).first < length inst.names) × ((exclusion_of inst e).second < length inst.names)
+pub named : (inst : Tables) (e : ℕ) → IsFitting inst → e < length inst.exclusion_names → ((exclusion_of inst e).first < length inst.names) × ((exclusion_of inst e).second < length inst.names)
 unfolding exclusion_of
 named inst e f h = let w = f.excluded e (record { first = 0; second = 0; season = 0 }) (omega (arith, h, f.excluded_each)) in (w.0, w.1)
 
-running : (inst : Tables) (starts : List ℕ) (i t : ℕ) → i < length starts → IsTrue (in_run inst i (get_or starts i 0) t) → IsTrue (is_running inst (map Some starts) i t)
+pub running : (inst : Tables) (starts : List ℕ) (i t : ℕ) → i < length starts → IsTrue (in_run inst i (get_or starts i 0) t) → IsTrue (is_running inst (map Some starts) i t)
 running inst starts i t l h = subst (λ (o : Option ℕ). IsTrue (runs_at inst i t o)) (sym (start_of-starts starts i l)) h
 
 apart : (inst : Tables) (starts : List ℕ) (x : ExPrice) → IsFitting inst → length starts ≡ length inst.names → KeepsRules inst (map Some starts) → IsExPrice inst x → AreApart inst (λ i. get_or starts i 0) x

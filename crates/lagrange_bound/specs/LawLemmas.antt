@@ -1,4 +1,5 @@
--- The law of the score: the bases of a plan's starts add up to at most its score.
+-- The law of the score: the bases of a plan's starts add up to at most its score. It stands here, with the lemmas that
+-- it rests on, since what an impl gives as a law may not come from proofs/.
 use Rattle.std.proofs.Common.{◌≡◌, ℕ, ◌+◌, ◌*◌, ◌<◌, ◌≤◌, refl, sym, ◌∙◌, ap, subst, arith, ℤ, pos, ◌*ℤ◌, ◌≤ℤ◌, Bool, true, false, cond, List, length, map, get_or, Option, Some, None}
 use Rattle.std.proofs.lemmas.List.Elements.{All-contains}
 use Rattle.fixed_num.specs.Floors.{floor_of}

@@ -1,3 +1,4 @@
+-- What the contracts cite.
 pub mod Least
 pub mod Prices
 pub mod ExLists

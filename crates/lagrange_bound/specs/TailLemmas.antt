@@ -1,4 +1,4 @@
--- The least value over places: against each value, against a sum, and against the m-th smallest.
+-- For the law of the score: the least value over places, against each value, a sum, and the m-th smallest.
 use Rattle.std.proofs.Common.{◌≡◌, ℕ, zero, suc, ◌+◌, ◌-◌, ◌<◌, ◌≤◌, ◌⊎◌, inl, inr, refl, sym, ap, subst, arith, ℤ, pos, ◌<ℤ◌, ◌≤ℤ◌, Bool, true, false, not, cond, List, [], ◌∷◌, length, get_or, map, fold, All, Contains, count_by, int_le, ltb}
 use Rattle.std.specs.Int.{int_min}
 use Rattle.std.proofs.lemmas.Int.{by_lt_z, fold-int_min_bounds, fold-int_min_reached}

@@ -1,4 +1,4 @@
--- The fraction of a term: over a sum of interventions, and against the score of one period.
+-- For the law of the score: the fraction of a term, over a sum of interventions, and against the score of one period.
 use Rattle.std.proofs.Common.{◌≡◌, ℕ, zero, suc, ◌+◌, ◌-◌, ◌*◌, ◌<◌, ◌≤◌, refl, sym, ◌∙◌, ap, subst, arith, ℤ, pos, ◌+ℤ◌, ◌-ℤ◌, ◌*ℤ◌, ◌≤ℤ◌, List, [], ◌∷◌, length, Contains, Option, Some, None}
 use Rattle.std.specs.Int.{int_max}
 use Rattle.std.proofs.Math.Nat.{mul-le-mul_left, mul_comm}

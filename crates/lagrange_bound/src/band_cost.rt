@@ -1,3 +1,4 @@
+//! What prices on the limits of bands add to the price of a start.
 ghost use Rattle.std.specs.Prelude.{◌≡◌, ◌<◌, ◌≤◌, ◌^◌, ◌*◌, ◌+◌, length, IsTrue, unsigned_abs};
 ghost use Rattle.fixed_num.specs.Sums.{sum_below};
 ghost use Rattle.instance_model.specs.Tables.{is_allowed, in_run};

@@ -1,3 +1,4 @@
+//! What prices of exclusions add to the price of a start.
 ghost use Rattle.std.specs.Prelude.{◌≡◌, ℕ, ◌<◌, ◌≤◌, ◌^◌, ◌*◌, ◌+◌, length, IsTrue, All};
 ghost use Rattle.instance_model.specs.Tables.{is_allowed, in_run as in_run_of};
 ghost use Rattle.duration_calendar.specs.Windows.{in_window};

@@ -1,3 +1,5 @@
+//! The price of an exclusion, as plain data.
+
 /// The price of an exclusion in a period of its season.
 #[derive(Clone, Copy, Debug, PartialEq, Eq)]
 pub struct ExPrice {

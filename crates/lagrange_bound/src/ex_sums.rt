@@ -1,3 +1,4 @@
+//! What the prices of exclusions count for each intervention and period, and sums of these before each period.
 ghost use Rattle.std.specs.Prelude.{◌≡◌, ℕ, ◌<◌, ◌≤◌, ◌^◌, ◌*◌, ◌+◌, ◌-◌, length, IfOk, slice_index, slice_set};
 ghost use Rattle.instance_model.specs.Naturals.{count_sum};
 ghost use Rattle.lagrange_bound.specs.Prices.{IsPriceList, IsExPrice};

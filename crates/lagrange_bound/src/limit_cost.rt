@@ -1,3 +1,4 @@
+//! What prices add whatever the starts are.
 ghost use Rattle.std.specs.Prelude.{◌≡◌, ◌<◌, ◌≤◌, ◌^◌, ◌*◌, ◌+◌, length, unsigned_abs};
 ghost use Rattle.fixed_num.specs.Sums.{sum_below};
 ghost use Rattle.lagrange_bound.specs.Prices.{IsPriceList};

@@ -1,3 +1,4 @@
+//! Scenarios of a period: contracts see the list.
 ghost use Rattle.std.specs.Prelude.{◌≡◌};
 
 use std::marker::Model;

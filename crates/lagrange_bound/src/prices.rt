@@ -1,3 +1,4 @@
+//! A price list: contracts see the prices by place, as `PriceList`.
 ghost use Rattle.std.specs.Prelude.{◌≡◌, ◌≤◌, ◌<◌, ◌+◌, ◌-◌, ◌*◌, length, IfOk, OnOk, OnErr, IsOk, IsSomeAnd, option_map, Some, None, replicate};
 ghost use Rattle.instance_model.specs.Tables.{Tables};
 ghost use Rattle.lagrange_bound.specs.Prices.{IsPriceList, IsTail, zero_list, up_of, lo_of, tail_of, ex_of};

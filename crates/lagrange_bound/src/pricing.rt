@@ -1,3 +1,4 @@
+//! The price of a start, exactly as the definition has it.
 ghost use Rattle.std.specs.Prelude.{◌≡◌, ◌<◌, ◌≤◌, ◌*◌, ◌^◌, length, IsTrue, unsigned_abs};
 ghost use Rattle.instance_model.specs.Tables.{is_allowed};
 ghost use Rattle.lagrange_bound.specs.Prices.{IsPriceList};

@@ -1,3 +1,4 @@
+//! The goal that plans are scored by: its value is the score.
 ghost use Rattle.std.specs.Prelude.{◌≡◌, ◌^◌, ◌<◌, map, Some, length, IfOk, IsTrue, unsigned_abs};
 ghost use Rattle.instance_model.specs.Tables.{is_allowed};
 ghost use Rattle.lagrange_bound.specs.Prices.{IsPriceList, tail_of};
@@ -7,7 +8,7 @@ use crate::term::term;
 use crate::{Goal, Prices};
 use duration_calendar::run;
 use fixed_num::Steps;
-use instance_model::Instance;
+use instance_model::{Instance, plan_of};
 use plan_score::plan_values;
 use std::alloc::{AllocError, Global};
 use std::marker::Brand;
@@ -55,15 +56,4 @@ fn base_on<L: Ledger>(inst: &Instance, prices: &Prices, i: u32, s: u32, blank: B
         base += term(inst, prices.tail(inst, t), i, s, t, &mut steps);
     }
     base
-}
-
-/// The plan of these starts.
-fn plan_of(alloc: Global, starts: &[u32]) -> Result<Vec<Option<u32>>, AllocError>
-    ensures { IfOk result (λ plan. plan.items ≡ map Some starts.now) }
-{
-    let mut plan = Vec::new(alloc);
-    for s in starts {
-        plan.push(Some(*s))?;
-    }
-    Ok(plan)
 }

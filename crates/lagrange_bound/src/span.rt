@@ -1,3 +1,5 @@
+//! Intervals of starts.
+
 /// An interval of starts, with both ends.
 #[derive(Clone, Copy, Debug, PartialEq, Eq)]
 pub struct Span {

@@ -1,3 +1,4 @@
+//! The prices of all starts in a table, and the worth of a box: contracts see the entries and what no start changes.
 ghost use Rattle.std.specs.Prelude.{◌≡◌, ◌<◌, ◌≤◌, ◌*◌, ◌^◌, List, IfOk, length, pos, unsigned_abs, unwrap_or};
 ghost use Rattle.fixed_num.specs.Sums.{sum_below};
 ghost use Rattle.lagrange_bound.specs.Least.{least_over};

@@ -1,3 +1,4 @@
+//! The scenarios that a price list weighs in a period, as plain data.
 use crate::Places;
 
 /// A weight in thousandths, and at least as many scenarios of a period as the quantile leaves at or above it.

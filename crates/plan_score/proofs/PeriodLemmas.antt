@@ -1,5 +1,5 @@
 -- What the calls over a period make.
-use Rattle.std.proofs.Common.{◌≡◌, ℕ, ◌-◌, ◌≤◌, refl, sym, ◌∙◌, ap, arith, ℤ, pos, ◌+ℤ◌, ◌-ℤ◌, ◌*ℤ◌, List, Option, Some, None, length, unsigned_abs, to_z, of_z, Bool, true, false, cond}
+use Rattle.std.proofs.Common.{◌≡◌, ℕ, ◌-◌, ◌≤◌, refl, ◌∙◌, ap, arith, ℤ, pos, ◌+ℤ◌, ◌-ℤ◌, ◌*ℤ◌, List, Option, Some, None, unsigned_abs, to_z, of_z, Bool, true, false, cond}
 use Rattle.std.specs.Int.{w128, int_max}
 use Rattle.fixed_num.specs.Sums.{total}
 use Rattle.fixed_num.specs.Rank.{mth_smallest}

@@ -1,5 +1,5 @@
--- For the law that the bound of a tree's steps does not fall: height limits rise. The lemmas stand here, since what an impl
--- gives as a law may not come from proofs/.
+-- For the law that the bound of a tree's steps does not fall: height limits rise. The lemmas stand here, since what an
+-- impl gives as a law may not come from proofs/.
 use Rattle.std.proofs.Common.{◌≡◌, ℕ, zero, suc, ◌+◌, ◌*◌, ◌^◌, ◌<◌, ◌≤◌, Bool, true, false, cond, leb, refl, inl, inr, arith}
 use Rattle.std.proofs.Math.Nat.{mul-le-mul, pow-suc}
 use Rattle.std.proofs.lemmas.Bool.{cases_lt, leb-true, leb-false}

@@ -4,7 +4,7 @@ use Rattle.std.specs.List.{All}
 use Rattle.std.proofs.lemmas.List.Elements.{All-nil, All-cons}
 use Rattle.instance_model.specs.declared.parts.Exclusion.{Exclusion}
 use Rattle.instance_model.specs.Naturals.{count_sum}
-use Rattle.instance_model.specs.Tables.{is_allowed, in_run, allowed_of, durations, tmax, delta_of, entries_at, entries_of, all_entries, scenarios_before, periods_before}
+use Rattle.instance_model.specs.Tables.{is_allowed, allowed_of, durations, tmax, delta_of, entries_at, entries_of, all_entries, scenarios_before, periods_before}
 use Rattle.instance_model.specs.Fitting.{IsFitting, AreCells}
 use Rattle.instance_model.proofs.SmallTables.{two, letter, apart_at, no_names, one_name, two_names, no_cells}
 use Rattle.season_exclusion.specs.Sample.{sample, pair_of}

@@ -1,7 +1,8 @@
 use Rattle.std.proofs.Common.{◌≡◌, ◌≤◌, ◌∙◌, ◌*◌, ◌+◌, ℕ, take, sym, ap, arith, length, subst, get_or, refl, List}
+use Rattle.fixed_num.proofs.SumLemmas.{written_back}
 use Rattle.lagrange_bound.specs.ExSums.{AreExSums, sum_place, value_at}
 use Rattle.lagrange_bound.proofs.ExCountLemmas.{ex_few}
-use Rattle.lagrange_bound.proofs.ExSumsLemmas.{AreExSums-none, AreExSums-more, AreExSums-all, written_back, zeros_at, small_more}
+use Rattle.lagrange_bound.proofs.ExSumsLemmas.{AreExSums-none, AreExSums-more, AreExSums-all, zeros_at, small_more}
 use Rattle.lagrange_bound.proofs.ex_sums.ex_sums.Goals as goal
 
 pub loop-x-init : goal.loop-x-init

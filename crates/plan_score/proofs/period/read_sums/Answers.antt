@@ -1,4 +1,4 @@
-use Rattle.std.proofs.Common.{◌≡◌, ◌∙◌, sym, ap, arith, pos, ℤ, List, [], ◌∷◌, ◌++◌, get_or}
+use Rattle.std.proofs.Common.{◌∙◌, sym, ap, arith, pos, ℤ, List, [], ◌∷◌, ◌++◌, get_or}
 use Rattle.std.proofs.lemmas.List.{get_or_default, take_all, take_more}
 use Rattle.fixed_num.proofs.SignedLemmas.{back_from_abs}
 use Rattle.plan_score.proofs.period.read_sums.Goals as goal
