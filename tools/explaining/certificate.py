@@ -1,0 +1,237 @@
+"""Finds what a line says of a certificate in its text."""
+import re
+
+from explaining.finding import Finding
+from explaining.lines import BLANK, END, Line, line_at, line_given
+from explaining.text import counted, expect, shown
+
+NUMBER = (rb"(?:0(?![0-9])|[1-9][0-9]{0,18})", "a number of 1 to 19 digits without a needless 0")
+BOUND = (rb"(?:none|0(?![0-9])|-?[1-9][0-9]{0,36})", "`none`, or a number of 1 to 37 digits without a needless 0")
+SCENARIOS = (rb"(?: (?:0(?![0-9])|[1-9][0-9]{0,18})(?= |\Z))*", "scenarios")
+
+
+def form(word, *parts):
+    return [(word, f"`{word.decode()}`"), *parts, END]
+
+
+def numbers(count):
+    return [BLANK, NUMBER] * count
+
+
+LINES = {
+    b"mpcert": form(b"mpcert", BLANK, (rb"[12]", "1 or 2")),
+    b"bound": form(b"bound", BLANK, BOUND),
+    b"lists": form(b"lists", *numbers(1)),
+    b"prices": form(b"prices"),
+    b"tree": form(b"tree"),
+    b"up": form(b"up", *numbers(3)),
+    b"lo": form(b"lo", *numbers(3)),
+    b"tail": form(b"tail", *numbers(2), SCENARIOS, (rb"\Z", "a scenario behind one blank, or the end of the line")),
+    b"ex": form(b"ex", *numbers(3)),
+    b"split": form(b"split", *numbers(2)),
+    b"cost": form(b"cost", *numbers(1)),
+    b"point": form(b"point"),
+    b"band": form(b"band", *numbers(2), BLANK, (rb"over|under", "`over` or `under`")),
+    b"excl": form(b"excl", *numbers(1)),
+    b"empty": form(b"empty", *numbers(1)),
+}
+FIRST_LINES = [[b"mpcert"], [b"bound"], [b"lists"]]
+ENTRIES = [b"up", b"lo", b"tail", b"ex"]
+NODES = [b"split", b"cost", b"point", b"band", b"excl", b"empty"]
+NODE = re.compile(rb"(?:split ([0-9]{1,19}) ([0-9]{1,19})|[^\n]*)\n")
+SHOWN_SPLITS = 8
+
+
+class Walk:
+    """A walk over the lines of a certificate: what may stand at the next one, and the splits above it."""
+
+    def __init__(self, case):
+        self.case, self.number, self.at = case, 0, 0
+        self.version, self.lists, self.begun, self.last = None, None, 0, None
+        self.splits, self.leaves, self.in_tree, self.has_ended = [], 0, False, False
+
+    def awaited(self):
+        """The words that the next line may begin with."""
+        if self.number < len(FIRST_LINES):
+            return FIRST_LINES[self.number]
+        if self.in_tree:
+            return [] if self.has_ended else NODES
+        entries = ENTRIES[:3 + (self.version == 2)] if self.begun else []
+        return entries + ([b"prices"] if self.begun < self.lists else [b"tree"])
+
+    def fault(self, line):
+        """Where a line leaves the forms that may stand there, and what is due at that place; None where it may stand."""
+        word = line.words()[0]
+        if word not in self.awaited():
+            return line.at, words_text(self.awaited()) or "the end of the file"
+        return line.off_form(LINES[word]) or (self.order_fault(line) if word in ENTRIES else None)
+
+    def order_fault(self, line):
+        """Where an entry isn't above the last one, or a scenario isn't above the one before it."""
+        if self.last is not None and entry_key(line) <= self.last:
+            return line.word_at(1), "an entry above the one before"
+        places = [int(word) for word in line.words()[3:]] if line.words()[0] == b"tail" else []
+        for number in range(1, len(places)):
+            if places[number] <= places[number - 1]:
+                return line.word_at(3 + number), f"a scenario above {places[number - 1]}"
+        return None
+
+    def next_line(self):
+        """The line that comes next; None where the text ends before its line feed."""
+        end = self.case.data.find(b"\n", self.at)
+        return None if end < 0 else Line(self.case, self.number + 1, self.at, end)
+
+    def take(self, line):
+        """Goes past the next line, which is none of a node, and may stand there."""
+        words = line.words()
+        expect(self.fault(line) is None, f"{line}, can't stand there, and would be refused")
+        self.number, self.at = line.number, line.at + len(line.bytes) + 1
+        if words[0] == b"mpcert":
+            self.version = int(words[1])
+        elif words[0] == b"lists":
+            self.lists = int(words[1])
+        elif words[0] == b"prices":
+            self.begun, self.last = self.begun + 1, None
+        elif words[0] == b"tree":
+            self.in_tree = True
+        elif words[0] in ENTRIES:
+            self.last = entry_key(line)
+
+    def take_nodes(self, number, leaf):
+        """Goes past nodes up to a line, or up to a leaf. Each is a split, or taken for a leaf: there may be millions."""
+        splits, count = self.splits, self.number + 1
+        for node in NODE.finditer(self.case.data, self.at):
+            if count == number or self.has_ended or self.leaves + 1 == leaf and node[1] is None:
+                break
+            if node[1] is not None:
+                splits.append([count, int(node[1]), int(node[2]), True])
+            else:
+                self.end_leaf()
+            count, self.at = count + 1, node.end()
+        self.number = count - 1
+
+    def end_leaf(self):
+        """Goes on to the right part of the last split that has it still to come; without one the tree has ended."""
+        self.leaves += 1
+        while self.splits and not self.splits[-1][3]:
+            self.splits.pop()
+        if self.splits:
+            self.splits[-1][3] = False
+        self.has_ended = not self.splits
+
+    def walk_to(self, number=None, leaf=None):
+        """Goes on to a line, or to a leaf, and answers that line; None where the text ends before its line feed."""
+        line = self.next_line()
+        while line is not None and line.number != number and not self.in_tree:
+            self.take(line)
+            line = self.next_line()
+        if self.in_tree:
+            self.take_nodes(number, leaf)
+        line = self.next_line()
+        return line if line is not None and (line.number == number or leaf is not None) else None
+
+    def interval(self, intervention):
+        """The starts of an intervention that the splits above the next node leave, in words."""
+        return interval_text(*self.box().get(intervention, (1, None)))
+
+    def box(self):
+        """The first and the last start of each intervention that is split above the next node; None is `tmax`."""
+        intervals = {}
+        for _, intervention, start, is_left in self.splits:
+            first, last = intervals.get(intervention, (1, None))
+            intervals[intervention] = (first, start) if is_left else (start + 1, last)
+        return intervals
+
+    def box_text(self):
+        parts = [f"intervention {one}: starts {interval_text(*starts)}" for one, starts in sorted(self.box().items())]
+        return "; ".join(parts + [("every other" if parts else "every") + " intervention: all its starts"])
+
+    def splits_text(self):
+        parts = [
+            f"line {number} (its {'left' if is_left else 'right'} part)"
+            for number, _, _, is_left in self.splits[-SHOWN_SPLITS:]
+        ]
+        more = [f"{len(self.splits) - SHOWN_SPLITS} more"] if len(self.splits) > SHOWN_SPLITS else []
+        return ", ".join(more + parts) or "none"
+
+
+def entry_key(line):
+    """What entries are sorted by."""
+    words = line.words()
+    return (ENTRIES.index(words[0]), *(int(word) for word in words[1:2 if words[0] == b"tail" else 3]))
+
+
+def interval_text(first, last):
+    return f"{first} to {'`tmax`' if last is None else last}"
+
+
+def words_text(words):
+    return " or ".join(f"`{word.decode()}`" for word in words)
+
+
+def walk_to_line(case):
+    """A walk up to line N, and that line; None where the text ends before its line feed."""
+    walk = Walk(case)
+    return walk, walk.walk_to(number=case.values["N"])
+
+
+def form_text(case, line):
+    """The form of a line, and what it says."""
+    known = case.page.forms[line.words()[0].decode()]
+    return f"{known.spelled}: {known.meaning}"
+
+
+def cut(case):
+    walk, line = walk_to_line(case)
+    number = case.values["N"]
+    expect(line is None and walk.number == number - 1, f"line {number} isn't where {case.text.name} ends")
+    expect(walk.awaited(), f"the tree of {case.text.name} ends before line {number}")
+    finding = Finding(len(case.text))
+    finding.say("due here", f"line {number}, beginning with {words_text(walk.awaited())}, up to its line feed")
+    if walk.in_tree:
+        boxes = 1 + sum(is_left for _, _, _, is_left in walk.splits)
+        finding.say("found", f"{counted(boxes, 'box', 'boxes')} without a node")
+    return finding
+
+
+def bad_line(case):
+    walk, line = walk_to_line(case)
+    number = case.values["N"]
+    if line is None:
+        line = line_given(case)
+        expect(walk.has_ended and walk.number == number - 1, f"line {number} of {case.text.name} has no line feed")
+    fault = walk.fault(line)
+    expect(fault is not None, f"{line}, may stand there")
+    return Finding(fault[0]).say("due here", fault[1])
+
+
+def bounds(case):
+    walk, line = walk_to_line(case)
+    expect(line is not None, f"{case.text.name} has no whole line {case.values['N']}: that is past its end")
+    expect(walk.fault(line) is None, f"{line}, can't stand there, which is another refusal")
+    words = line.words()
+    finding = Finding(line.word_at(1))
+    finding.say("the line", form_text(case, line)).say("ranges", case.page.forms[words[0].decode()].ranges)
+    if words[0] == b"split":
+        finding.say("found", f"S is {shown(words[2])}, and the interval of I is {walk.interval(int(words[1]))}")
+    if words[0] == b"cost":
+        finding.say("found", f"J is {shown(words[1])}, and M is {walk.lists}")
+    return finding
+
+
+def leaf(case):
+    walk, number = Walk(case), case.values["N"]
+    line = walk.walk_to(leaf=number)
+    leaves = counted(walk.leaves, "leaf", "leaves")
+    expect(line is not None and not walk.has_ended, f"{case.text.name} has {leaves}: leaf {number} is past its end")
+    expect(walk.fault(line) is None, f"{line}, can't stand there, which is another refusal")
+    finding = Finding(line.at).say("the leaf", form_text(case, line)).say("the claim", shown(line_at(case, 2).bytes))
+    return finding.say("its box", walk.box_text()).say("splits above", walk.splits_text())
+
+
+FINDERS = {
+    "certificate cut": cut,
+    "certificate bad line": bad_line,
+    "certificate bounds": bounds,
+    "certificate leaf": leaf,
+}

@@ -1,0 +1,348 @@
+"""Finds what a line says of an instance in its JSON text."""
+from decimal import Decimal, InvalidOperation
+
+from explaining.finding import Finding
+from explaining.text import Unfit, counted, described, expect, shown
+
+NAME_BYTES = 128
+
+
+# ---- lines with an offset
+
+def at_offset(case):
+    """The value, key or end at AT, with what leads to it; and what is open there."""
+    at = case.values["AT"]
+    expect(at < len(case.text), past_end(case))
+    levels, _ = case.json.open_at(at)
+    return Finding(at, case.json.steps_at(levels, at)), levels
+
+
+def past_end(case):
+    size = counted(len(case.text), "byte")
+    return f"{case.text.name} has {size}: byte {case.values['AT']} is past its end"
+
+
+def innermost(case, levels):
+    expect(levels, f"no list and no object is open at byte {case.values['AT']} of {case.text.name}")
+    return levels[-1]
+
+
+def begun(case, level):
+    """An open object or list in words."""
+    return f"{'a list' if level.is_list else 'an object'} that begins at {case.where(level.at)}"
+
+
+def key_at(case, at):
+    expect(case.json.byte(at) == b'"', f"no text begins at byte {at} of {case.text.name}")
+    return case.json.text(at)
+
+
+def syntax(case):
+    at, size = case.values["AT"], len(case.text)
+    expect(at <= size, past_end(case))
+    levels, string = case.json.open_at(at)
+    finding = Finding(at, case.json.steps_at(levels, at))
+    if at == 0 and case.data[:3] == b"\xef\xbb\xbf":
+        finding.say("found", "a byte order mark")
+    else:
+        finding.say("found", described(case.data[at]) if at < size else "the end of the file")
+    if string is not None:
+        finding.say("still open", f"a text that begins at {case.where(string)}")
+    for level in levels[:-4:-1]:
+        finding.say("still open", begun(case, level))
+    return finding
+
+
+def too_deep(case):
+    finding, levels = at_offset(case)
+    return finding.say("found", f"{len(levels)} lists and objects round it")
+
+
+def double(case):
+    finding, levels = at_offset(case)
+    key = key_at(case, finding.at)
+    for at, earlier, _ in case.json.members(innermost(case, levels).at):
+        if at >= finding.at:
+            break
+        if is_same_key(key, earlier, has_numbers(finding.steps)):
+            return finding.say("found", f"the key {shown(key)}, and {shown(earlier)} at {case.where(at)}")
+    raise Unfit(f"no earlier key of this object equals {shown(key)}")
+
+
+def has_numbers(steps):
+    """Whether the keys of the object to which some steps lead are periods or starts."""
+    if len(steps) < 3 or steps[0] != b"Interventions":
+        return False
+    return steps[2] == b"risk" or steps[2] == b"workload" and len(steps) > 3
+
+
+def is_same_key(one, other, numbers):
+    return one == other or numbers and number_of(one) is not None and number_of(one) == number_of(other)
+
+
+def number_of(key):
+    return int(key) if key.isdigit() and len(key) <= 9 else None
+
+
+def bad_name(case):
+    finding, _ = at_offset(case)
+    name = key_at(case, finding.at)
+    odd = next((at for at, byte in enumerate(name) if byte <= 32 or byte == 127), None)
+    expect(not name or len(name) > NAME_BYTES or odd is not None, f"{shown(name)} is a name")
+    if not name:
+        return finding.say("found", "an empty text")
+    if odd is None:
+        return finding.say("found", f"a text of {len(name)} bytes")
+    return finding.say("found", f"byte {odd + 1} of the text is {described(name[odd])}")
+
+
+def missing(case):
+    finding, levels = at_offset(case)
+    expect(case.json.byte(finding.at) == b"}", f"no object ends at byte {finding.at} of {case.text.name}")
+    return finding.say("found", f"{begun(case, innermost(case, levels))}, without the key {shown(case.values['KEY'])}")
+
+
+def shape(case):
+    finding, levels = at_offset(case)
+    keys = [step for step in finding.steps if isinstance(step, bytes)]
+    due = case.page.due_at(keys)
+    if due is not None:
+        finding.say("due here", due if keys == finding.steps else f"an element of {due}")
+    return finding.say("found", found_at(case, finding.at, levels))
+
+
+def found_at(case, at, levels):
+    """The value, the key or the end at a place, in words."""
+    first = case.json.byte(at)
+    if first == b"]":
+        return f"the end of a list of {counted(case.json.count(innermost(case, levels).at), 'element')}"
+    if first == b'"':
+        return f"the {'key' if levels and levels[-1].wants_key else 'text'} {shown(case.json.text(at))}"
+    return {b"[": "a list", b"{": "an object"}.get(first) or shown(case.json.value(at))
+
+
+def too_large(case):
+    finding, _ = at_offset(case)
+    return finding.say("found", shown(case.json.value(finding.at)))
+
+
+def limit(case):
+    finding, levels = at_offset(case)
+    word = shown(case.values["WORD"])
+    expect(word in case.page.limits, f"there is no limit {word}")
+    return finding.say("limit", case.page.limits[word]).say("found", found_at(case, finding.at, levels))
+
+
+# ---- lines across the file
+
+class Instance:
+    """The values of the root, and what is looked up below them. `steps` are the keys that lead to a value."""
+
+    def __init__(self, case):
+        self.case, self.json = case, case.json
+        self.root = {key: value for _, key, value in case.json.members(case.json.past_blanks(0))}
+
+    def of_root(self, key):
+        expect(key in self.root, f"{self.case.text.name} has no {shown(key)}")
+        return self.root[key]
+
+    def at(self, steps):
+        """Where the value that some keys lead to begins."""
+        at = self.of_root(steps[0])
+        for count, step in enumerate(steps[1:], 1):
+            at = self.member(at, step, has_numbers(steps[:count]))
+            expect(at is not None, f"{self.case.text.name} has no {path(steps[:count + 1])}")
+        return at
+
+    def member(self, at, wanted, numbers):
+        """Where the value under a key of the object at a place begins; None where there is no such key."""
+        for _, key, value in self.json.members(at):
+            if is_same_key(wanted, key, numbers):
+                return value
+        return None
+
+    def keys(self, home):
+        return {key for _, key, _ in self.json.members(self.of_root(home))}
+
+    def count(self, steps):
+        return self.json.count(self.at(steps))
+
+    def element(self, steps, number):
+        """Where an element of a list begins, counted from 1."""
+        for count, at in enumerate(self.json.elements(self.at(steps)), 1):
+            if count == number:
+                return at
+        raise Unfit(f"{path(steps)} of {self.case.text.name} has no element {number}")
+
+    def whole(self, at):
+        """The whole number at a place, which may be written as a text."""
+        raw = self.json.text(at) if self.json.byte(at) == b'"' else self.json.value(at)
+        try:
+            number = Decimal(raw.decode())
+            if number == 0 or number.adjusted() < 9 and number == int(number):
+                return int(number) if number else 0
+        except (InvalidOperation, ValueError, OverflowError):
+            pass
+        raise Unfit(f"{shown(raw)}, at {self.case.where(at)}, is no whole")
+
+    def periods(self):
+        return self.whole(self.of_root(b"T"))
+
+
+def path(steps):
+    """The keys and numbers of elements that lead to a value, in words."""
+    return " / ".join(f"element {step}" if isinstance(step, int) else shown(step) for step in steps)
+
+
+def scenario_list(case):
+    instance, steps = Instance(case), [b"Scenarios_number"]
+    count, periods = instance.count(steps), instance.periods()
+    expect(count != periods, "`Scenarios_number` has T elements")
+    return Finding(instance.at(steps), steps).say("found", f"{counted(count, 'element')}, and T is {periods}")
+
+
+def band_length(case):
+    instance = Instance(case)
+    periods = instance.periods()
+    for key in (b"max", b"min"):
+        steps = [b"Resources", case.values["NAME"], key]
+        count = instance.count(steps)
+        if count != periods:
+            return Finding(instance.at(steps), steps).say("found", f"{counted(count, 'element')}, and T is {periods}")
+    raise Unfit("its `max` and its `min` have T elements")
+
+
+def bad_tmax(case):
+    instance, steps = Instance(case), [b"Interventions", case.values["NAME"], b"tmax"]
+    tmax, periods = instance.whole(instance.at(steps)), instance.periods()
+    expect(not 1 <= tmax <= periods, f"its `tmax`, {tmax}, is from 1 to T, which is {periods}")
+    return Finding(instance.at(steps), steps).say("found", f"{tmax}, and T is {periods}")
+
+
+def no_delta(case):
+    instance, name = Instance(case), case.values["NAME"]
+    steps = [b"Interventions", name, b"Delta"]
+    count, tmax = instance.count(steps), instance.whole(instance.at([b"Interventions", name, b"tmax"]))
+    expect(count < tmax, f"its `Delta` has {counted(count, 'element')}, and `tmax` is {tmax}")
+    return Finding(instance.at(steps), steps).say("found", f"{counted(count, 'element')}, and `tmax` is {tmax}")
+
+
+def unknown(case):
+    instance, name = Instance(case), case.values["NAME"]
+    for at, steps, home in named(instance):
+        if case.json.text(at) == name and name not in instance.keys(home):
+            return Finding(at, steps).say("found", f"{shown(name)}, which is no key of `{home.decode()}`")
+    raise Unfit(f"{case.text.name} has no name {shown(name)} that it doesn't know")
+
+
+def named(instance):
+    """Where each name stands that has to be known: its place, what leads to it, and where it has to be a key."""
+    for _, intervention, value in instance.json.members(instance.of_root(b"Interventions")):
+        steps = [b"Interventions", intervention, b"workload"]
+        workload = instance.member(value, b"workload", False)
+        expect(workload is not None, f"{instance.case.text.name} has no {path(steps)}")
+        for at, _, _ in instance.json.members(workload):
+            yield at, steps, b"Resources"
+    for _, exclusion, value in instance.json.members(instance.of_root(b"Exclusions")):
+        homes = [b"Interventions", b"Interventions", b"Seasons"]
+        for number, (at, home) in enumerate(zip(instance.json.elements(value), homes), 1):
+            yield at, [b"Exclusions", exclusion, number], home
+
+
+def no_risk(case):
+    instance, values = Instance(case), case.values
+    steps = [b"Interventions", values["NAME"], b"risk"]
+    for what, number in (("period", values["PERIOD"]), ("start", values["START"])):
+        at = instance.at(steps)
+        if instance.member(at, b"%d" % number, True) is None:
+            finding = Finding(case.json.end_of(at) - 1, steps)
+            return finding.say("found", f"an object that begins at {case.where(at)}, without a key for {what} {number}")
+        steps = steps + [b"%d" % number]
+    raise Unfit(f"{case.text.name} has {path(steps)}")
+
+
+def scenario_count(case):
+    instance, values = Instance(case), case.values
+    steps = [b"Interventions", values["NAME"], b"risk", b"%d" % values["PERIOD"], b"%d" % values["START"]]
+    count, due = instance.count(steps), instance.whole(instance.element([b"Scenarios_number"], values["PERIOD"]))
+    what = f"{counted(count, 'number')}, and `Scenarios_number` says {due}"
+    expect(count != due, f"the list has {what}")
+    return Finding(instance.at(steps), steps).say("found", what)
+
+
+# ---- broken rules
+
+def no_start(case):
+    instance, name = Instance(case), case.values["NAME"]
+    for at, key, _ in case.json.members(instance.of_root(b"Interventions")):
+        if key == name:
+            return Finding(at, [b"Interventions", name])
+    raise Unfit(f"{case.text.name} has no intervention {shown(name)}")
+
+
+def outside(case):
+    instance, start = Instance(case), case.values["START"]
+    steps = [b"Interventions", case.values["NAME"], b"tmax"]
+    tmax = instance.whole(instance.at(steps))
+    expect(not 1 <= start <= tmax, f"its `tmax` is {tmax}")
+    return Finding(instance.at(steps), steps).say("found", f"`tmax` is {tmax}")
+
+
+def past_horizon(case):
+    instance, start = Instance(case), case.values["START"]
+    steps = [b"Interventions", case.values["NAME"], b"Delta"]
+    at, periods = instance.element(steps, start), instance.periods()
+    duration = instance.whole(at)
+    what = f"duration {duration}, so that the run ends in period {start + duration - 1}, and T is {periods}"
+    expect(start + duration > periods + 1, what)
+    return Finding(at, steps + [start]).say("found", what)
+
+
+def over(case):
+    return band(case, b"max")
+
+
+def under(case):
+    return band(case, b"min")
+
+
+def band(case, key):
+    steps, period = [b"Resources", case.values["RESOURCE"], key], case.values["PERIOD"]
+    at = Instance(case).element(steps, period)
+    load, widened = shown(case.values["LOAD"]), shown(case.values["LIMIT"])
+    finding = Finding(at, steps + [period])
+    return finding.say("found", f"{shown(case.json.value(at))}, which is {widened} with the slack; the load is {load}")
+
+
+def clash(case):
+    instance, exclusion, period = Instance(case), case.values["EXCLUSION"], case.values["PERIOD"]
+    steps = [b"Exclusions", exclusion]
+    names = [case.json.text(place) for place in case.json.elements(instance.at(steps))]
+    expect(len(names) == 3, f"{path(steps)} hasn't three texts")
+    for place in case.json.elements(instance.at([b"Seasons", names[2]])):
+        if instance.whole(place) == period:
+            first, second, season = map(shown, names)
+            finding = Finding(instance.at(steps), steps)
+            finding.say("found", f"{first} and {second}, in season {season}")
+            return finding.say("found", f"period {period} of the season, at {case.where(place)}")
+    raise Unfit(f"season {shown(names[2])} hasn't period {period}")
+
+
+FINDERS = {
+    "instance syntax": syntax,
+    "instance too deep": too_deep,
+    "instance double": double,
+    "instance bad name": bad_name,
+    "instance missing": missing,
+    "instance shape": shape,
+    "instance too large": too_large,
+    "instance limit": limit,
+    "instance scenario list": scenario_list,
+    "instance band length": band_length,
+    "instance bad tmax": bad_tmax,
+    "instance no delta": no_delta,
+    "instance unknown": unknown,
+    "instance no risk": no_risk,
+    "instance scenario count": scenario_count,
+}
+RULES = {"S1": no_start, "S2": outside, "S3": past_horizon, "B1": over, "B2": under, "X1": clash}
