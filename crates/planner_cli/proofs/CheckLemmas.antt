@@ -22,6 +22,7 @@ use Rattle.certificate_check.specs.declared.verdict.CertVerdict.TheVariants.{Val
 use Rattle.certificate_check.specs.Verdicts.{IsVerdict}
 use Rattle.planner_cli.specs.Lines.{failing_leaf_line}
 use Rattle.planner_cli.specs.Reports.{infeasible_report, accepted_text, NamesOf}
+use Rattle.planner_cli.specs.Ending.{reply}
 use Rattle.planner_cli.specs.Checking.{IsKeptPlan, BoundsEveryPlan, IsBroken, Checks}
 use Rattle.planner_cli.specs.Checking.Checks.{broken_plan, failing_leaf, accepted}
 use Rattle.planner_cli.specs.declared.check.Given.{Given}
@@ -55,11 +56,11 @@ kept_stands inst plan seen other values each same also none are small = (
 pub broken_names : (inst : Tables) (given : Option (List (Option ℕ))) (g : Given) (rule : Rule) → StandsAs inst given g → g ≡ Broken rule → NamesOf inst rule
 broken_names inst given g rule stands is = let b : IsBroken inst given rule = subst (StandsAs inst given) is stands in rule_names inst b.plan rule b.first
 
-pub broken_checks : (inst : Tables) (given : Option (List (Option ℕ))) (cert : Certificate) (g : Given) (rule : Rule) (text : List ℕ) → StandsAs inst given g → g ≡ Broken rule → text ≡ infeasible_report inst rule → Checks inst given cert 1 text
+pub broken_checks : (inst : Tables) (given : Option (List (Option ℕ))) (cert : Certificate) (g : Given) (rule : Rule) (text : List ℕ) → StandsAs inst given g → g ≡ Broken rule → text ≡ infeasible_report inst rule → Checks inst given cert (reply 1 text)
 broken_checks inst given cert g rule text stands is report =
-    let b : IsBroken inst given rule = subst (StandsAs inst given) is stands in subst (λ (t : List ℕ). Checks inst given cert 1 t) (sym report) (broken_plan rule b)
+    let b : IsBroken inst given rule = subst (StandsAs inst given) is stands in subst (λ (t : List ℕ). Checks inst given cert (reply 1 t)) (sym report) (broken_plan rule b)
 
-pub kept_checks : (inst : Tables) (given : Option (List (Option ℕ))) (cert : Certificate) (g : Given) (score : Option ℤ) (s : ℕ) (t : List ℕ) → StandsAs inst given g → g ≡ Kept score → ChecksFor inst score cert s t → Checks inst given cert s t
+pub kept_checks : (inst : Tables) (given : Option (List (Option ℕ))) (cert : Certificate) (g : Given) (score : Option ℤ) (s : ℕ) (t : List ℕ) → StandsAs inst given g → g ≡ Kept score → ChecksFor inst score cert s t → Checks inst given cert (reply s t)
 kept_checks inst given cert g score s t stands is checks = let k : StandsAs inst given (Kept score) = subst (StandsAs inst given) is stands in checks given k.0 k.1
 
 pub kept_small : (inst : Tables) (given : Option (List (Option ℕ))) (g : Given) (score : Option ℤ) → StandsAs inst given g → g ≡ Kept score → IfSome score (λ z. unsigned_abs z < 10 ^ 36)
@@ -98,7 +99,7 @@ pub valid_checks : (inst : Tables) (score : Option ℤ) (cert : Certificate) (ve
     → ChecksFor inst score cert 0 text
 valid_checks inst score cert verdict text is v costs report given keeps same =
     let right : IsValid risk_base risk_value inst cert = subst (IsVerdict risk_base risk_value inst cert) is v.right in
-    subst (λ (t : List ℕ). Checks inst given cert 0 t) (sym (report ∙ ap (accepted_text inst cert.bound) same))
+    subst (λ (t : List ℕ). Checks inst given cert (reply 0 t)) (sym (report ∙ ap (accepted_text inst cert.bound) same))
     (accepted (record {
       valid = right;
       holds = λ n first. not_valid n (sym (v.only (LeafFails n) first ∙ is));
@@ -110,7 +111,7 @@ valid_checks inst score cert verdict text is v costs report given keeps same =
 pub leaf_checks : (inst : Tables) (score : Option ℤ) (cert : Certificate) (verdict : CertVerdict) (n : ℕ) (text : List ℕ) → verdict ≡ LeafFails n → Verdict inst cert verdict → text ≡ failing_leaf_line n → ChecksFor inst score cert 5 text
 leaf_checks inst score cert verdict n text is v report given keeps same =
     let right : IsFirstFailing risk_base risk_value inst cert n = subst (IsVerdict risk_base risk_value inst cert) is v.right in
-    subst (λ (t : List ℕ). Checks inst given cert 5 t) (sym report)
+    subst (λ (t : List ℕ). Checks inst given cert (reply 5 t)) (sym report)
     (failing_leaf n (record {
       first = right;
       only = λ m first. same_leaf n m (v.only (LeafFails m) first ∙ is);

@@ -16,16 +16,17 @@ use Rattle.move_script.specs.declared.replay_fault.ReplayFault.{ReplayFault}
 use Rattle.move_script.specs.declared.replay_fault.ReplayFault.TheVariants as fault
 use Rattle.move_script.specs.Replays.{replay_text, script_line, FailsByStart, FailsByUndo}
 use Rattle.planner_cli.specs.Lines.{memory_line, end_line, not_allowed_line, nothing_to_undo_line}
-use Rattle.planner_cli.specs.Answers.{IsOpeningOf, Replays}
-use Rattle.planner_cli.specs.Answers.Replays.{broken_start, ended, not_allowed, nothing_to_undo}
-use Rattle.planner_cli.specs.Reading.{SayFails}
+use Rattle.planner_cli.specs.Ending.{Answer, reply, SayFails}
+use Rattle.planner_cli.specs.Files.{reading, OnPlan, OnScript}
+use Rattle.planner_cli.specs.Files.OnFile.{stands}
+use Rattle.planner_cli.specs.Replaying.{IsOpeningOf, Replays, AnswersReplay}
+use Rattle.planner_cli.specs.Replaying.Replays.{broken_start, ended, not_allowed, nothing_to_undo}
+use Rattle.instance_model.specs.Limits.{standard_limits}
 use Rattle.planner_cli.specs.Reports.{infeasible_report}
-use Rattle.planner_cli.specs.Words.{Source, replay}
-use Rattle.planner_cli.specs.Due.{IsDueFor}
+use Rattle.planner_cli.specs.Words.{Source}
 use Rattle.planner_cli.specs.declared.replay.Opening.{Opening}
 use Rattle.planner_cli.specs.declared.replay.Opening.TheVariants.{Broken}
 use Rattle.planner_cli.specs.Refusals.{AreRead, OpensAs, SaysOrFails, SaysAnswer}
-use Rattle.planner_cli.proofs.DueLemmas.{answer_within}
 use Rattle.planner_cli.proofs.SayLemmas.{rose_before, says_before, or_more, some_first}
 
 -- ---- the lists along a script
@@ -45,7 +46,7 @@ own_opening inst opening allowed = record { starts = refl; allowed = allowed }
 
 -- a script succeeds or fails at a line
 pub completed : (inst : Tables) (opening : List ℕ) (script : List ScriptLine) → AreAllowedStarts inst opening
-    → (status : ℕ) × (tail : List ℕ) × Replays inst (map Some opening) script status (replay_text inst opening script ++ tail)
+    → (status : ℕ) × (tail : List ℕ) × Replays inst (map Some opening) script (reply status (replay_text inst opening script ++ tail))
 completed inst opening script allowed =
     ⊎_elim (λ fails. line (length (lists_of inst opening script)) (record { within = omega (arith, fails); reached = refl }) (move_or_undo (script_line script (length (lists_of inst opening script)))))
     (λ all. let done : Succeeds inst opening script = omega (arith, all, few_lists inst (Some (opening ∷ [])) script) in
@@ -53,7 +54,7 @@ completed inst opening script allowed =
     (cases_lt (length (lists_of inst opening script)) (length script + 1))
   where
     line : (n : ℕ) → FailsAt inst opening script n → (script_line script n ≢ Undo) ⊎ (script_line script n ≡ Undo)
-        → (status : ℕ) × (tail : List ℕ) × Replays inst (map Some opening) script status (replay_text inst opening script ++ tail)
+        → (status : ℕ) × (tail : List ℕ) × Replays inst (map Some opening) script (reply status (replay_text inst opening script ++ tail))
     line n fails (inl changes) = (6, not_allowed_line n, not_allowed opening n (own_opening inst opening allowed) (record { fails = fails; changes = changes }))
     line n fails (inr undoes) = (6, nothing_to_undo_line n, nothing_to_undo opening n (own_opening inst opening allowed) (record { fails = fails; undoes = undoes }))
 
@@ -123,7 +124,7 @@ failed_answer inst opening script old new allowed (n, within, shows) fails =
     )
 
 -- memory ran out before anything was said
-pub memory_answer : (Due : ℕ → List ℕ → Type 0) (old mid new : Shown) (status : ℕ) → ShowsSame mid old → old.faults ≤ mid.faults → mid.last ≡ old.last
+pub memory_answer : (Due : Answer → Type 0) (old mid new : Shown) (status : ℕ) → ShowsSame mid old → old.faults ≤ mid.faults → mid.last ≡ old.last
     → SaysOrFails 11 memory_line mid new status → SaysAnswer Due old new status
 memory_answer Due old mid new status shows later same (inl all) =
     inr (inl (record { status_is = all.status_is; says = says_before old mid new memory_line shows.said all.says; same = all.same ∙ same }))
@@ -170,7 +171,12 @@ broken_answer inst plan script old new opening report text status opens is same 
     inl (1, infeasible_report inst found.0, broken_start found.0 found.1, subst (λ (t : List ℕ). SaysOrFails 1 t old new status) (same ∙ found.2) says)
 
 pub read_answer : (source : Source) (name script_name : List ℕ) (old mid new : Shown) (inst : Tables) (plan : List (Option ℕ)) (script : List ScriptLine) (status : ℕ) → AreRead source name script_name old inst plan script
-    → SaysAnswer (Replays inst plan script) mid new status → SaysAnswer (IsDueFor (replay source name script_name) old mid) mid new status
-read_answer source name script_name old mid new inst plan script status read says =
-    answer_within (Replays inst plan script) (IsDueFor (replay source name script_name) old mid) mid new status
-    (λ s t replays. inr (inst, read.reads, inr (plan, read.reads_plan, inr (script, read.reads_script, replays)))) says
+    → SaysAnswer (Replays inst plan script) mid new status → SaysAnswer (AnswersReplay standard_limits (reading old mid) source.slack source.instance name script_name) mid new status
+read_answer source name script_name old mid new inst plan script status read (inl (due, text, is, says)) = inl (
+  due,
+  text,
+  stands read.reads.bytes inst _ read.reads.held read.reads.such
+  (stands read.reads_plan.bytes plan _ read.reads_plan.held read.reads_plan.such (stands read.reads_script.bytes script _ read.reads_script.held read.reads_script.such is)),
+  says,
+)
+read_answer source name script_name old mid new inst plan script status read (inr says) = inr says

@@ -1,9 +1,11 @@
 -- What is told of the files of a desk.
-use Rattle.std.proofs.Common.{◌≡◌, ℕ, List, [], Option, Some, None, subst}
+use Rattle.std.proofs.Common.{◌≡◌, ℕ, suc, ◌<◌, List, [], length, Option, Some, None, refl, subst, arith}
+use Rattle.std.specs.Prelude.{replicate}
+use Rattle.std.proofs.lemmas.List.{length-replicate}
 use Rattle.std.specs.Prelude.{IfSome, IsSomeAnd, option_map}
 use Rattle.plan_desk.specs.Desk.{Shown, Output}
 use Rattle.plan_desk.specs.Contents.{WhereToldHolds, TellsSuch}
-use Rattle.planner_cli.specs.Premises.{TellsMissing}
+use Rattle.planner_cli.specs.Files.{ReadsBytes, TellsMissing}
 
 some_both : (o : Option (List ℕ)) (P Q : List ℕ → Type 0) → IsSomeAnd o P → IsSomeAnd o Q → (b : List ℕ) × P b × Q b
 some_both None P Q p q = absurd p
@@ -57,3 +59,25 @@ told_before old mid name P read same held = go old.input.unread mid.input.unread
     go (Some u) v o e f p =
         let told : IfSome o.holds (λ holds. IsSomeAnd (holds name) P) = subst (λ (w : Option (List ℕ)). IfSome w (λ _. IfSome o.holds (λ holds. IsSomeAnd (holds name) P))) e p in
         subst (λ (q : Output). IfSome q.holds (λ holds. IsSomeAnd (holds name) P)) f told
+
+-- the bytes that were read are such as it is told
+pub read_such : (s : Shown) (name bytes : List ℕ) (P : List ℕ → Type 0) → ReadsBytes name s bytes → TellsSuch s name P → P bytes
+read_such s name bytes P reads tells = let both = told_both s name P (λ held. held ≡ bytes) tells reads in subst P both.2 both.1
+
+-- a file that is longer than a limit holds some bytes, where told, of which there are too many
+pub long_held : (s : Shown) (name : List ℕ) (most : ℕ) → WhereToldHolds s name (λ held. most < length held)
+    → (bytes : List ℕ) × ReadsBytes name s bytes × (most < length bytes)
+long_held s name most p = go s.input.unread s.output.holds p
+  where
+    many : most < length {A = ℕ} (replicate (suc most) 0)
+    many = omega (arith, length-replicate {A = ℕ} (suc most) 0)
+    some : (o : Option (List ℕ)) → IsSomeAnd o (λ held. most < length held)
+        → (bytes : List ℕ) × IsSomeAnd o (λ held. held ≡ bytes) × (most < length bytes)
+    some None q = absurd q
+    some (Some b) q = (b, refl, q)
+    go : (u : Option (List ℕ)) (h : Option (List ℕ → Option (List ℕ)))
+        → IfSome u (λ _. IfSome h (λ holds. IsSomeAnd (holds name) (λ held. most < length held)))
+        → (bytes : List ℕ) × IfSome u (λ _. IfSome h (λ holds. IsSomeAnd (holds name) (λ held. held ≡ bytes))) × (most < length bytes)
+    go None h q = (replicate (suc most) 0, tt, many)
+    go (Some u) None q = (replicate (suc most) 0, tt, many)
+    go (Some u) (Some holds) q = some (holds name) q

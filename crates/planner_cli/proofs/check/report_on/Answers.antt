@@ -1,4 +1,5 @@
 use Rattle.std.proofs.lemmas.Result.{IfOk-weaker}
+use Rattle.planner_cli.specs.Ending.{reply}
 use Rattle.planner_cli.specs.Checking.{Checks}
 use Rattle.planner_cli.specs.Refusals.{ChecksFor}
 use Rattle.planner_cli.proofs.CheckLemmas.{broken_names, broken_checks, kept_checks, kept_small}
@@ -12,7 +13,7 @@ report_kept-requires-clause-score c = kept_small c.args.inst.now c.args.plan.now
 
 pub returns-in-Kept : goal.returns-in-Kept
 returns-in-Kept c =
-    IfOk-weaker c.report_kept.result (λ report. ChecksFor c.args.inst.now c.in-Kept.score c.args.certificate.now report.status report.text) (λ report. Checks c.args.inst.now c.args.plan.now c.args.certificate.now report.status report.text)
+    IfOk-weaker c.report_kept.result (λ report. ChecksFor c.args.inst.now c.in-Kept.score c.args.certificate.now report.status report.text) (λ report. Checks c.args.inst.now c.args.plan.now c.args.certificate.now (reply report.status report.text))
     (λ report checks. kept_checks c.args.inst.now c.args.plan.now c.args.certificate.now c.in_ok-given.given c.in-Kept.score report.status report.text c.in_ok-given.ensures c.in-Kept.is checks) c.report_kept.ensures
 
 pub returns-in_ok-infeasible_text-in-Broken : goal.returns-in_ok-infeasible_text-in-Broken

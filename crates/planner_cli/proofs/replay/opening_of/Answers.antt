@@ -1,7 +1,7 @@
 use Rattle.std.proofs.Common.{◌≡◌, ◌∙◌, ap, sym, map, None, subst}
 use Rattle.std.specs.Prelude.{unwrap_or}
 use Rattle.instance_model.specs.Rules.{first_start_rule}
-use Rattle.planner_cli.specs.Answers.{IsOpeningOf}
+use Rattle.planner_cli.specs.Replaying.{IsOpeningOf}
 use Rattle.planner_cli.proofs.RuleNames.{start_rule_names}
 use Rattle.planner_cli.proofs.ReplayLemmas.{opening_from}
 use Rattle.planner_cli.proofs.replay.opening_of.Goals as goal
