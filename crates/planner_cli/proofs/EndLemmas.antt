@@ -149,6 +149,7 @@ ends_allowed Answers old new status expected f (done n d) = subst (IsAllowed exp
     or_unread : (a : Answer) → OrUnread expected a → IsAllowed expected a.status
     or_unread a (inl e) = inr (inl e)
     or_unread a (inr e) = inl e
+
     at : (a : Answer) → OrMemory (Answers new) a → IsAllowed expected a.status
     at a (answers b is) = or_unread b (f b is)
     at a no_memory = inr (inr (inr (inl refl)))

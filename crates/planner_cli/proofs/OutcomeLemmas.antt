@@ -23,6 +23,7 @@ refusal_behind old new status (done n d) =
   where
     status_of : (a : Answer) → a ≡ reply 2 words_line → a.status ≡ 2
     status_of a is = ap (λ (x : Answer). x.status) is
+
     said : (a : Answer) → a ≡ reply 2 words_line → Says a.text old new → Says words_line old new
     said a is says = subst (λ (x : Answer). Says x.text old new) is says
 refusal_behind old new status (unsaid u) = behind_unsaid (unsaid_fails DueRefusal old new u) u

@@ -176,7 +176,7 @@ read_answer source name script_name old mid new inst plan script status read (in
   due,
   text,
   stands read.reads.bytes inst _ read.reads.held read.reads.such
-  (stands read.reads_plan.bytes plan _ read.reads_plan.held read.reads_plan.such (stands read.reads_script.bytes script _ read.reads_script.held read.reads_script.such is)),
+      (stands read.reads_plan.bytes plan _ read.reads_plan.held read.reads_plan.such (stands read.reads_script.bytes script _ read.reads_script.held read.reads_script.such is)),
   says,
 )
 read_answer source name script_name old mid new inst plan script status read (inr says) = inr says

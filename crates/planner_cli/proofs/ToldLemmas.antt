@@ -71,10 +71,12 @@ long_held s name most p = go s.input.unread s.output.holds p
   where
     many : most < length {A = ℕ} (replicate (suc most) 0)
     many = omega (arith, length-replicate {A = ℕ} (suc most) 0)
+
     some : (o : Option (List ℕ)) → IsSomeAnd o (λ held. most < length held)
         → (bytes : List ℕ) × IsSomeAnd o (λ held. held ≡ bytes) × (most < length bytes)
     some None q = absurd q
     some (Some b) q = (b, refl, q)
+
     go : (u : Option (List ℕ)) (h : Option (List ℕ → Option (List ℕ)))
         → IfSome u (λ _. IfSome h (λ holds. IsSomeAnd (holds name) (λ held. most < length held)))
         → (bytes : List ℕ) × IfSome u (λ _. IfSome h (λ holds. IsSomeAnd (holds name) (λ held. held ≡ bytes))) × (most < length bytes)

@@ -119,7 +119,10 @@ one_name : (word a b : List ℕ) → bytes_eq word a ≡ true → bytes_eq word 
 one_name word a b x y = sym ((bytes_eq-Decides word a).0 x) ∙ (bytes_eq-Decides word b).0 y
 
 differ : (a b : List ℕ) → bytes_eq a b ≡ false → a ≡ b → ⊥
-differ a b n e = (bytes_eq-Decides a b).1 n e
+differ a b n e = apart (sym ((bytes_eq-Decides a b).1 e) ∙ n)
+  where
+    apart : true ≡ false → ⊥
+    apart h = cc
 
 -- ---- at most one parser answers
 
