@@ -19,7 +19,8 @@ use Rattle.planner_cli.proofs.EndLemmas.{reads_none, said_ends, ends_quiet, unsa
 
 refusal_behind : (old new : Shown) (status : ℕ) → Ends DueRefusal old new status → BehindRefusal old new status
 refusal_behind old new status (done n d) =
-    subst (λ (m : ℕ). BehindRefusal old new m) (sym (d.status_is ∙ status_of d.answer d.due)) (behind_refused (said d.answer d.due d.says))
+    subst (λ (m : ℕ). BehindRefusal old new m) (sym (d.status_is ∙ status_of d.answer d.due))
+    (behind_refused (said d.answer d.due d.says))
   where
     status_of : (a : Answer) → a ≡ reply 2 words_line → a.status ≡ 2
     status_of a is = ap (λ (x : Answer). x.status) is
@@ -28,9 +29,11 @@ refusal_behind old new status (done n d) =
     said a is says = subst (λ (x : Answer). Says x.text old new) is says
 refusal_behind old new status (unsaid u) = behind_unsaid (unsaid_fails DueRefusal old new u) u
 
-refuses : (old new : Shown) (status : ℕ) → KeepsFiles old new → SaysOrFails 2 words_line old new status → RefusesWords old new status
+refuses : (old new : Shown) (status : ℕ) → KeepsFiles old new → SaysOrFails 2 words_line old new status
+    → RefusesWords old new status
 refuses old new status keeps says =
-    let ends : Ends DueRefusal old new status = said_ends DueRefusal old old new 2 words_line status (λ goes due. due) (reads_none old) keeps (λ a b. refl) refl says in
+    let ends : Ends DueRefusal old new status = said_ends DueRefusal old old new 2 words_line status (λ goes due. due)
+    (reads_none old) keeps (λ a b. refl) refl says in
     record { ends = ends; behind = refusal_behind old new status ends; output = keeps.output; quiet = ends_quiet DueRefusal old new status ends; later = keeps.later }
 
 -- ---- one command
@@ -50,7 +53,8 @@ OfCommand (evaluate source plan) old new status = RunsEvaluate standard_limits s
 OfCommand (replay source plan script) old new status = RunsReplay standard_limits source plan script old new status
 OfCommand (check source plan cert) old new status = RunsCheck standard_limits source plan cert old new status
 
-pub outcome_refused : (words : List (List ℕ)) (old new : Shown) (status : ℕ) → command_of words ≡ None → KeepsFiles old new → SaysOrFails 2 words_line old new status → Outcome words old new status
+pub outcome_refused : (words : List (List ℕ)) (old new : Shown) (status : ℕ) → command_of words ≡ None
+    → KeepsFiles old new → SaysOrFails 2 words_line old new status → Outcome words old new status
 outcome_refused words old new status none keeps says =
     let run = refuses old new status keeps says in
     record {
@@ -62,11 +66,13 @@ outcome_refused words old new status none keeps says =
       later = run.later;
     }
 
-pub outcome_evaluate : (words : List (List ℕ)) (source : Source) (name : List ℕ) (old new : Shown) (status : ℕ) → Asks words (evaluate source name) → RunsEvaluate standard_limits source name old new status
+pub outcome_evaluate : (words : List (List ℕ)) (source : Source) (name : List ℕ) (old new : Shown) (status : ℕ)
+    → Asks words (evaluate source name) → RunsEvaluate standard_limits source name old new status
     → Outcome words old new status
 unfolding OfCommand
 outcome_evaluate words source name old new status asked run =
-    let one : (c : Command) → Asks words c → OfCommand c old new status = λ c asks. subst (λ (x : Command). OfCommand x old new status) (same words (evaluate source name) c asked asks) run in
+    let one : (c : Command) → Asks words c → OfCommand c old new status = λ c asks. subst
+    (λ (x : Command). OfCommand x old new status) (same words (evaluate source name) c asked asks) run in
     record {
       no_command = λ is. absurd (apart words (evaluate source name) is asked);
       evaluates = λ source plan asks. one (evaluate source plan) asks;
@@ -76,11 +82,13 @@ outcome_evaluate words source name old new status asked run =
       later = run.later;
     }
 
-pub outcome_replay : (words : List (List ℕ)) (source : Source) (name script_name : List ℕ) (old new : Shown) (status : ℕ) → Asks words (replay source name script_name)
+pub outcome_replay : (words : List (List ℕ)) (source : Source) (name script_name : List ℕ) (old new : Shown) (status : ℕ)
+    → Asks words (replay source name script_name)
     → RunsReplay standard_limits source name script_name old new status → Outcome words old new status
 unfolding OfCommand
 outcome_replay words source name script_name old new status asked run =
-    let one : (c : Command) → Asks words c → OfCommand c old new status = λ c asks. subst (λ (x : Command). OfCommand x old new status) (same words (replay source name script_name) c asked asks) run in
+    let one : (c : Command) → Asks words c → OfCommand c old new status = λ c asks. subst
+    (λ (x : Command). OfCommand x old new status) (same words (replay source name script_name) c asked asks) run in
     record {
       no_command = λ is. absurd (apart words (replay source name script_name) is asked);
       evaluates = λ source plan asks. one (evaluate source plan) asks;
@@ -90,11 +98,13 @@ outcome_replay words source name script_name old new status asked run =
       later = run.later;
     }
 
-pub outcome_check : (words : List (List ℕ)) (source : Source) (name : Option (List ℕ)) (cert_name : List ℕ) (old new : Shown) (status : ℕ) → Asks words (check source name cert_name)
+pub outcome_check : (words : List (List ℕ)) (source : Source) (name : Option (List ℕ)) (cert_name : List ℕ) (old new : Shown) (status : ℕ)
+    → Asks words (check source name cert_name)
     → RunsCheck standard_limits source name cert_name old new status → Outcome words old new status
 unfolding OfCommand
 outcome_check words source name cert_name old new status asked run =
-    let one : (c : Command) → Asks words c → OfCommand c old new status = λ c asks. subst (λ (x : Command). OfCommand x old new status) (same words (check source name cert_name) c asked asks) run in
+    let one : (c : Command) → Asks words c → OfCommand c old new status = λ c asks. subst
+    (λ (x : Command). OfCommand x old new status) (same words (check source name cert_name) c asked asks) run in
     record {
       no_command = λ is. absurd (apart words (check source name cert_name) is asked);
       evaluates = λ source plan asks. one (evaluate source plan) asks;

@@ -70,22 +70,29 @@ if_four : (a b d f : Bool) (x c : Command) → (if a && b && d && f then Some x 
 if_four true b d f x c e = refl
 if_four false b d f x c e = absurd (no_answer c e)
 
-evaluation_named : (name instance plan : List ℕ) (slack : Option ℕ) (c : Command) → evaluation name instance plan slack ≡ Some c → bytes_eq name (codes "evaluate") ≡ true
+evaluation_named : (name instance plan : List ℕ) (slack : Option ℕ) (c : Command)
+    → evaluation name instance plan slack ≡ Some c → bytes_eq name (codes "evaluate") ≡ true
 evaluation_named name instance plan None c e = absurd (no_answer c e)
 evaluation_named name instance plan (Some slack) c e =
-    if_three (bytes_eq name (codes "evaluate")) (is_file_word instance) (is_file_word plan) (evaluate (record { instance = instance; slack = slack }) plan) c e
+    if_three (bytes_eq name (codes "evaluate")) (is_file_word instance) (is_file_word plan)
+    (evaluate (record { instance = instance; slack = slack }) plan) c e
 
-replaying_named : (name instance plan script : List ℕ) (slack : Option ℕ) (c : Command) → replaying name instance plan script slack ≡ Some c → bytes_eq name (codes "replay") ≡ true
+replaying_named : (name instance plan script : List ℕ) (slack : Option ℕ) (c : Command)
+    → replaying name instance plan script slack ≡ Some c → bytes_eq name (codes "replay") ≡ true
 replaying_named name instance plan script None c e = absurd (no_answer c e)
 replaying_named name instance plan script (Some slack) c e =
-    if_four (bytes_eq name (codes "replay")) (is_file_word instance) (is_file_word plan) (is_file_word script) (replay (record { instance = instance; slack = slack }) plan script) c e
+    if_four (bytes_eq name (codes "replay")) (is_file_word instance) (is_file_word plan) (is_file_word script)
+    (replay (record { instance = instance; slack = slack }) plan script) c e
 
-checking_named : (name instance plan cert : List ℕ) (slack : Option ℕ) (c : Command) → checking name instance plan cert slack ≡ Some c → bytes_eq name (codes "check") ≡ true
+checking_named : (name instance plan cert : List ℕ) (slack : Option ℕ) (c : Command)
+    → checking name instance plan cert slack ≡ Some c → bytes_eq name (codes "check") ≡ true
 checking_named name instance plan cert None c e = absurd (no_answer c e)
 checking_named name instance plan cert (Some slack) c e =
-    if_four (bytes_eq name (codes "check")) (is_file_word instance) (is_file_word plan) (is_file_word cert) (check (record { instance = instance; slack = slack }) (given_plan plan) cert) c e
+    if_four (bytes_eq name (codes "check")) (is_file_word instance) (is_file_word plan) (is_file_word cert)
+    (check (record { instance = instance; slack = slack }) (given_plan plan) cert) c e
 
-evaluate_named : (words : List (List ℕ)) (c : Command) → evaluate_of words ≡ Some c → bytes_eq (first words) (codes "evaluate") ≡ true
+evaluate_named : (words : List (List ℕ)) (c : Command) → evaluate_of words ≡ Some c
+    → bytes_eq (first words) (codes "evaluate") ≡ true
 unfolding first
 evaluate_named [] c e = absurd (no_answer c e)
 evaluate_named (a ∷ []) c e = absurd (no_answer c e)
@@ -94,7 +101,8 @@ evaluate_named (a ∷ b ∷ d ∷ []) c e = evaluation_named a b d (Some 0) c e
 evaluate_named (a ∷ b ∷ d ∷ f ∷ []) c e = evaluation_named a b d (slack_of f) c e
 evaluate_named (a ∷ b ∷ d ∷ f ∷ k ∷ words) c e = absurd (no_answer c e)
 
-replay_named : (words : List (List ℕ)) (c : Command) → replay_of words ≡ Some c → bytes_eq (first words) (codes "replay") ≡ true
+replay_named : (words : List (List ℕ)) (c : Command) → replay_of words ≡ Some c
+    → bytes_eq (first words) (codes "replay") ≡ true
 unfolding first
 replay_named [] c e = absurd (no_answer c e)
 replay_named (a ∷ []) c e = absurd (no_answer c e)
@@ -104,7 +112,8 @@ replay_named (a ∷ b ∷ d ∷ f ∷ []) c e = replaying_named a b d f (Some 0)
 replay_named (a ∷ b ∷ d ∷ f ∷ k ∷ []) c e = replaying_named a b d f (slack_of k) c e
 replay_named (a ∷ b ∷ d ∷ f ∷ k ∷ l ∷ words) c e = absurd (no_answer c e)
 
-check_named : (words : List (List ℕ)) (c : Command) → check_of words ≡ Some c → bytes_eq (first words) (codes "check") ≡ true
+check_named : (words : List (List ℕ)) (c : Command) → check_of words ≡ Some c
+    → bytes_eq (first words) (codes "check") ≡ true
 unfolding first
 check_named [] c e = absurd (no_answer c e)
 check_named (a ∷ []) c e = absurd (no_answer c e)
@@ -130,7 +139,8 @@ found : (o p : Option Command) (c : Command) → o ≡ Some c → or_else o p �
 found None p c e = absurd (no_answer c e)
 found (Some x) p c e = e
 
-found_later : (o p : Option Command) (c : Command) → ((d : Command) → o ≡ Some d → ⊥) → p ≡ Some c → or_else o p ≡ Some c
+found_later : (o p : Option Command) (c : Command) → ((d : Command) → o ≡ Some d → ⊥) → p ≡ Some c
+    → or_else o p ≡ Some c
 found_later None p c none e = e
 found_later (Some x) p c none e = absurd (none x refl)
 
@@ -140,11 +150,17 @@ one_command words =
       evaluates = λ c e. found (evaluate_of words) (or_else (replay_of words) (check_of words)) c e;
       replays = λ c e.
           found_later (evaluate_of words) (or_else (replay_of words) (check_of words)) c
-          (λ d also. differ (codes "evaluate") (codes "replay") refl (one_name (first words) (codes "evaluate") (codes "replay") (evaluate_named words d also) (replay_named words c e)))
+          (λ d also. differ (codes "evaluate") (codes "replay") refl
+          (one_name (first words) (codes "evaluate") (codes "replay") (evaluate_named words d also)
+          (replay_named words c e)))
           (found (replay_of words) (check_of words) c e);
       checks = λ c e.
           found_later (evaluate_of words) (or_else (replay_of words) (check_of words)) c
-          (λ d also. differ (codes "evaluate") (codes "check") refl (one_name (first words) (codes "evaluate") (codes "check") (evaluate_named words d also) (check_named words c e)))
+          (λ d also. differ (codes "evaluate") (codes "check") refl
+          (one_name (first words) (codes "evaluate") (codes "check") (evaluate_named words d also)
+          (check_named words c e)))
           (found_later (replay_of words) (check_of words) c
-          (λ d also. differ (codes "replay") (codes "check") refl (one_name (first words) (codes "replay") (codes "check") (replay_named words d also) (check_named words c e))) e);
+          (λ d also. differ (codes "replay") (codes "check") refl
+          (one_name (first words) (codes "replay") (codes "check") (replay_named words d also) (check_named words c e)))
+          e);
     }

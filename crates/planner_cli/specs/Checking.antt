@@ -220,9 +220,11 @@ pub record RunsCheck (limits : Limits) (source : Source) (name : Option (List �
   pub exact : (instance : List ℕ) (plan : Option (List ℕ)) (cert : List ℕ) → TellsBytes old source.instance instance
       → TellsGivenBytes old name plan → TellsBytes old cert_name cert → NoFault old new
       → IsAnswered (AnswersCheck limits by_bytes source.slack instance plan cert) old new status
+  -- the bytes have at most one answer
   pub one : (slack : ℕ) (instance : List ℕ) (plan : Option (List ℕ)) (cert : List ℕ)
       → IsOneAnswer (AnswersCheck limits by_bytes slack instance plan cert)
   -- no file is changed
   pub output : new.output ≡ old.output
+  -- the last fault is what it was, but at 7, 8 and 11, and faults never fall
   pub quiet : IsQuiet status old new
   pub later : old.faults ≤ new.faults

@@ -114,8 +114,10 @@ pub record RunsEvaluate (limits : Limits) (source : Source) (name : List ℕ) (o
   -- without a fault, the answer is the one for the bytes of the files, or want of memory
   pub exact : (instance plan : List ℕ) → TellsBytes old source.instance instance → TellsBytes old name plan
       → NoFault old new → IsAnswered (AnswersEvaluate limits by_bytes source.slack instance plan) old new status
+  -- the bytes have at most one answer
   pub one : (slack : ℕ) (instance plan : List ℕ) → IsOneAnswer (AnswersEvaluate limits by_bytes slack instance plan)
   -- no file is changed
   pub output : new.output ≡ old.output
+  -- the last fault is what it was, but at 7, 8 and 11, and faults never fall
   pub quiet : IsQuiet status old new
   pub later : old.faults ≤ new.faults

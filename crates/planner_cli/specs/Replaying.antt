@@ -170,9 +170,11 @@ pub record RunsReplay (limits : Limits) (source : Source) (name script_name : Li
   pub exact : (instance plan script : List ℕ) → TellsBytes old source.instance instance → TellsBytes old name plan
       → TellsBytes old script_name script → NoFault old new
       → IsAnswered (AnswersReplay limits by_bytes source.slack instance plan script) old new status
+  -- the bytes have at most one answer
   pub one : (slack : ℕ) (instance plan script : List ℕ)
       → IsOneAnswer (AnswersReplay limits by_bytes slack instance plan script)
   -- no file is changed
   pub output : new.output ≡ old.output
+  -- the last fault is what it was, but at 7, 8 and 11, and faults never fall
   pub quiet : IsQuiet status old new
   pub later : old.faults ≤ new.faults

@@ -17,6 +17,9 @@ returns g c =
     let plan = option_copied c.args.plan in
     let e = c.check_certificate.ensures in
     check_runs standard_limits source plan c.args.certificate.now old new c.say_report.result
-    (report_ends (λ at. AnswersCheck standard_limits (reading old at) source.slack source.instance plan c.args.certificate.now) old mid new c.check_certificate.result c.say_report.result
-    (check_stays standard_limits source plan c.args.certificate.now old mid new e.only_reads.later) e.only_reads c.say_report.ensures.keeps e.last e.kept e.ok e.err c.say_report.ensures.ends)
+    (report_ends (λ at. AnswersCheck standard_limits
+    (reading old at) source.slack source.instance plan c.args.certificate.now) old mid new c.check_certificate.result
+    c.say_report.result
+    (check_stays standard_limits source plan c.args.certificate.now old mid new e.only_reads.later) e.only_reads
+    c.say_report.ensures.keeps e.last e.kept e.ok e.err c.say_report.ensures.ends)
     (reads_keep old mid new e.only_reads c.say_report.ensures.keeps)

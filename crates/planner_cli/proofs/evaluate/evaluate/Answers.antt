@@ -17,7 +17,8 @@ returns-in_err-inst-clause-err g c =
     let new = g.D.Desk.shows c.instance_of.new.desk in
     let p = err_from_is_err_and c.from_residual.result c.from_residual.ensures.1 in
     rw (p.1, p.2)
-    (refuses_instance (source_view c.args.source.now) old new (λ i. OnPlan standard_limits i (reading old new) 3 c.args.plan.now (Judges i)) _ c.in_err-inst.ensures.err)
+    (refuses_instance (source_view c.args.source.now) old new
+    (λ i. OnPlan standard_limits i (reading old new) 3 c.args.plan.now (Judges i)) _ c.in_err-inst.ensures.err)
 
 pub returns-in_err-plan-clause-err : goal.returns-in_err-plan-clause-err
 returns-in_err-plan-clause-err g c =
@@ -25,15 +26,19 @@ returns-in_err-plan-clause-err g c =
     let mid = g.D.Desk.shows c.instance_of.new.desk in
     let p = err_from_is_err_and c.from_residual-in_err-plan.result c.from_residual-in_err-plan.ensures.1 in
     rw (p.1, p.2)
-    (refuses_plan (source_view c.args.source.now) c.args.plan.now old mid (g.D.Desk.shows c.plan_of.new.desk) c.in_ok-inst.inst Judges _ c.in_ok-inst.ensures.ok
-    (is_read c.args.source.now.instance.now old mid c.in_ok-inst.ensures.read c.in_ok-inst.ensures.only_reads.later) c.in_err-plan.ensures.err)
+    (refuses_plan (source_view c.args.source.now) c.args.plan.now old mid
+    (g.D.Desk.shows c.plan_of.new.desk) c.in_ok-inst.inst Judges _ c.in_ok-inst.ensures.ok
+    (is_read c.args.source.now.instance.now old mid c.in_ok-inst.ensures.read c.in_ok-inst.ensures.only_reads.later)
+    c.in_err-plan.ensures.err)
 
 pub returns-in_err-plan-clause-kept : goal.returns-in_err-plan-clause-kept
 returns-in_err-plan-clause-kept g c =
     let p = err_from_is_err_and c.from_residual-in_err-plan.result c.from_residual-in_err-plan.ensures.1 in
     rw (p.1, p.2)
-    (kept_before (g.D.Desk.shows c.args.desk.now) (g.D.Desk.shows c.instance_of.new.desk) (g.D.Desk.shows c.plan_of.new.desk) _ c.in_ok-inst.ensures.last c.in_err-plan.ensures.kept)
+    (kept_before (g.D.Desk.shows c.args.desk.now) (g.D.Desk.shows c.instance_of.new.desk)
+    (g.D.Desk.shows c.plan_of.new.desk) _ c.in_ok-inst.ensures.last c.in_err-plan.ensures.kept)
 
 pub returns-in_err-plan-clause-only_reads : goal.returns-in_err-plan-clause-only_reads
 returns-in_err-plan-clause-only_reads g c =
-    reads_more (g.D.Desk.shows c.args.desk.now) (g.D.Desk.shows c.instance_of.new.desk) (g.D.Desk.shows c.plan_of.new.desk) c.in_ok-inst.ensures.only_reads c.in_err-plan.ensures.only_reads
+    reads_more (g.D.Desk.shows c.args.desk.now) (g.D.Desk.shows c.instance_of.new.desk)
+    (g.D.Desk.shows c.plan_of.new.desk) c.in_ok-inst.ensures.only_reads c.in_err-plan.ensures.only_reads

@@ -15,6 +15,8 @@ returns g c =
     let source = source_view c.args.source.now in
     let e = c.evaluate.ensures in
     evaluate_runs standard_limits source c.args.plan.now old new c.say_report.result
-    (report_ends (λ at. AnswersEvaluate standard_limits (reading old at) source.slack source.instance c.args.plan.now) old mid new c.evaluate.result c.say_report.result
-    (evaluate_stays standard_limits source c.args.plan.now old mid new e.only_reads.later) e.only_reads c.say_report.ensures.keeps e.last e.kept e.ok e.err c.say_report.ensures.ends)
+    (report_ends (λ at. AnswersEvaluate standard_limits (reading old at) source.slack source.instance c.args.plan.now)
+    old mid new c.evaluate.result c.say_report.result
+    (evaluate_stays standard_limits source c.args.plan.now old mid new e.only_reads.later) e.only_reads
+    c.say_report.ensures.keeps e.last e.kept e.ok e.err c.say_report.ensures.ends)
     (reads_keep old mid new e.only_reads c.say_report.ensures.keeps)

@@ -18,9 +18,12 @@ returns-in-Ok g c =
     let script = c.args.script.now in
     let e = c.in-Ok.ensures in
     replay_runs standard_limits source plan script old new c.replay_read.result
-    (answer_ends (λ at. AnswersReplay standard_limits (reading old at) source.slack source.instance plan script) old mid new c.replay_read.result
-    (replay_stays standard_limits source plan script old mid new e.only_reads.later) e.only_reads c.replay_read.ensures.keeps e.last
-    (read_answer source plan script old mid new c.in-Ok.files.inst c.in-Ok.files.plan c.in-Ok.files.script c.replay_read.result e.ok c.replay_read.ensures.ends))
+    (answer_ends (λ at. AnswersReplay standard_limits (reading old at) source.slack source.instance plan script) old mid
+    new c.replay_read.result
+    (replay_stays standard_limits source plan script old mid new e.only_reads.later) e.only_reads
+    c.replay_read.ensures.keeps e.last
+    (read_answer source plan script old mid new c.in-Ok.files.inst c.in-Ok.files.plan c.in-Ok.files.script
+    c.replay_read.result e.ok c.replay_read.ensures.ends))
     (reads_keep old mid new e.only_reads c.replay_read.ensures.keeps)
 
 pub returns-in-Err : goal.returns-in-Err
@@ -33,6 +36,8 @@ returns-in-Err g c =
     let script = c.args.script.now in
     let e = c.in-Err.ensures in
     replay_runs standard_limits source plan script old new c.refuse.result
-    (refusal_ends (λ at. AnswersReplay standard_limits (reading old at) source.slack source.instance plan script) old mid new c.in-Err.refusal c.refuse.result
-    (replay_stays standard_limits source plan script old mid new e.only_reads.later) e.only_reads c.refuse.ensures.keeps e.kept e.err c.refuse.ensures.ends)
+    (refusal_ends (λ at. AnswersReplay standard_limits (reading old at) source.slack source.instance plan script) old
+    mid new c.in-Err.refusal c.refuse.result
+    (replay_stays standard_limits source plan script old mid new e.only_reads.later) e.only_reads c.refuse.ensures.keeps
+    e.kept e.err c.refuse.ensures.ends)
     (reads_keep old mid new e.only_reads c.refuse.ensures.keeps)
