@@ -42,3 +42,13 @@ pub returns-in_err-plan-clause-only_reads : goal.returns-in_err-plan-clause-only
 returns-in_err-plan-clause-only_reads g c =
     reads_more (g.D.Desk.shows c.args.desk.now) (g.D.Desk.shows c.instance_of.new.desk)
     (g.D.Desk.shows c.plan_of.new.desk) c.in_ok-inst.ensures.only_reads c.in_err-plan.ensures.only_reads
+
+pub returns-in-Ok-clause-ok : goal.returns-in-Ok-clause-ok
+returns-in-Ok-clause-ok g c =
+    let old = g.D.Desk.shows c.args.desk.now in
+    let mid = g.D.Desk.shows c.instance_of.new.desk in
+    let new = g.D.Desk.shows c.plan_of.new.desk in
+    evaluate_judges (source_view c.args.source.now) c.args.plan.now old mid new c.in_ok-inst.inst c.in_ok-plan.plan
+    (reply c.in-Ok.report.status c.in-Ok.report.text) c.in_ok-inst.ensures.ok
+    (is_read c.args.source.now.instance.now old mid c.in_ok-inst.ensures.read c.in_ok-inst.ensures.only_reads.later)
+    c.in_ok-plan.ensures.ok c.in-Ok.ensures
