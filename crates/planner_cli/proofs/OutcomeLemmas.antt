@@ -1,62 +1,115 @@
--- What a run that has ended promises.
-use Rattle.std.proofs.Common.{◌≡◌, ℕ, ◌≤◌, List}
+-- What a run of the words promises, from what a run of their command does.
+use Rattle.std.proofs.Common.{◌≡◌, ℕ, ◌≤◌, inl, inr, List, Option, Some, None, refl, sym, ◌∙◌, ap, subst, arith}
 use Rattle.plan_desk.specs.Desk.{Shown}
-use Rattle.planner_cli.specs.Due.{Ends}
-use Rattle.planner_cli.specs.Outcome.{Outcome}
-use Rattle.planner_cli.proofs.AnswerLemmas.{evaluated_once, replayed_files_once}
-use Rattle.planner_cli.proofs.StatusLemmas.{feasible_ends, broken_ends, keys_ends, start_ends, words_ends, instance_ends, plan_ends, script_ends, read_ends, say_ends, part_ends, memory_ends, no_words_ends, evaluate_ends, replay_ends}
-use Rattle.planner_cli.proofs.AllowedLemmas.{no_instance_ends, refused_instance_ends, no_plan_ends, refused_plan_ends, kept_plan_ends, broken_plan_ends, no_script_ends, refused_script_ends, broken_opening_ends, done_script_ends, failing_line_ends}
-use Rattle.planner_cli.proofs.ExactLemmas.{evaluate_answered, replay_answered}
-use Rattle.planner_cli.proofs.CheckStatus.{accepted_ends, broken_given_ends, certificate_ends, check_ends}
-use Rattle.planner_cli.proofs.CheckAllowed.{no_certificate_ends, refused_certificate_ends, broken_checked_ends, valid_certificate_ends, failing_leaf_ends}
-use Rattle.planner_cli.proofs.CheckAnswers.{checked_files_once}
-use Rattle.planner_cli.proofs.CheckExact.{check_answered}
+use Rattle.plan_desk.specs.Contents.{Says}
+use Rattle.instance_model.specs.Limits.{standard_limits}
+use Rattle.planner_cli.specs.Words.{Source, Command, evaluate, replay, check, command_of}
+use Rattle.planner_cli.specs.Lines.{words_line}
+use Rattle.planner_cli.specs.Ending.{Answer, reply, Ends}
+use Rattle.planner_cli.specs.Ending.Ends.{done, unsaid}
+use Rattle.planner_cli.specs.Evaluating.{RunsEvaluate}
+use Rattle.planner_cli.specs.Replaying.{RunsReplay}
+use Rattle.planner_cli.specs.Checking.{RunsCheck}
+use Rattle.planner_cli.specs.Outcome.{Asks, DueRefusal, BehindRefusal, RefusesWords, Outcome}
+use Rattle.planner_cli.specs.Outcome.BehindRefusal.{refused as behind_refused, unsaid as behind_unsaid}
+use Rattle.planner_cli.specs.Refusals.{KeepsFiles, SaysOrFails}
+use Rattle.planner_cli.proofs.EndLemmas.{reads_none, said_ends, ends_quiet, unsaid_fails}
 
-pub outcome_of : (words : List (List ℕ)) (old new : Shown) (n : ℕ) → Ends words old new n → new.output ≡ old.output → old.faults ≤ new.faults → Outcome words old new n
-outcome_of words old new n ends output later =
+-- ---- words that are refused
+
+refusal_behind : (old new : Shown) (status : ℕ) → Ends DueRefusal old new status → BehindRefusal old new status
+refusal_behind old new status (done n d) =
+    subst (λ (m : ℕ). BehindRefusal old new m) (sym (d.status_is ∙ status_of d.answer d.due))
+    (behind_refused (said d.answer d.due d.says))
+  where
+    status_of : (a : Answer) → a ≡ reply 2 words_line → a.status ≡ 2
+    status_of a is = ap (λ (x : Answer). x.status) is
+
+    said : (a : Answer) → a ≡ reply 2 words_line → Says a.text old new → Says words_line old new
+    said a is says = subst (λ (x : Answer). Says x.text old new) is says
+refusal_behind old new status (unsaid u) = behind_unsaid (unsaid_fails DueRefusal old new u) u
+
+refuses : (old new : Shown) (status : ℕ) → KeepsFiles old new → SaysOrFails 2 words_line old new status
+    → RefusesWords old new status
+refuses old new status keeps says =
+    let ends : Ends DueRefusal old new status = said_ends DueRefusal old old new 2 words_line status (λ goes due. due)
+    (reads_none old) keeps (λ a b. refl) refl says in
+    record { ends = ends; behind = refusal_behind old new status ends; output = keeps.output; quiet = ends_quiet DueRefusal old new status ends; later = keeps.later }
+
+-- ---- one command
+
+apart : (words : List (List ℕ)) (c : Command) → command_of words ≡ None → Asks words c → ⊥
+apart words c none asks = never (sym none ∙ asks)
+  where
+    never : None ≡ Some c → ⊥
+    never e = cc
+
+same : (words : List (List ℕ)) (a b : Command) → Asks words a → Asks words b → a ≡ b
+same words a b x y = let e : Some a ≡ Some b = sym x ∙ y in cc
+
+-- what a command promises of the words that ask for it
+OfCommand : Command → (old new : Shown) → ℕ → Type 0
+OfCommand (evaluate source plan) old new status = RunsEvaluate standard_limits source plan old new status
+OfCommand (replay source plan script) old new status = RunsReplay standard_limits source plan script old new status
+OfCommand (check source plan cert) old new status = RunsCheck standard_limits source plan cert old new status
+
+pub outcome_refused : (words : List (List ℕ)) (old new : Shown) (status : ℕ) → command_of words ≡ None
+    → KeepsFiles old new → SaysOrFails 2 words_line old new status → Outcome words old new status
+outcome_refused words old new status none keeps says =
+    let run = refuses old new status keeps says in
     record {
-      ends = ends;
-      feasible = feasible_ends words old new n ends;
-      infeasible = broken_ends words old new n ends;
-      keys = keys_ends words old new n ends;
-      broken_start = start_ends words old new n ends;
-      accepted = accepted_ends words old new n ends;
-      broken_given = broken_given_ends words old new n ends;
-      refuses_words = words_ends words old new n ends;
-      instance = instance_ends words old new n ends;
-      plan = plan_ends words old new n ends;
-      certificate = certificate_ends words old new n ends;
-      script = script_ends words old new n ends;
-      read = read_ends words old new n ends;
-      say = say_ends words old new n ends;
-      part = part_ends words old new n ends;
-      memory = memory_ends words old new n ends;
-      no_words = no_words_ends words old new n ends;
-      of_evaluate = evaluate_ends words old new n ends;
-      of_replay = replay_ends words old new n ends;
-      of_check = check_ends words old new n ends;
-      no_instance = no_instance_ends words old new n ends;
-      refused_instance = refused_instance_ends words old new n ends;
-      no_plan = no_plan_ends words old new n ends;
-      refused_plan = refused_plan_ends words old new n ends;
-      kept_plan = kept_plan_ends words old new n ends;
-      broken_plan = broken_plan_ends words old new n ends;
-      no_script = no_script_ends words old new n ends;
-      refused_script = refused_script_ends words old new n ends;
-      broken_opening = broken_opening_ends words old new n ends;
-      done_script = done_script_ends words old new n ends;
-      failing_line = failing_line_ends words old new n ends;
-      no_certificate = no_certificate_ends words old new n ends;
-      refused_certificate = refused_certificate_ends words old new n ends;
-      broken_checked_plan = broken_checked_ends words old new n ends;
-      valid_certificate = valid_certificate_ends words old new n ends;
-      failing_leaf = failing_leaf_ends words old new n ends;
-      exact_evaluate = evaluate_answered words old new n ends;
-      exact_replay = replay_answered words old new n ends;
-      exact_check = check_answered words old new n ends;
-      one_evaluation = evaluated_once;
-      one_replay = replayed_files_once;
-      one_check = checked_files_once;
-      output = output;
-      later = later;
+      no_command = λ is. run;
+      evaluates = λ source plan asks. absurd (apart words (evaluate source plan) none asks);
+      replays = λ source plan script asks. absurd (apart words (replay source plan script) none asks);
+      checks = λ source plan cert asks. absurd (apart words (check source plan cert) none asks);
+      quiet = run.quiet;
+      later = run.later;
+    }
+
+pub outcome_evaluate : (words : List (List ℕ)) (source : Source) (name : List ℕ) (old new : Shown) (status : ℕ)
+    → Asks words (evaluate source name) → RunsEvaluate standard_limits source name old new status
+    → Outcome words old new status
+unfolding OfCommand
+outcome_evaluate words source name old new status asked run =
+    let one : (c : Command) → Asks words c → OfCommand c old new status = λ c asks. subst
+    (λ (x : Command). OfCommand x old new status) (same words (evaluate source name) c asked asks) run in
+    record {
+      no_command = λ is. absurd (apart words (evaluate source name) is asked);
+      evaluates = λ source plan asks. one (evaluate source plan) asks;
+      replays = λ source plan script asks. one (replay source plan script) asks;
+      checks = λ source plan cert asks. one (check source plan cert) asks;
+      quiet = run.quiet;
+      later = run.later;
+    }
+
+pub outcome_replay : (words : List (List ℕ)) (source : Source) (name script_name : List ℕ) (old new : Shown) (status : ℕ)
+    → Asks words (replay source name script_name)
+    → RunsReplay standard_limits source name script_name old new status → Outcome words old new status
+unfolding OfCommand
+outcome_replay words source name script_name old new status asked run =
+    let one : (c : Command) → Asks words c → OfCommand c old new status = λ c asks. subst
+    (λ (x : Command). OfCommand x old new status) (same words (replay source name script_name) c asked asks) run in
+    record {
+      no_command = λ is. absurd (apart words (replay source name script_name) is asked);
+      evaluates = λ source plan asks. one (evaluate source plan) asks;
+      replays = λ source plan script asks. one (replay source plan script) asks;
+      checks = λ source plan cert asks. one (check source plan cert) asks;
+      quiet = run.quiet;
+      later = run.later;
+    }
+
+pub outcome_check : (words : List (List ℕ)) (source : Source) (name : Option (List ℕ)) (cert_name : List ℕ) (old new : Shown) (status : ℕ)
+    → Asks words (check source name cert_name)
+    → RunsCheck standard_limits source name cert_name old new status → Outcome words old new status
+unfolding OfCommand
+outcome_check words source name cert_name old new status asked run =
+    let one : (c : Command) → Asks words c → OfCommand c old new status = λ c asks. subst
+    (λ (x : Command). OfCommand x old new status) (same words (check source name cert_name) c asked asks) run in
+    record {
+      no_command = λ is. absurd (apart words (check source name cert_name) is asked);
+      evaluates = λ source plan asks. one (evaluate source plan) asks;
+      replays = λ source plan script asks. one (replay source plan script) asks;
+      checks = λ source plan cert asks. one (check source plan cert) asks;
+      quiet = run.quiet;
+      later = run.later;
     }

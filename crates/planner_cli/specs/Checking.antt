@@ -1,6 +1,11 @@
--- The command `check`: what the bytes of a certificate file stand for, what an accepted certificate says, and what is answered.
-use Rattle.std.specs.Prelude.{◌≡◌, ◌⊎◌, ℕ, ◌*◌, ◌<◌, ◌≤◌, ⊤, ℤ, pos, ◌+ℤ◌, ◌≤ℤ◌, ◌<ℤ◌, List, length, Option, Some, None}
-use Rattle.instance_model.specs.Limits.{standard_limits}
+-- The command `check`: the answer to an instance, a plan that may be left out and a certificate, what an accepted
+-- certificate says, and what a run promises.
+--
+-- `old` and `new` are what the desk shows before and after a run.
+use Rattle.std.specs.Prelude.{◌≡◌, ℕ, ◌*◌, ◌≤◌, ⊤, ℤ, pos, ◌-ℤ◌, ◌+ℤ◌, ◌≤ℤ◌, ◌<ℤ◌, List, length, Option, Some, None}
+use Rattle.plan_desk.specs.Desk.{Shown}
+use Rattle.plan_desk.specs.Contents.{TellsSuch, Says}
+use Rattle.instance_model.specs.declared.limits.Limits.{Limits}
 use Rattle.instance_model.specs.Tables.{Tables}
 use Rattle.instance_model.specs.Values.{numerator_of, score_of}
 use Rattle.instance_model.specs.Exact.{scenario_product, sum_of_quotients, CostIsJustAboveScore}
@@ -11,44 +16,17 @@ use Rattle.certificate_lines.specs.declared.line.Bound.{Bound}
 use Rattle.certificate_lines.specs.declared.line.Bound.TheVariants.{NoPlan, Least}
 use Rattle.branch_tree.specs.declared.certificate.Certificate.{Certificate}
 use Rattle.branch_tree.specs.Validity.{IsValid, IsFirstFailing}
-use Rattle.branch_certificate.specs.declared.fault.CertFault.{CertFault}
-use Rattle.branch_certificate.specs.Faults.{IsTextOf, HasCertFault}
-use Rattle.planner_cli.specs.Lines.{long_certificate_line, certificate_fault_line, failing_leaf_line}
+use Rattle.planner_cli.specs.Words.{Source}
+use Rattle.planner_cli.specs.Lines.{failing_leaf_line}
 use Rattle.planner_cli.specs.Reports.{infeasible_report, accepted_report}
-use Rattle.planner_cli.specs.Answers.{AnswersInstance, AnswersPlan}
-
--- ---- what the bytes of a certificate file stand for
-
--- the bytes of a certificate file, at most 2^28, are the text of this certificate
-pub record SpellsCertificate (inst : Tables) (bytes : List ℕ) (cert : Certificate) : Type 0 where
-  pub within : length bytes ≤ standard_limits.certificate_bytes
-  pub text_of : IsTextOf inst bytes cert
-
--- the bytes of a certificate file are too many
-abbrev pub IsLongCertificate : List ℕ → Type 0
-IsLongCertificate bytes = standard_limits.certificate_bytes < length bytes
-
--- the bytes of a certificate file, at most 2^28, have this fault, which is that of their first faulty line
-pub record HasFaultyText (inst : Tables) (bytes : List ℕ) (fault : CertFault) : Type 0 where
-  pub within : length bytes ≤ standard_limits.certificate_bytes
-  pub fault_is : HasCertFault inst bytes fault
-
--- they are the text of this certificate and of no other, and have no fault
-pub record SpellsOne (inst : Tables) (bytes : List ℕ) (cert : Certificate) : Type 0 where
-  pub spells : SpellsCertificate inst bytes cert
-  pub only : (other : Certificate) → IsTextOf inst bytes other → other ≡ cert
-  pub sound : (fault : CertFault) → HasCertFault inst bytes fault → ⊥
-
--- they have this fault and no other, and are the text of no certificate
-pub record HasOneFault (inst : Tables) (bytes : List ℕ) (fault : CertFault) : Type 0 where
-  pub has : HasFaultyText inst bytes fault
-  pub only : (other : CertFault) → HasCertFault inst bytes other → other ≡ fault
-  pub unspelled : (cert : Certificate) → IsTextOf inst bytes cert → ⊥
-
--- the refusals of such bytes: the status and the line
-pub data RefusesCertificateBytes (inst : Tables) (bytes : List ℕ) : ℕ → List ℕ → Type 0 where
-  long_certificate : IsLongCertificate bytes → RefusesCertificateBytes inst bytes 5 long_certificate_line
-  faulty_certificate : (fault : CertFault) → HasOneFault inst bytes fault → RefusesCertificateBytes inst bytes 5 (certificate_fault_line fault)
+use Rattle.planner_cli.specs.Ending.{Answer, reply, IsOneAnswer, OrMemory, IsQuiet, Ends, Behind}
+use Rattle.planner_cli.specs.Ending.{IsAllowed, IsAnswered, NoFault}
+use Rattle.planner_cli.specs.Bytes.{RefusesInstance, IsRefusedInstance, RefusesPlan, IsRefusedPlan}
+use Rattle.planner_cli.specs.Bytes.{RefusesCertificate, IsRefusedCertificate}
+use Rattle.planner_cli.specs.Files.{Meeting, reading, by_bytes, OnInstance, OnGiven, OnCertificate}
+use Rattle.planner_cli.specs.Files.{ReadsInstance, ReadsGiven, ReadsCertificate, SaysUnread, SaysRefusal}
+use Rattle.planner_cli.specs.Files.{TellsMissing, TellsBytes, TellsGivenBytes, TellsInstance, TellsGiven}
+use Rattle.planner_cli.specs.Files.{TellsCertificate}
 
 -- ---- what an accepted certificate says
 
@@ -62,19 +40,23 @@ pub record BoundsEveryPlan (inst : Tables) (bound : Bound) : Type 0 where
   pub least : (b : ℤ) → bound ≡ Least b → (plan : List (Option ℕ)) → IsKeptPlan inst plan → b ≤ℤ score_of inst plan
   pub none : bound ≡ NoPlan → (plan : List (Option ℕ)) → IsKeptPlan inst plan → ⊥
 
--- the exact cost of a plan as a whole number, of which T * 10^18 times the product of all numbers of scenarios make a cost of 1
+-- the exact cost of a plan as a whole number, of which T * 10^18 times the product of all numbers of scenarios make a
+-- cost of 1
 abbrev pub exact_cost : Tables → List (Option ℕ) → ℤ
 exact_cost inst plan = sum_of_quotients inst (numerator_of inst plan)
 
 -- no plan that keeps the rules has a lower score, and none costs less by 10^-18 or more
 pub record IsBest (inst : Tables) (plan : List (Option ℕ)) : Type 0 where
   pub score : (other : List (Option ℕ)) → IsKeptPlan inst other → score_of inst plan ≤ℤ score_of inst other
-  pub cost : (other : List (Option ℕ)) → IsKeptPlan inst other → exact_cost inst plan <ℤ (exact_cost inst other +ℤ pos (inst.periods * scenario_product inst))
+  pub cost : (other : List (Option ℕ)) → IsKeptPlan inst other
+      → exact_cost inst plan <ℤ (exact_cost inst other +ℤ pos (inst.periods * scenario_product inst))
 
 -- a plan that was given keeps the rules
 abbrev pub GivenKeeps : Tables → Option (List (Option ℕ)) → Type 0
 GivenKeeps inst None = ⊤
 GivenKeeps inst (Some plan) = IsKeptPlan inst plan
+
+-- ---- the answer
 
 -- the certificate is valid: no leaf fails, and its bound holds for every plan, also for one that was given
 pub record IsAccepted (inst : Tables) (given : Option (List (Option ℕ))) (cert : Certificate) : Type 0 where
@@ -98,24 +80,151 @@ pub record IsRefused (inst : Tables) (given : Option (List (Option ℕ))) (cert 
   pub invalid : IsValid risk_base risk_value inst cert → ⊥
   pub keeps : GivenKeeps inst given
 
--- ---- what is answered
+-- to an instance, a plan if one is given, and a certificate: 1 with the first broken rule of the plan, where there is
+-- one; else 0 where the certificate is valid, and 5 with the first leaf that doesn't hold
+pub data Checks (inst : Tables) (given : Option (List (Option ℕ))) (cert : Certificate) : Answer → Type 0 where
+  broken_plan : (rule : Rule) → IsBroken inst given rule
+      → Checks inst given cert (reply 1 (infeasible_report inst rule))
+  failing_leaf : (n : ℕ) → IsRefused inst given cert n → Checks inst given cert (reply 5 (failing_leaf_line n))
+  accepted : IsAccepted inst given cert → Checks inst given cert (reply 0 (accepted_report inst cert.bound given))
 
--- `check`: 1 with the first broken rule of the plan that was given, where there is one; else 0 where the certificate is valid, and 5 with the
--- first leaf that doesn't hold
-pub data Checks (inst : Tables) (given : Option (List (Option ℕ))) (cert : Certificate) : ℕ → List ℕ → Type 0 where
-  broken_plan : (rule : Rule) → IsBroken inst given rule → Checks inst given cert 1 (infeasible_report inst rule)
-  failing_leaf : (n : ℕ) → IsRefused inst given cert n → Checks inst given cert 5 (failing_leaf_line n)
-  accepted : IsAccepted inst given cert → Checks inst given cert 0 (accepted_report inst cert.bound given)
+-- to the files, with a slack in 10^-12: the instance is word 2, the plan word 3, and the certificate word 4
+abbrev pub AnswersCheck : Limits → Meeting → ℕ → (instance : List ℕ) → (plan : Option (List ℕ)) → (cert : List ℕ)
+    → Answer → Type 0
+AnswersCheck limits met slack instance plan cert = OnInstance limits slack met 2 instance
+    (λ inst. OnGiven limits inst met 3 plan (λ p. OnCertificate limits inst met 4 cert (Checks inst p)))
 
--- no plan is given, and the answer is the next one; or a plan is, and it is refused, or the answer is the next one for it
-abbrev pub AnswersGiven : Tables → Option (List ℕ) → (Option (List (Option ℕ)) → ℕ → List ℕ → Type 0) → ℕ → List ℕ → Type 0
-AnswersGiven inst None Next = Next None
-AnswersGiven inst (Some bytes) Next = AnswersPlan inst bytes (λ plan. Next (Some plan))
+-- what is due, once the desk shows `at`
+abbrev pub DueCheck : Limits → Source → Option (List ℕ) → List ℕ → (old at : Shown) → Answer → Type 0
+DueCheck limits source plan cert old at =
+    OrMemory (AnswersCheck limits (reading old at) source.slack source.instance plan cert)
 
--- the certificate is refused, or the answer is the next one for it
-abbrev pub AnswersCertificate : Tables → List ℕ → (Certificate → ℕ → List ℕ → Type 0) → ℕ → List ℕ → Type 0
-AnswersCertificate inst bytes Next s t = RefusesCertificateBytes inst bytes s t ⊎ ((cert : Certificate) × SpellsOne inst bytes cert × Next cert s t)
+-- ---- what stands behind each status
 
--- `check` with a slack in 10^-12, for the bytes of its files
-abbrev pub AnswersCheck : ℕ → List ℕ → Option (List ℕ) → List ℕ → ℕ → List ℕ → Type 0
-AnswersCheck slack instance plan certificate = AnswersInstance slack instance (λ inst. AnswersGiven inst plan (λ given. AnswersCertificate inst certificate (Checks inst given)))
+-- the files were read
+pub record ReadsCheck (limits : Limits) (source : Source) (name : Option (List ℕ)) (cert_name : List ℕ) (old : Shown)
+    : Type 0 where
+  pub inst : Tables
+  pub reads : ReadsInstance limits source old inst
+  pub plan : Option (List (Option ℕ))
+  pub reads_plan : ReadsGiven limits name inst old plan
+  pub cert : Certificate
+  pub reads_cert : ReadsCertificate limits cert_name inst old cert
+
+-- 0: the certificate is valid, so every plan that keeps the rules has a score of at least its bound, and where that is
+-- none, no plan keeps the rules; a plan that was given keeps them; where its score is the bound, no plan is better;
+-- and the report was said
+pub record ReportsAccepted (limits : Limits) (source : Source) (name : Option (List ℕ)) (cert_name : List ℕ)
+    (old new : Shown) : Type 0 where
+  pub files : ReadsCheck limits source name cert_name old
+  pub valid : IsValid risk_base risk_value files.inst files.cert
+  pub bounds : BoundsEveryPlan files.inst files.cert.bound
+  pub keeps : GivenKeeps files.inst files.plan
+  pub no_plan : files.cert.bound ≡ NoPlan → files.plan ≡ None
+  pub no_better : (plan : List (Option ℕ)) (b : ℤ) → files.plan ≡ Some plan → files.cert.bound ≡ Least b
+      → score_of files.inst plan -ℤ b ≡ pos 0 → IsBest files.inst plan
+  pub says : Says (accepted_report files.inst files.cert.bound files.plan) old new
+
+-- 1: all files were read, a plan was given that does not keep the rules, and the first rule that it breaks was said
+pub record ReportsBrokenGiven (limits : Limits) (source : Source) (name : Option (List ℕ)) (cert_name : List ℕ)
+    (old new : Shown) : Type 0 where
+  pub files : ReadsCheck limits source name cert_name old
+  pub plan : List (Option ℕ)
+  pub given : files.plan ≡ Some plan
+  pub not_kept : KeepsRules files.inst plan → ⊥
+  pub rule : Rule
+  pub first : first_rule files.inst plan ≡ Some rule
+  pub says : Says (infeasible_report files.inst rule) old new
+
+-- 5, where the certificate was read: a plan that was given keeps the rules, and the first leaf that doesn't hold was
+-- said
+pub record RefusesLeaf (limits : Limits) (source : Source) (name : Option (List ℕ)) (cert_name : List ℕ)
+    (old new : Shown) : Type 0 where
+  pub files : ReadsCheck limits source name cert_name old
+  pub keeps : GivenKeeps files.inst files.plan
+  pub n : ℕ
+  pub first : IsFirstFailing risk_base risk_value files.inst files.cert n
+  pub says : Says (failing_leaf_line n) old new
+
+pub data BehindCheck (limits : Limits) (source : Source) (name : Option (List ℕ)) (cert_name : List ℕ) (old new : Shown)
+    : ℕ → Type 0 where
+  accepted : ReportsAccepted limits source name cert_name old new → BehindCheck limits source name cert_name old new 0
+  broken_given : ReportsBrokenGiven limits source name cert_name old new
+      → BehindCheck limits source name cert_name old new 1
+  refused_instance : SaysRefusal source.instance (RefusesInstance limits) old new
+      → BehindCheck limits source name cert_name old new 3
+  refused_plan : (plan : List ℕ) (inst : Tables) → name ≡ Some plan → ReadsInstance limits source old inst
+      → SaysRefusal plan (RefusesPlan limits inst) old new → BehindCheck limits source name cert_name old new 4
+  refused_certificate : (inst : Tables) (plan : Option (List (Option ℕ))) → ReadsInstance limits source old inst
+      → ReadsGiven limits name inst old plan → SaysRefusal cert_name (RefusesCertificate limits inst) old new
+      → BehindCheck limits source name cert_name old new 5
+  refused_leaf : RefusesLeaf limits source name cert_name old new → BehindCheck limits source name cert_name old new 5
+  unread_instance : SaysUnread 2 source.instance old new → BehindCheck limits source name cert_name old new 7
+  unread_plan : (plan : List ℕ) (inst : Tables) → name ≡ Some plan → ReadsInstance limits source old inst
+      → SaysUnread 3 plan old new → BehindCheck limits source name cert_name old new 7
+  unread_certificate : (inst : Tables) (plan : Option (List (Option ℕ))) → ReadsInstance limits source old inst
+      → ReadsGiven limits name inst old plan → SaysUnread 4 cert_name old new
+      → BehindCheck limits source name cert_name old new 7
+
+-- ---- which status comes, from what the files are told to hold
+
+-- an instance, a plan if one is given, and a certificate
+pub record CheckedPlan : Type 0 where
+  pub inst : Tables
+  pub plan : Option (List (Option ℕ))
+  pub cert : Certificate
+
+-- it is told that the bytes of the files stand for these
+pub record TellsChecked (limits : Limits) (s : Shown) (source : Source) (name : Option (List ℕ)) (cert_name : List ℕ)
+    (files : CheckedPlan) : Type 0 where
+  pub instance : TellsInstance limits s source files.inst
+  pub plan : TellsGiven limits s name files.inst files.plan
+  pub cert : TellsCertificate limits s cert_name files.inst files.cert
+
+pub data ExpectsCheck (limits : Limits) (source : Source) (name : Option (List ℕ)) (cert_name : List ℕ) (old : Shown)
+    : ℕ → Type 0 where
+  no_instance : TellsMissing old source.instance → ExpectsCheck limits source name cert_name old 7
+  refused_instance : TellsSuch old source.instance (IsRefusedInstance limits)
+      → ExpectsCheck limits source name cert_name old 3
+  no_plan : (plan : List ℕ) (inst : Tables) → name ≡ Some plan → TellsInstance limits old source inst
+      → TellsMissing old plan → ExpectsCheck limits source name cert_name old 7
+  refused_plan : (plan : List ℕ) (inst : Tables) → name ≡ Some plan → TellsInstance limits old source inst
+      → TellsSuch old plan (IsRefusedPlan limits inst) → ExpectsCheck limits source name cert_name old 4
+  no_certificate : (inst : Tables) (plan : Option (List (Option ℕ))) → TellsInstance limits old source inst
+      → TellsGiven limits old name inst plan → TellsMissing old cert_name
+      → ExpectsCheck limits source name cert_name old 7
+  refused_certificate : (inst : Tables) (plan : Option (List (Option ℕ))) → TellsInstance limits old source inst
+      → TellsGiven limits old name inst plan → TellsSuch old cert_name (IsRefusedCertificate limits inst)
+      → ExpectsCheck limits source name cert_name old 5
+  broken_plan : (files : CheckedPlan) (plan : List (Option ℕ)) → TellsChecked limits old source name cert_name files
+      → files.plan ≡ Some plan → (KeepsRules files.inst plan → ⊥) → ExpectsCheck limits source name cert_name old 1
+  valid_certificate : (files : CheckedPlan) → TellsChecked limits old source name cert_name files
+      → GivenKeeps files.inst files.plan → IsValid risk_base risk_value files.inst files.cert
+      → ExpectsCheck limits source name cert_name old 0
+  failing_leaf : (files : CheckedPlan) (n : ℕ) → TellsChecked limits old source name cert_name files
+      → GivenKeeps files.inst files.plan → IsFirstFailing risk_base risk_value files.inst files.cert n
+      → ExpectsCheck limits source name cert_name old 5
+
+-- ---- what a run promises
+
+pub record RunsCheck (limits : Limits) (source : Source) (name : Option (List ℕ)) (cert_name : List ℕ) (old new : Shown)
+    (status : ℕ) : Type 0 where
+  -- what was due was said, or its saying failed
+  pub ends : Ends (DueCheck limits source name cert_name old) old new status
+  -- what stands behind the status, which also is one of these
+  pub behind : Behind (BehindCheck limits source name cert_name old new) (DueCheck limits source name cert_name old)
+      old new status
+  -- which status comes
+  pub allowed : (expected : ℕ) → ExpectsCheck limits source name cert_name old expected → IsAllowed expected status
+  -- without a fault, the answer is the one for the bytes of the files, or want of memory
+  pub exact : (instance : List ℕ) (plan : Option (List ℕ)) (cert : List ℕ) → TellsBytes old source.instance instance
+      → TellsGivenBytes old name plan → TellsBytes old cert_name cert → NoFault old new
+      → IsAnswered (AnswersCheck limits by_bytes source.slack instance plan cert) old new status
+  -- the bytes have at most one answer
+  pub one : (slack : ℕ) (instance : List ℕ) (plan : Option (List ℕ)) (cert : List ℕ)
+      → IsOneAnswer (AnswersCheck limits by_bytes slack instance plan cert)
+  -- no file is changed
+  pub output : new.output ≡ old.output
+  -- the last fault is what it was, but at 7, 8 and 11, and faults never fall
+  pub quiet : IsQuiet status old new
+  pub later : old.faults ≤ new.faults

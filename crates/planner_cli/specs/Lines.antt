@@ -84,7 +84,8 @@ across_place (bad_tmax intervention) = then_text intervention
 across_place (no_delta intervention) = then_text intervention
 across_place (unknown name) = then_text name
 across_place (no_risk intervention period start) = then_text intervention ++ (then_number period ++ then_number start)
-across_place (scenario_count intervention period start) = then_text intervention ++ (then_number period ++ then_number start)
+across_place (scenario_count intervention period start) =
+    then_text intervention ++ (then_number period ++ then_number start)
 
 -- the fault of an instance file: its words, and where it is
 abbrev pub fault_words : FileFault → List ℕ

@@ -1,9 +1,11 @@
 -- The status and the line of a refusal, and how what is due is said. No part of any promise.
-use Rattle.std.specs.Prelude.{◌≡◌, ◌⊎◌, ℕ, ◌<◌, ◌^◌, ⊤, ℤ, List, [], length, take, All, Option, Some, None, option_map, IfSome, unsigned_abs}
+use Rattle.std.specs.Prelude.{◌≡◌, ◌≢◌, ◌⊎◌, ℕ, ◌<◌, ◌≤◌, ◌^◌, ⊤, ℤ, List, [], length, take, All, Option, Some, None}
+use Rattle.std.specs.Prelude.{option_map, IfSome, unsigned_abs, Result, Ok, Err}
 use Rattle.plan_desk.specs.Desk.{Shown, ShowsSame, after_take_in}
 use Rattle.plan_desk.specs.Contents.{WhereToldHolds, Says}
 use Rattle.plan_moves.specs.declared.script_line.ScriptLine.{ScriptLine}
 use Rattle.plan_moves.specs.Scripts.{NamesKnown}
+use Rattle.instance_model.specs.Limits.{standard_limits}
 use Rattle.instance_model.specs.Tables.{Tables}
 use Rattle.instance_model.specs.Values.{score_of}
 use Rattle.instance_model.specs.Rules.{first_start_rule}
@@ -12,18 +14,40 @@ use Rattle.instance_shape.specs.FileFaults.{FileFault}
 use Rattle.instance_read.specs.Faults.{fault_of}
 use Rattle.branch_tree.specs.declared.certificate.Certificate.{Certificate as CertificateData}
 use Rattle.planner_cli.specs.declared.refusal.Refusal.{Refusal}
-use Rattle.planner_cli.specs.declared.refusal.Refusal.TheVariants.{Unread, LongInstance, Instance, LongPlan, Plan, LongScript, Script, LongCertificate, Certificate, Memory}
+use Rattle.planner_cli.specs.declared.refusal.Refusal.TheVariants.{Unread, LongInstance, Instance, LongPlan, Plan}
+use Rattle.planner_cli.specs.declared.refusal.Refusal.TheVariants.{LongScript, Script, LongCertificate, Certificate}
+use Rattle.planner_cli.specs.declared.refusal.Refusal.TheVariants.{Memory}
+use Rattle.planner_cli.specs.declared.report.Report.{Report}
 use Rattle.planner_cli.specs.declared.check.Given.{Given}
 use Rattle.planner_cli.specs.declared.check.Given.TheVariants.{Kept, Broken as BrokenRule}
 use Rattle.planner_cli.specs.declared.replay.Opening.{Opening}
 use Rattle.planner_cli.specs.declared.replay.Opening.TheVariants.{Starts as OfStarts, Broken}
-use Rattle.planner_cli.specs.Words.{Source, Command}
-use Rattle.planner_cli.specs.Lines.{memory_line, read_line, long_instance_line, instance_fault_line, long_plan_line, plan_fault_line, long_script_line, script_fault_line, long_certificate_line, certificate_fault_line}
+use Rattle.planner_cli.specs.Words.{Source}
+use Rattle.planner_cli.specs.Lines.{memory_line, read_line, long_instance_line, instance_fault_line, long_plan_line}
+use Rattle.planner_cli.specs.Lines.{plan_fault_line, long_script_line, script_fault_line, long_certificate_line}
+use Rattle.planner_cli.specs.Lines.{certificate_fault_line}
 use Rattle.planner_cli.specs.Reports.{infeasible_report}
-use Rattle.planner_cli.specs.Answers.{IsLongInstance, IsLongPlan, IsLongScript, IsOpeningOf}
-use Rattle.planner_cli.specs.Checking.{IsLongCertificate, GivenKeeps, IsBroken, Checks}
-use Rattle.planner_cli.specs.Reading.{ReadsInstance, ReadsFaulty, ReadsPlan, ReadsPlanFault, ReadsScript, ReadsScriptFault, ReadsCertificateFault, ReadFails, SayFails}
-use Rattle.planner_cli.specs.Due.{Asks, Ends}
+use Rattle.planner_cli.specs.Ending.{Answer, reply, SayFails}
+use Rattle.planner_cli.specs.Bytes.{IsLongInstance, IsOneFault, IsLongPlan, HasFault, IsLongScript, HasFaultyLine}
+use Rattle.planner_cli.specs.Bytes.{IsLongCertificate, HasOneFault}
+use Rattle.planner_cli.specs.Files.{ReadFails, ReadsSuch, ReadsInstance, ReadsPlan, ReadsScript}
+use Rattle.planner_cli.specs.Replaying.{IsOpeningOf}
+use Rattle.planner_cli.specs.Checking.{GivenKeeps, IsBroken, Checks}
+
+-- ---- calls that write no file
+
+-- a call that only reads: what files hold and what was said is as before, and the count of faults never falls
+pub record OnlyReads (old new : Shown) : Type 0 where
+  pub output : new.output ≡ old.output
+  pub said : new.said ≡ old.said
+  pub later : old.faults ≤ new.faults
+
+-- a call that writes no file: what files hold is as before, and the count of faults never falls
+pub record KeepsFiles (old new : Shown) : Type 0 where
+  pub output : new.output ≡ old.output
+  pub later : old.faults ≤ new.faults
+
+-- ---- refusals
 
 abbrev pub status_of : Refusal → ℕ
 status_of LongInstance = 3
@@ -54,69 +78,57 @@ line_of (Certificate fault) = certificate_fault_line fault
 line_of (Unread word) = read_line word
 line_of Memory = memory_line
 
--- why the bytes of the file of this name, which is this word of the command line, are not read: a desk failed, there are more than `most`,
--- or memory ran out
+-- the last fault is what it was, but where a file could not be read
+abbrev pub KeepsLast : (old new : Shown) → Refusal → Type 0
+KeepsLast old new (Unread word) = ⊤
+KeepsLast old new _ = new.last ≡ old.last
+
+-- why the bytes of the file of this name, which is this word of the command line, are not read: a desk failed, there
+-- are more than `most`, or memory ran out
 pub data IsReadCause (name : List ℕ) (word most : ℕ) (long : Refusal) (old new : Shown) : Refusal → Type 0 where
   unread : ReadFails name old new → IsReadCause name word most long old new (Unread word)
   too_long : WhereToldHolds old name (λ held. most < length held) → IsReadCause name word most long old new long
   no_memory : IsReadCause name word most long old new Memory
 
--- why the instance file of this name is refused
-abbrev pub IsInstanceCause : List ℕ → (old new : Shown) → Refusal → Type 0
-IsInstanceCause name old new (Unread word) = (word ≡ 2) × ReadFails name old new
-IsInstanceCause name old new LongInstance = WhereToldHolds old name IsLongInstance
-IsInstanceCause name old new (Instance fault) = (told : FileFault) × (fault_of fault ≡ Some told) × ReadsFaulty name old told
-IsInstanceCause name old new LongPlan = ⊥
-IsInstanceCause name old new (Plan fault) = ⊥
-IsInstanceCause name old new LongScript = ⊥
-IsInstanceCause name old new (Script fault) = ⊥
-IsInstanceCause name old new LongCertificate = ⊥
-IsInstanceCause name old new (Certificate fault) = ⊥
-IsInstanceCause name old new Memory = ⊤
+-- why the instance file of this name, which is this word, is refused
+abbrev pub IsInstanceCause : ℕ → List ℕ → (old new : Shown) → Refusal → Type 0
+IsInstanceCause at name old new (Unread word) = (word ≡ at) × ReadFails name old new
+IsInstanceCause at name old new LongInstance = WhereToldHolds old name (IsLongInstance standard_limits)
+IsInstanceCause at name old new (Instance fault) = (told : FileFault) × (fault_of fault ≡ Some told)
+    × ReadsSuch name old (λ bytes. IsOneFault standard_limits bytes told)
+IsInstanceCause at name old new Memory = ⊤
+IsInstanceCause at name old new _ = ⊥
 
--- why the plan file of this name is refused for an instance
-abbrev pub IsPlanCause : List ℕ → Tables → (old new : Shown) → Refusal → Type 0
-IsPlanCause name inst old new (Unread word) = (word ≡ 3) × ReadFails name old new
-IsPlanCause name inst old new LongInstance = ⊥
-IsPlanCause name inst old new (Instance fault) = ⊥
-IsPlanCause name inst old new LongPlan = WhereToldHolds old name IsLongPlan
-IsPlanCause name inst old new (Plan fault) = ReadsPlanFault name inst old fault
-IsPlanCause name inst old new LongScript = ⊥
-IsPlanCause name inst old new (Script fault) = ⊥
-IsPlanCause name inst old new LongCertificate = ⊥
-IsPlanCause name inst old new (Certificate fault) = ⊥
-IsPlanCause name inst old new Memory = ⊤
+-- why the plan file of this name, which is this word, is refused for an instance
+abbrev pub IsPlanCause : ℕ → List ℕ → Tables → (old new : Shown) → Refusal → Type 0
+IsPlanCause at name inst old new (Unread word) = (word ≡ at) × ReadFails name old new
+IsPlanCause at name inst old new LongPlan = WhereToldHolds old name (IsLongPlan standard_limits)
+IsPlanCause at name inst old new (Plan fault) = ReadsSuch name old (λ bytes. HasFault standard_limits inst bytes fault)
+IsPlanCause at name inst old new Memory = ⊤
+IsPlanCause at name inst old new _ = ⊥
 
--- why the script file of this name is refused for an instance
-abbrev pub IsScriptCause : List ℕ → Tables → (old new : Shown) → Refusal → Type 0
-IsScriptCause name inst old new (Unread word) = (word ≡ 4) × ReadFails name old new
-IsScriptCause name inst old new LongInstance = ⊥
-IsScriptCause name inst old new (Instance fault) = ⊥
-IsScriptCause name inst old new LongPlan = ⊥
-IsScriptCause name inst old new (Plan fault) = ⊥
-IsScriptCause name inst old new LongScript = WhereToldHolds old name IsLongScript
-IsScriptCause name inst old new (Script fault) = ReadsScriptFault name inst old fault
-IsScriptCause name inst old new LongCertificate = ⊥
-IsScriptCause name inst old new (Certificate fault) = ⊥
-IsScriptCause name inst old new Memory = ⊤
+-- why the script file of this name, which is this word, is refused for an instance
+abbrev pub IsScriptCause : ℕ → List ℕ → Tables → (old new : Shown) → Refusal → Type 0
+IsScriptCause at name inst old new (Unread word) = (word ≡ at) × ReadFails name old new
+IsScriptCause at name inst old new LongScript = WhereToldHolds old name (IsLongScript standard_limits)
+IsScriptCause at name inst old new (Script fault) =
+    ReadsSuch name old (λ bytes. HasFaultyLine standard_limits inst bytes fault)
+IsScriptCause at name inst old new Memory = ⊤
+IsScriptCause at name inst old new _ = ⊥
 
--- why the certificate file of this name is refused for an instance
-abbrev pub IsCertificateCause : List ℕ → Tables → (old new : Shown) → Refusal → Type 0
-IsCertificateCause name inst old new (Unread word) = (word ≡ 4) × ReadFails name old new
-IsCertificateCause name inst old new LongInstance = ⊥
-IsCertificateCause name inst old new (Instance fault) = ⊥
-IsCertificateCause name inst old new LongPlan = ⊥
-IsCertificateCause name inst old new (Plan fault) = ⊥
-IsCertificateCause name inst old new LongScript = ⊥
-IsCertificateCause name inst old new (Script fault) = ⊥
-IsCertificateCause name inst old new LongCertificate = WhereToldHolds old name IsLongCertificate
-IsCertificateCause name inst old new (Certificate fault) = ReadsCertificateFault name inst old fault
-IsCertificateCause name inst old new Memory = ⊤
+-- why the certificate file of this name, which is this word, is refused for an instance
+abbrev pub IsCertificateCause : ℕ → List ℕ → Tables → (old new : Shown) → Refusal → Type 0
+IsCertificateCause at name inst old new (Unread word) = (word ≡ at) × ReadFails name old new
+IsCertificateCause at name inst old new LongCertificate = WhereToldHolds old name (IsLongCertificate standard_limits)
+IsCertificateCause at name inst old new (Certificate fault) =
+    ReadsSuch name old (λ bytes. HasOneFault standard_limits inst bytes fault)
+IsCertificateCause at name inst old new Memory = ⊤
+IsCertificateCause at name inst old new _ = ⊥
 
 -- why the plan file of a check is refused, if a plan is given
-abbrev pub IsGivenCause : Option (List ℕ) → Tables → (old new : Shown) → Refusal → Type 0
-IsGivenCause None inst old new refusal = ⊥
-IsGivenCause (Some name) inst old new refusal = IsPlanCause name inst old new refusal
+abbrev pub IsGivenCause : ℕ → Option (List ℕ) → Tables → (old new : Shown) → Refusal → Type 0
+IsGivenCause at None inst old new refusal = ⊥
+IsGivenCause at (Some name) inst old new refusal = IsPlanCause at name inst old new refusal
 
 -- what is shown after the plan file was read, if a plan is given
 abbrev pub AfterGiven : Option (List ℕ) → (old new : Shown) → Type 0
@@ -124,16 +136,19 @@ AfterGiven None old new = new ≡ old
 AfterGiven (Some name) old new = ShowsSame new (after_take_in name [] old)
 
 -- a refusal is due, or memory ran out
-abbrev pub IsDueAs : (ℕ → List ℕ → Type 0) → Refusal → Type 0
-IsDueAs Due refusal = (refusal ≡ Memory) ⊎ Due (status_of refusal) (line_of refusal)
+abbrev pub IsDueAs : (Answer → Type 0) → Refusal → Type 0
+IsDueAs Answers refusal = (refusal ≡ Memory) ⊎ Answers (reply (status_of refusal) (line_of refusal))
 
 -- the three files of `replay` were read
-pub record AreRead (source : Source) (name script_name : List ℕ) (old : Shown) (inst : Tables) (plan : List (Option ℕ)) (script : List ScriptLine) : Type 0 where
-  pub reads : ReadsInstance source old inst
-  pub reads_plan : ReadsPlan name inst old plan
-  pub reads_script : ReadsScript script_name inst old script
+pub record AreRead (source : Source) (name script_name : List ℕ) (old : Shown) (inst : Tables) (plan : List (Option ℕ))
+    (script : List ScriptLine) : Type 0 where
+  pub reads : ReadsInstance standard_limits source old inst
+  pub reads_plan : ReadsPlan standard_limits name inst old plan
+  pub reads_script : ReadsScript standard_limits script_name inst old script
   pub each : length plan ≡ length inst.names
   pub known : All (NamesKnown inst) script
+
+-- ---- what is due is said
 
 -- the text was said, and the status is the one that is due with it
 pub record SaysAll (due : ℕ) (text : List ℕ) (old new : Shown) (status : ℕ) : Type 0 where
@@ -152,26 +167,35 @@ pub record SaysSome (text : List ℕ) (old new : Shown) (status : ℕ) : Type 0 
 abbrev pub SaysOrFails : ℕ → List ℕ → (old new : Shown) → ℕ → Type 0
 SaysOrFails due text old new status = SaysAll due text old new status ⊎ SaysSome text old new status
 
--- what is due was said, or that memory ran out, or saying it failed
-abbrev pub SaysAnswer : (ℕ → List ℕ → Type 0) → (old new : Shown) → ℕ → Type 0
-SaysAnswer Due old new status = ((due : ℕ) × (text : List ℕ) × Due due text × SaysOrFails due text old new status) ⊎ SaysOrFails 11 memory_line old new status
+-- an answer that writes no file was said, or that memory ran out, or saying it failed
+abbrev pub SaysAnswer : (Answer → Type 0) → (old new : Shown) → ℕ → Type 0
+SaysAnswer Answers old new status =
+    ((due : ℕ) × (text : List ℕ) × Answers (reply due text) × SaysOrFails due text old new status)
+    ⊎ SaysOrFails 11 memory_line old new status
+
+-- a report was said, or the line of a refusal, or that memory ran out for that line, or saying it failed
+abbrev pub SaysReport : Result Report Refusal → (old new : Shown) → ℕ → Type 0
+SaysReport (Ok report) old new status = SaysOrFails report.status report.text old new status
+SaysReport (Err refusal) old new status =
+    SaysOrFails (status_of refusal) (line_of refusal) old new status ⊎ SaysOrFails 11 memory_line old new status
+
+-- ---- of `replay`
 
 -- from what a replay of a plan sets out
 abbrev pub OpensAs : Tables → List (Option ℕ) → Opening → Type 0
 OpensAs inst plan (OfStarts starts) = IsOpeningOf inst plan starts
-OpensAs inst plan (Broken text) = (rule : Rule) × (first_start_rule inst plan ≡ Some rule) × (text ≡ infeasible_report inst rule)
-
--- how a run of a command ends, whatever words ask for it
-abbrev pub EndsFor : Command → (old new : Shown) → ℕ → Type 0
-EndsFor c old new status = (words : List (List ℕ)) → Asks words c → Ends words old new status
+OpensAs inst plan (Broken text) =
+    (rule : Rule) × (first_start_rule inst plan ≡ Some rule) × (text ≡ infeasible_report inst rule)
 
 -- ---- of `check`
 
 -- what a plan that was given comes to
 abbrev pub StandsAs : Tables → Option (List (Option ℕ)) → Given → Type 0
-StandsAs inst given (Kept score) = GivenKeeps inst given × (score ≡ option_map (score_of inst) given) × IfSome score (λ z. unsigned_abs z < 10 ^ 36)
+StandsAs inst given (Kept score) =
+    GivenKeeps inst given × (score ≡ option_map (score_of inst) given) × IfSome score (λ z. unsigned_abs z < 10 ^ 36)
 StandsAs inst given (BrokenRule rule) = IsBroken inst given rule
 
 -- what is answered on a certificate, whatever plan was given that has this score and keeps the rules
 abbrev pub ChecksFor : Tables → Option ℤ → CertificateData → ℕ → List ℕ → Type 0
-ChecksFor inst score cert status text = (given : Option (List (Option ℕ))) → GivenKeeps inst given → score ≡ option_map (score_of inst) given → Checks inst given cert status text
+ChecksFor inst score cert status text = (given : Option (List (Option ℕ))) → GivenKeeps inst given
+    → score ≡ option_map (score_of inst) given → Checks inst given cert (reply status text)

@@ -119,7 +119,8 @@ gap_text bound score = []
 
 -- the report of this bound and score
 abbrev pub accepted_text : Tables → Bound → Option ℤ → List ℕ
-accepted_text inst bound score = codes "accepted\n" ++ bound_text inst bound ++ gap_text bound score ++ rounded_line inst.rounded
+accepted_text inst bound score =
+    codes "accepted\n" ++ bound_text inst bound ++ gap_text bound score ++ rounded_line inst.rounded
 
 -- the report on an accepted certificate with this bound, and on the plan, if one was given
 abbrev pub accepted_report : Tables → Bound → Option (List (Option ℕ)) → List ℕ

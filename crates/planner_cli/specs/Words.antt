@@ -1,5 +1,6 @@
 -- The command line. A word is the list of its bytes; words count from 1, and the command is word 1.
-use Rattle.std.specs.Prelude.{ℕ, ◌-◌, ◌*◌, ◌^◌, List, [], ◌∷◌, length, take, drop, codes, bytes_eq, nat_le, nat_lt, ◌&&◌, Bool, Option, Some, None, if◌then◌else◌}
+use Rattle.std.specs.Prelude.{◌≡◌, ℕ, ◌-◌, ◌*◌, ◌^◌, List, [], ◌∷◌, length, take, drop, codes, bytes_eq, nat_le, nat_lt}
+use Rattle.std.specs.Prelude.{◌&&◌, Bool, Option, Some, None, if◌then◌else◌}
 use Rattle.instance_model.specs.Rules.{or_else}
 use Rattle.instance_shape.specs.Keys.{all_bytes, is_digit, number_of}
 
@@ -8,24 +9,18 @@ pub record Source : Type 0 where
   pub instance : List ℕ
   pub slack : ℕ
 
--- what a command line asks for, with the names of its files: the plan is word 3, the script or the certificate word 4. A check may be without
--- a plan.
+-- what a command line asks for, with the names of its files: the plan is word 3, the script or the certificate word 4.
+-- A check may be without a plan.
 pub data Command : Type 0 where
   evaluate : (source : Source) (plan : List ℕ) → Command
   replay : (source : Source) (plan script : List ℕ) → Command
   check : (source : Source) (plan : Option (List ℕ)) (certificate : List ℕ) → Command
 
--- the instance of a command
-abbrev pub source_of : Command → Source
-source_of (evaluate source plan) = source
-source_of (replay source plan script) = source
-source_of (check source plan certificate) = source
-
--- the name of the plan file of a command; a check may be without one
-abbrev pub plan_of : Command → Option (List ℕ)
-plan_of (evaluate source plan) = Some plan
-plan_of (replay source plan script) = Some plan
-plan_of (check source plan certificate) = plan
+-- how far the bands of a command's instance are widened, in 10^-12
+abbrev pub slack_in : Command → ℕ
+slack_in (evaluate source plan) = source.slack
+slack_in (replay source plan script) = source.slack
+slack_in (check source plan certificate) = source.slack
 
 -- a file word is a text that is not empty
 abbrev pub is_file_word : List ℕ → Bool
@@ -41,7 +36,8 @@ are_decimals digits = nat_le 1 (length digits) && nat_le (length digits) 12 && a
 
 -- D behind `0.`: 1 to 12 digits, at most 0.001
 abbrev pub decimals_count : List ℕ → Option ℕ
-decimals_count digits = if are_decimals digits && nat_le (fraction digits) 1_000_000_000 then Some (fraction digits) else None
+decimals_count digits =
+    if are_decimals digits && nat_le (fraction digits) 1_000_000_000 then Some (fraction digits) else None
 
 -- D is `0`, or `0.` and 1 to 12 digits, and at most 0.001
 abbrev pub slack_count : List ℕ → Option ℕ
@@ -82,13 +78,29 @@ checking name instance plan certificate (Some slack) =
     then Some (check (record { instance = instance; slack = slack }) (given_plan plan) certificate)
     else None
 
--- one of the two commands of three files, with a slack
-abbrev pub of_three_files : List ℕ → List ℕ → List ℕ → List ℕ → Option ℕ → Option Command
-of_three_files name instance plan file slack = or_else (replaying name instance plan file slack) (checking name instance plan file slack)
+-- ---- a parser for each command, whose words may end with one word `slack=D`
 
--- The command of these words; none where they are not in the grammar. Each command may have one word `slack=D` behind its files.
+abbrev pub evaluate_of : List (List ℕ) → Option Command
+evaluate_of (name ∷ instance ∷ plan ∷ []) = evaluation name instance plan (Some 0)
+evaluate_of (name ∷ instance ∷ plan ∷ slack ∷ []) = evaluation name instance plan (slack_of slack)
+evaluate_of words = None
+
+abbrev pub replay_of : List (List ℕ) → Option Command
+replay_of (name ∷ instance ∷ plan ∷ script ∷ []) = replaying name instance plan script (Some 0)
+replay_of (name ∷ instance ∷ plan ∷ script ∷ slack ∷ []) = replaying name instance plan script (slack_of slack)
+replay_of words = None
+
+abbrev pub check_of : List (List ℕ) → Option Command
+check_of (name ∷ instance ∷ plan ∷ cert ∷ []) = checking name instance plan cert (Some 0)
+check_of (name ∷ instance ∷ plan ∷ cert ∷ slack ∷ []) = checking name instance plan cert (slack_of slack)
+check_of words = None
+
+-- the command of these words; none where they are not in the grammar
 abbrev pub command_of : List (List ℕ) → Option Command
-command_of (name ∷ instance ∷ plan ∷ []) = evaluation name instance plan (Some 0)
-command_of (name ∷ instance ∷ plan ∷ last ∷ []) = or_else (evaluation name instance plan (slack_of last)) (of_three_files name instance plan last (Some 0))
-command_of (name ∷ instance ∷ plan ∷ file ∷ slack ∷ []) = of_three_files name instance plan file (slack_of slack)
-command_of words = None
+command_of words = or_else (evaluate_of words) (or_else (replay_of words) (check_of words))
+
+-- At most one parser answers: the command is what any of them answers.
+pub record IsOneCommand (words : List (List ℕ)) : Type 0 where
+  pub evaluates : (c : Command) → evaluate_of words ≡ Some c → command_of words ≡ Some c
+  pub replays : (c : Command) → replay_of words ≡ Some c → command_of words ≡ Some c
+  pub checks : (c : Command) → check_of words ≡ Some c → command_of words ≡ Some c

@@ -1,16 +1,18 @@
-// The command `check`: all files are read, the plan is judged if one is given, and the certificate is checked.
-ghost use Rattle.std.specs.Prelude.{◌≡◌, ◌<◌, ◌≤◌, ◌^◌, length, option_copied, Some, IfSome, IfOk, IfErr, unsigned_abs};
+// The command `check`: all files are read, the plan is judged if one is given, the certificate is checked, and the
+// report is said.
+ghost use Rattle.std.specs.Prelude.{◌≡◌, ◌<◌, ◌≤◌, ◌^◌, length, option_copied, Some, IfSome, IfOk, IfErr, OnOk, unsigned_abs};
+ghost use Rattle.instance_model.specs.Limits.{standard_limits};
 ghost use Rattle.branch_tree.specs.Ranges.{IsInRange};
-ghost use Rattle.planner_cli.specs.Words.{check};
 ghost use Rattle.planner_cli.specs.Asked.{source_view};
-ghost use Rattle.planner_cli.specs.Checking.{Checks};
-ghost use Rattle.planner_cli.specs.Due.{IsDueFor};
-ghost use Rattle.planner_cli.specs.Refusals.{IsDueAs, StandsAs, ChecksFor};
+ghost use Rattle.planner_cli.specs.Ending.{reply};
+ghost use Rattle.planner_cli.specs.Files.{reading};
+ghost use Rattle.planner_cli.specs.Checking.{Checks, AnswersCheck, RunsCheck};
+ghost use Rattle.planner_cli.specs.Refusals.{OnlyReads, KeepsLast, IsDueAs, StandsAs, ChecksFor};
 
-use crate::evaluate::Report;
 use crate::reading::{certificate_of, given_plan_of, instance_of};
 use crate::refusal::{Refusal, leaf_text};
-use crate::report::{accepted_text, infeasible_text};
+use crate::report::{Report, accepted_text, infeasible_text};
+use crate::say::say_report;
 use crate::words::Source;
 use branch_certificate::Certificate;
 use certificate_check::{CertVerdict, check};
@@ -29,8 +31,24 @@ enum Given {
     Broken(Rule),
 }
 
-/// Reads the instance, then the plan if one is given, then the certificate, and checks it. No file is changed, and nothing is said.
-pub fn check_certificate<D: Desk>(
+/// Checks a certificate, and says the report.
+pub fn check_files<D: Desk>(
+    alloc: Global,
+    source: &Source<'_>,
+    plan: Option<&str>,
+    certificate: &str,
+    desk: &mut D,
+) -> u8
+    requires small { source.now.slack ≤ 1_000_000_000 }
+    ensures { RunsCheck standard_limits (source_view source.now) (option_copied plan.entry) certificate.now
+        (D.shows desk.old) (D.shows desk.new) result }
+{
+    let report = check_certificate(alloc, source, plan, certificate, desk);
+    say_report(alloc, desk, report)
+}
+
+// Reads the instance, then the plan if one is given, then the certificate, and checks it.
+fn check_certificate<D: Desk>(
     alloc: Global,
     source: &Source<'_>,
     plan: Option<&str>,
@@ -38,17 +56,18 @@ pub fn check_certificate<D: Desk>(
     desk: &mut D,
 ) -> Result<Report, Refusal>
     requires small { source.now.slack ≤ 1_000_000_000 }
-    ensures ok { IfOk result (λ report.
-        IsDueFor (check (source_view source.now) (option_copied plan.entry) certificate.now) (D.shows desk.old) (D.shows desk.new) report.status report.text) }
-    ensures err { IfErr result (IsDueAs
-        (IsDueFor (check (source_view source.now) (option_copied plan.entry) certificate.now) (D.shows desk.old) (D.shows desk.new))) }
-    ensures output { (D.shows desk.new).output ≡ (D.shows desk.old).output }
-    ensures said { (D.shows desk.new).said ≡ (D.shows desk.old).said }
-    ensures later { (D.shows desk.old).faults ≤ (D.shows desk.new).faults }
+    ensures ok { IfOk result (λ report. AnswersCheck standard_limits (reading (D.shows desk.old) (D.shows desk.new))
+        source.now.slack source.now.instance.now (option_copied plan.entry) certificate.now
+        (reply report.status report.text)) }
+    ensures err { IfErr result (IsDueAs (AnswersCheck standard_limits (reading (D.shows desk.old) (D.shows desk.new))
+        source.now.slack source.now.instance.now (option_copied plan.entry) certificate.now)) }
+    ensures last { OnOk result ((D.shows desk.new).last ≡ (D.shows desk.old).last) }
+    ensures kept { IfErr result (KeepsLast (D.shows desk.old) (D.shows desk.new)) }
+    ensures only_reads { OnlyReads (D.shows desk.old) (D.shows desk.new) }
 {
-    let inst = instance_of(alloc, source, desk)?;
-    let plan = given_plan_of(alloc, &inst, plan, desk)?;
-    let certificate = certificate_of(alloc, &inst, certificate, desk)?;
+    let inst = instance_of(alloc, 2, source, desk)?;
+    let plan = given_plan_of(alloc, &inst, 3, plan, desk)?;
+    let certificate = certificate_of(alloc, &inst, 4, certificate, desk)?;
     match report_on(alloc, &inst, &plan, &certificate) {
         Ok(report) => Ok(report),
         Err(_) => Err(Refusal::Memory),
@@ -64,7 +83,7 @@ fn report_on(
 ) -> Result<Report, AllocError>
     requires each { IfSome plan.now (λ p. length p ≡ length inst.now.names) }
     requires in_range { IsInRange inst.now certificate.now }
-    ensures { IfOk result (λ report. Checks inst.now plan.now certificate.now report.status report.text) }
+    ensures { IfOk result (λ report. Checks inst.now plan.now certificate.now (reply report.status report.text)) }
 {
     let given = given_of(alloc, inst, plan)?;
     match given {

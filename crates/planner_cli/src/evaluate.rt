@@ -1,15 +1,16 @@
-// The command `evaluate`: both files are read, and the plan is judged.
-ghost use Rattle.std.specs.Prelude.{◌≡◌, ◌≤◌, length, IfOk, IfErr};
-ghost use Rattle.planner_cli.specs.Words.{evaluate};
+// The command `evaluate`: both files are read, the plan is judged, and the report is said.
+ghost use Rattle.std.specs.Prelude.{◌≡◌, ◌≤◌, length, IfOk, IfErr, OnOk};
+ghost use Rattle.instance_model.specs.Limits.{standard_limits};
 ghost use Rattle.planner_cli.specs.Asked.{source_view};
-ghost use Rattle.planner_cli.specs.Answers.{Judges};
-ghost use Rattle.planner_cli.specs.Due.{IsDueFor};
-ghost use Rattle.planner_cli.specs.Refusals.{IsDueAs};
+ghost use Rattle.planner_cli.specs.Ending.{reply};
+ghost use Rattle.planner_cli.specs.Files.{reading};
+ghost use Rattle.planner_cli.specs.Evaluating.{Judges, AnswersEvaluate, RunsEvaluate};
+ghost use Rattle.planner_cli.specs.Refusals.{OnlyReads, KeepsLast, IsDueAs};
 
 use crate::reading::{instance_of, plan_of};
 use crate::refusal::Refusal;
-use crate::report::{feasible_text, infeasible_text};
-use crate::text::Text;
+use crate::report::{Report, feasible_text, infeasible_text};
+use crate::say::say_report;
 use crate::words::Source;
 use instance_model::Instance;
 use plan_desk::Desk;
@@ -17,30 +18,33 @@ use plan_score::{Verdict, judge};
 use plan_text::Plan;
 use std::alloc::{AllocError, Global};
 
-/// What is said of a plan, and with which status.
-#[derive(Drop)]
-pub struct Report {
-    pub status: u8,
-    pub text: Text,
+/// Evaluates a plan, and says the report.
+pub fn evaluate_files<D: Desk>(alloc: Global, source: &Source<'_>, plan: &str, desk: &mut D) -> u8
+    requires small { source.now.slack ≤ 1_000_000_000 }
+    ensures { RunsEvaluate standard_limits (source_view source.now) plan.now (D.shows desk.old) (D.shows desk.new) result }
+{
+    let report = evaluate(alloc, source, plan, desk);
+    say_report(alloc, desk, report)
 }
 
-/// Reads the instance, then the plan, and judges it. No file is changed, and nothing is said.
-pub fn evaluate<D: Desk>(
+// Reads the instance, then the plan, and judges it.
+fn evaluate<D: Desk>(
     alloc: Global,
     source: &Source<'_>,
     plan: &str,
     desk: &mut D,
 ) -> Result<Report, Refusal>
     requires small { source.now.slack ≤ 1_000_000_000 }
-    ensures ok { IfOk result (λ report.
-        IsDueFor (evaluate (source_view source.now) plan.now) (D.shows desk.old) (D.shows desk.new) report.status report.text) }
-    ensures err { IfErr result (IsDueAs (IsDueFor (evaluate (source_view source.now) plan.now) (D.shows desk.old) (D.shows desk.new))) }
-    ensures output { (D.shows desk.new).output ≡ (D.shows desk.old).output }
-    ensures said { (D.shows desk.new).said ≡ (D.shows desk.old).said }
-    ensures later { (D.shows desk.old).faults ≤ (D.shows desk.new).faults }
+    ensures ok { IfOk result (λ report. AnswersEvaluate standard_limits (reading (D.shows desk.old) (D.shows desk.new))
+        source.now.slack source.now.instance.now plan.now (reply report.status report.text)) }
+    ensures err { IfErr result (IsDueAs (AnswersEvaluate standard_limits (reading (D.shows desk.old) (D.shows desk.new))
+        source.now.slack source.now.instance.now plan.now)) }
+    ensures last { OnOk result ((D.shows desk.new).last ≡ (D.shows desk.old).last) }
+    ensures kept { IfErr result (KeepsLast (D.shows desk.old) (D.shows desk.new)) }
+    ensures only_reads { OnlyReads (D.shows desk.old) (D.shows desk.new) }
 {
-    let inst = instance_of(alloc, source, desk)?;
-    let plan = plan_of(alloc, &inst, plan, desk)?;
+    let inst = instance_of(alloc, 2, source, desk)?;
+    let plan = plan_of(alloc, &inst, 3, plan, desk)?;
     match report_on(alloc, &inst, &plan) {
         Ok(report) => Ok(report),
         Err(_) => Err(Refusal::Memory),
@@ -50,7 +54,7 @@ pub fn evaluate<D: Desk>(
 // The verdict on a plan as a report.
 fn report_on(alloc: Global, inst: &Instance, plan: &Plan) -> Result<Report, AllocError>
     requires { length plan.now ≡ length inst.now.names }
-    ensures { IfOk result (λ report. Judges inst.now plan.now report.status report.text) }
+    ensures { IfOk result (λ report. Judges inst.now plan.now (reply report.status report.text)) }
 {
     match judge(alloc, inst, plan.as_slice())? {
         Verdict::Feasible(values) => Ok(Report {

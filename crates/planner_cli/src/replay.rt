@@ -1,12 +1,12 @@
 // The command `replay`: all files are read, and the keys along the script are said.
-ghost use Rattle.std.specs.Prelude.{◌≡◌, ◌≤◌, length, map, All, Some, IfOk, IfErr, unwrap_or};
+ghost use Rattle.std.specs.Prelude.{◌≡◌, ◌≤◌, length, map, All, Some, IfOk, IfErr, OnOk, unwrap_or};
+ghost use Rattle.instance_model.specs.Limits.{standard_limits};
 ghost use Rattle.instance_model.specs.Plans.{AreAllowedStarts};
 ghost use Rattle.plan_moves.specs.Scripts.{NamesKnown};
-ghost use Rattle.planner_cli.specs.Words.{replay};
 ghost use Rattle.planner_cli.specs.Asked.{source_view};
-ghost use Rattle.planner_cli.specs.Answers.{Replays};
-ghost use Rattle.planner_cli.specs.Due.{IsDueFor};
-ghost use Rattle.planner_cli.specs.Refusals.{IsDueAs, AreRead, OpensAs, EndsFor, SaysAnswer};
+ghost use Rattle.planner_cli.specs.Files.{reading};
+ghost use Rattle.planner_cli.specs.Replaying.{Replays, AnswersReplay, RunsReplay};
+ghost use Rattle.planner_cli.specs.Refusals.{OnlyReads, KeepsFiles, KeepsLast, IsDueAs, AreRead, OpensAs, SaysAnswer};
 
 use crate::reading::{instance_of, plan_of, script_of};
 use crate::refusal::{MEMORY_LINE, Refusal};
@@ -48,9 +48,8 @@ pub fn replay_files<R: Row, D: Desk>(
     desk: &mut D,
 ) -> u8
     requires small { source.now.slack ≤ 1_000_000_000 }
-    ensures ends { EndsFor (replay (source_view source.now) plan.now script.now) (D.shows desk.old) (D.shows desk.new) result }
-    ensures output { (D.shows desk.new).output ≡ (D.shows desk.old).output }
-    ensures later { (D.shows desk.old).faults ≤ (D.shows desk.new).faults }
+    ensures { RunsReplay standard_limits (source_view source.now) plan.now script.now
+        (D.shows desk.old) (D.shows desk.new) result }
 {
     match read_files(alloc, source, plan, script, desk) {
         Ok(files) => replay_read::<R, D>(alloc, &files, desk),
@@ -69,14 +68,15 @@ fn read_files<D: Desk>(
     requires small { source.now.slack ≤ 1_000_000_000 }
     ensures ok { IfOk result (λ files.
         AreRead (source_view source.now) plan.now script.now (D.shows desk.old) files.inst files.plan files.script) }
-    ensures err { IfErr result (IsDueAs (IsDueFor (replay (source_view source.now) plan.now script.now) (D.shows desk.old) (D.shows desk.new))) }
-    ensures output { (D.shows desk.new).output ≡ (D.shows desk.old).output }
-    ensures said { (D.shows desk.new).said ≡ (D.shows desk.old).said }
-    ensures later { (D.shows desk.old).faults ≤ (D.shows desk.new).faults }
+    ensures err { IfErr result (IsDueAs (AnswersReplay standard_limits (reading (D.shows desk.old) (D.shows desk.new))
+        source.now.slack source.now.instance.now plan.now script.now)) }
+    ensures last { OnOk result ((D.shows desk.new).last ≡ (D.shows desk.old).last) }
+    ensures kept { IfErr result (KeepsLast (D.shows desk.old) (D.shows desk.new)) }
+    ensures only_reads { OnlyReads (D.shows desk.old) (D.shows desk.new) }
 {
-    let inst = instance_of(alloc, source, desk)?;
-    let plan = plan_of(alloc, &inst, plan, desk)?;
-    let script = script_of(alloc, &inst, script, desk)?;
+    let inst = instance_of(alloc, 2, source, desk)?;
+    let plan = plan_of(alloc, &inst, 3, plan, desk)?;
+    let script = script_of(alloc, &inst, 4, script, desk)?;
     Ok(Files { inst, plan, script })
 }
 
@@ -85,8 +85,7 @@ fn replay_read<R: Row, D: Desk>(alloc: Global, files: &Files, desk: &mut D) -> u
     requires each { length files.now.plan ≡ length files.now.inst.names }
     requires known { All (NamesKnown files.now.inst) files.now.script }
     ensures ends { SaysAnswer (Replays files.now.inst files.now.plan files.now.script) (D.shows desk.old) (D.shows desk.new) result }
-    ensures output { (D.shows desk.new).output ≡ (D.shows desk.old).output }
-    ensures later { (D.shows desk.old).faults ≤ (D.shows desk.new).faults }
+    ensures keeps { KeepsFiles (D.shows desk.old) (D.shows desk.new) }
 {
     match opening_of(alloc, &files.inst, &files.plan) {
         Ok(Opening::Starts(starts)) => {
@@ -126,8 +125,7 @@ fn replay_from<R: Row, D: Desk>(
     requires allowed { AreAllowedStarts inst.now starts.now }
     requires known { All (NamesKnown inst.now) script.now }
     ensures ends { SaysAnswer (Replays inst.now (map Some starts.now) script.now) (D.shows desk.old) (D.shows desk.new) result }
-    ensures output { (D.shows desk.new).output ≡ (D.shows desk.old).output }
-    ensures later { (D.shows desk.old).faults ≤ (D.shows desk.new).faults }
+    ensures keeps { KeepsFiles (D.shows desk.old) (D.shows desk.new) }
 {
     match replay::<R, D>(alloc, inst, starts, script, desk) {
         Ok(()) => say_numbered(desk, 0, "end ", script.as_slice().len() as u64),

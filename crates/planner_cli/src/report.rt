@@ -10,6 +10,13 @@ use instance_model::Instance;
 use plan_score::{Rule, Values};
 use std::alloc::{AllocError, Global};
 
+/// What is said of the files of a command, and with which status.
+#[derive(Drop)]
+pub struct Report {
+    pub status: u8,
+    pub text: Text,
+}
+
 /// The report on a feasible plan with these values.
 pub fn feasible_text(alloc: Global, inst: &Instance, values: &Values) -> Result<Text, AllocError>
     ensures { IfOk result (λ text. text ≡ values_report inst.now.rounded values.now) }

@@ -1,17 +1,13 @@
 // The top call.
-ghost use Rattle.std.specs.Prelude.{◌≡◌, ◌≤◌, map, option_copied, string_bytes};
-ghost use Rattle.planner_cli.specs.Words.{evaluate as evaluation, check as checking};
-ghost use Rattle.planner_cli.specs.Asked.{source_view};
-ghost use Rattle.planner_cli.specs.Due.{Ends};
+ghost use Rattle.std.specs.Prelude.{map, string_bytes};
 ghost use Rattle.planner_cli.specs.Outcome.{Outcome};
-ghost use Rattle.planner_cli.specs.Refusals.{EndsFor};
 
-use crate::check::check_certificate;
-use crate::evaluate::evaluate;
+use crate::check::check_files;
+use crate::evaluate::evaluate_files;
 use crate::refusal::WORDS_LINE;
 use crate::replay::replay_files;
-use crate::say::{refuse, say};
-use crate::words::{Command, Source, command_of};
+use crate::say::say;
+use crate::words::{Command, command_of};
 use plan_desk::Desk;
 use quantile_index::{Row, TreeRow};
 use std::alloc::Global;
@@ -19,9 +15,9 @@ use std::alloc::Global;
 /// Runs the command of these words, which are those after the program's name, and answers the status.
 ///
 /// 0: done; of `evaluate`, the plan is feasible; of `check`, the certificate is valid. 1: the plan breaks a rule; of
-/// `replay`, one on starts. 2: the words are not in the grammar. 3: the instance is refused. 4: the plan's text is refused.
-/// 5: the certificate is refused. 6: the script is refused. 7: a file could not be read. 8: what was due could not be said.
-/// 11: memory ran out, and nothing was said before.
+/// `replay`, one on starts. 2: the words are not in the grammar. 3: the instance is refused. 4: the plan's text is
+/// refused. 5: the certificate is refused. 6: the script is refused. 7: a file could not be read. 8: what was due
+/// could not be said. 11: memory ran out, and nothing was said before.
 pub fn run<D: Desk>(alloc: Global, words: &[String], desk: &mut D) -> u8
     ensures { Outcome (map string_bytes words.now) (D.shows desk.old) (D.shows desk.new) result }
 {
@@ -31,15 +27,6 @@ pub fn run<D: Desk>(alloc: Global, words: &[String], desk: &mut D) -> u8
 /// The same over rows of another kind, in which plans that change are kept: the answers are those of `run`.
 pub fn run_with<R: Row, D: Desk>(alloc: Global, words: &[String], desk: &mut D) -> u8
     ensures { Outcome (map string_bytes words.now) (D.shows desk.old) (D.shows desk.new) result }
-{
-    outcome::<R, D>(alloc, words, desk)
-}
-
-// Runs the command.
-fn outcome<R: Row, D: Desk>(alloc: Global, words: &[String], desk: &mut D) -> u8
-    ensures ends { Ends (map string_bytes words.now) (D.shows desk.old) (D.shows desk.new) result }
-    ensures output { (D.shows desk.new).output ≡ (D.shows desk.old).output }
-    ensures later { (D.shows desk.old).faults ≤ (D.shows desk.new).faults }
 {
     match command_of(words) {
         None => say(desk, 2, WORDS_LINE.as_bytes()),
@@ -58,37 +45,5 @@ fn outcome<R: Row, D: Desk>(alloc: Global, words: &[String], desk: &mut D) -> u8
                 certificate,
             },
         ) => check_files(alloc, &source, plan, certificate, desk),
-    }
-}
-
-// Evaluates a plan, and says the report.
-fn evaluate_files<D: Desk>(alloc: Global, source: &Source<'_>, plan: &str, desk: &mut D) -> u8
-    requires small { source.now.slack ≤ 1_000_000_000 }
-    ensures ends { EndsFor (evaluation (source_view source.now) plan.now) (D.shows desk.old) (D.shows desk.new) result }
-    ensures output { (D.shows desk.new).output ≡ (D.shows desk.old).output }
-    ensures later { (D.shows desk.old).faults ≤ (D.shows desk.new).faults }
-{
-    match evaluate(alloc, source, plan, desk) {
-        Ok(report) => say(desk, report.status, report.text.as_slice()),
-        Err(refusal) => refuse(alloc, desk, &refusal),
-    }
-}
-
-// Checks a certificate, and says the report.
-fn check_files<D: Desk>(
-    alloc: Global,
-    source: &Source<'_>,
-    plan: Option<&str>,
-    certificate: &str,
-    desk: &mut D,
-) -> u8
-    requires small { source.now.slack ≤ 1_000_000_000 }
-    ensures ends { EndsFor (checking (source_view source.now) (option_copied plan.entry) certificate.now) (D.shows desk.old) (D.shows desk.new) result }
-    ensures output { (D.shows desk.new).output ≡ (D.shows desk.old).output }
-    ensures later { (D.shows desk.old).faults ≤ (D.shows desk.new).faults }
-{
-    match check_certificate(alloc, source, plan, certificate, desk) {
-        Ok(report) => say(desk, report.status, report.text.as_slice()),
-        Err(refusal) => refuse(alloc, desk, &refusal),
     }
 }

@@ -1,10 +1,11 @@
 // What is due is said.
-ghost use Rattle.std.specs.Prelude.{◌≡◌, ◌⊎◌, ◌≤◌, OnOk, OnErr, decimal};
+ghost use Rattle.std.specs.Prelude.{◌≡◌, ◌⊎◌, OnOk, OnErr, decimal};
 ghost use Rattle.plan_desk.specs.Contents.{Says};
 ghost use Rattle.planner_cli.specs.Lines.{memory_line, numbered_line};
-ghost use Rattle.planner_cli.specs.Refusals.{SaysSome, SaysOrFails, status_of, line_of};
+ghost use Rattle.planner_cli.specs.Refusals.{KeepsFiles, SaysSome, SaysOrFails, SaysReport, status_of, line_of};
 
 use crate::refusal::{MEMORY_LINE, Refusal};
+use crate::report::Report;
 use fixed_num::Line;
 use plan_desk::{Desk, Failed, say_all};
 use std::alloc::Global;
@@ -12,8 +13,7 @@ use std::alloc::Global;
 /// Says a text whole, and answers the status that is due with it; 8 where that failed.
 pub fn say<D: Desk>(desk: &mut D, status: u8, text: &[u8]) -> u8
     ensures ends { SaysOrFails status text.now (D.shows desk.old) (D.shows desk.new) result }
-    ensures output { (D.shows desk.new).output ≡ (D.shows desk.old).output }
-    ensures later { (D.shows desk.old).faults ≤ (D.shows desk.new).faults }
+    ensures keeps { KeepsFiles (D.shows desk.old) (D.shows desk.new) }
 {
     match say_all(desk, text) {
         Ok(()) => status,
@@ -21,12 +21,22 @@ pub fn say<D: Desk>(desk: &mut D, status: u8, text: &[u8]) -> u8
     }
 }
 
+/// Says a report, or why there is none, and answers the status that is due with it; 8 where that failed.
+pub fn say_report<D: Desk>(alloc: Global, desk: &mut D, report: Result<Report, Refusal>) -> u8
+    ensures ends { SaysReport report (D.shows desk.old) (D.shows desk.new) result }
+    ensures keeps { KeepsFiles (D.shows desk.old) (D.shows desk.new) }
+{
+    match report {
+        Ok(report) => say(desk, report.status, report.text.as_slice()),
+        Err(refusal) => refuse(alloc, desk, &refusal),
+    }
+}
+
 /// Says the line of a refusal, or that memory ran out for it.
 pub fn refuse<D: Desk>(alloc: Global, desk: &mut D, refusal: &Refusal) -> u8
     ensures ends { SaysOrFails (status_of refusal.now) (line_of refusal.now) (D.shows desk.old) (D.shows desk.new) result
         ⊎ SaysOrFails 11 memory_line (D.shows desk.old) (D.shows desk.new) result }
-    ensures output { (D.shows desk.new).output ≡ (D.shows desk.old).output }
-    ensures later { (D.shows desk.old).faults ≤ (D.shows desk.new).faults }
+    ensures keeps { KeepsFiles (D.shows desk.old) (D.shows desk.new) }
 {
     match refusal.line(alloc) {
         Ok(line) => say(desk, refusal.status(), line.as_slice()),
@@ -34,11 +44,11 @@ pub fn refuse<D: Desk>(alloc: Global, desk: &mut D, refusal: &Refusal) -> u8
     }
 }
 
-/// Says a line that ends with a number, and answers the status that is due with it; 8 where that failed. Takes no memory.
+/// Says a line that ends with a number, and answers the status that is due with it; 8 where that failed. Takes no
+/// memory.
 pub fn say_numbered<D: Desk>(desk: &mut D, status: u8, words: &str, n: u64) -> u8
     ensures ends { SaysOrFails status (numbered_line words.now n) (D.shows desk.old) (D.shows desk.new) result }
-    ensures output { (D.shows desk.new).output ≡ (D.shows desk.old).output }
-    ensures later { (D.shows desk.old).faults ≤ (D.shows desk.new).faults }
+    ensures keeps { KeepsFiles (D.shows desk.old) (D.shows desk.new) }
 {
     match say_line(desk, words, n) {
         Ok(()) => status,
@@ -51,8 +61,7 @@ fn say_line<D: Desk>(desk: &mut D, words: &str, n: u64) -> Result<(), Failed>
     ensures ok { OnOk result (Says (numbered_line words.now n) (D.shows desk.old) (D.shows desk.new)) }
     ensures same { OnOk result ((D.shows desk.new).last ≡ (D.shows desk.old).last) }
     ensures err { OnErr result (SaysSome (numbered_line words.now n) (D.shows desk.old) (D.shows desk.new) 8) }
-    ensures output { (D.shows desk.new).output ≡ (D.shows desk.old).output }
-    ensures later { (D.shows desk.old).faults ≤ (D.shows desk.new).faults }
+    ensures keeps { KeepsFiles (D.shows desk.old) (D.shows desk.new) }
 {
     say_piece(desk, words.as_bytes())?;
     say_piece(desk, digits_of(n).bytes())?;
@@ -64,8 +73,7 @@ fn say_piece<D: Desk>(desk: &mut D, piece: &[u8]) -> Result<(), Failed>
     ensures ok { OnOk result (Says piece.now (D.shows desk.old) (D.shows desk.new)) }
     ensures same { OnOk result ((D.shows desk.new).last ≡ (D.shows desk.old).last) }
     ensures err { OnErr result (SaysSome piece.now (D.shows desk.old) (D.shows desk.new) 8) }
-    ensures output { (D.shows desk.new).output ≡ (D.shows desk.old).output }
-    ensures later { (D.shows desk.old).faults ≤ (D.shows desk.new).faults }
+    ensures keeps { KeepsFiles (D.shows desk.old) (D.shows desk.new) }
 {
     say_all(desk, piece)
 }

@@ -1,6 +1,7 @@
 // The command line.
 ghost use Rattle.std.specs.Prelude.{◌≡◌, ◌≤◌, map, string_bytes, option_copied, IfSome, IfNone, Some, None, IsTrue, false};
-ghost use Rattle.planner_cli.specs.Words.{command_of, evaluation, replaying, checking, of_three_files, given_plan, source_of, slack_of, slack_count, fraction, are_decimals};
+ghost use Rattle.planner_cli.specs.Words.{command_of, evaluate_of, replay_of, check_of, IsOneCommand, evaluation, replaying, checking};
+ghost use Rattle.planner_cli.specs.Words.{given_plan, slack_in, slack_of, slack_count, fraction, are_decimals};
 ghost use Rattle.instance_model.specs.Rules.{or_else};
 ghost use Rattle.planner_cli.specs.Asked.{command_view};
 
@@ -38,59 +39,97 @@ pub enum Command<'a> {
 pub fn command_of(words: &[String]) -> Option<Command<'_>>
     ensures found { IfSome result (λ asked. command_of (map string_bytes words.now) ≡ Some (command_view asked)) }
     ensures none { IfNone result (command_of (map string_bytes words.now) ≡ None) }
-    ensures small { IfSome result (λ asked. (source_of (command_view asked)).slack ≤ 1_000_000_000) }
+    ensures small { IfSome result (λ asked. slack_in (command_view asked) ≤ 1_000_000_000) }
+
+    // No other parser answers.
+    ensures one { IsOneCommand (map string_bytes words.now) }
+{
+    match evaluate_of(words) {
+        Some(command) => Some(command),
+        None => of_three_files(words),
+    }
+}
+
+// The command of words that are not those of `evaluate`.
+fn of_three_files(words: &[String]) -> Option<Command<'_>>
+    ensures found { IfSome result (λ asked. or_else (replay_of (map string_bytes words.now)) (check_of (map string_bytes words.now))
+        ≡ Some (command_view asked)) }
+    ensures none { IfNone result (or_else (replay_of (map string_bytes words.now)) (check_of (map string_bytes words.now)) ≡ None) }
+    ensures small { IfSome result (λ asked. slack_in (command_view asked) ≤ 1_000_000_000) }
+{
+    match replay_of(words) {
+        Some(command) => Some(command),
+        None => check_of(words),
+    }
+}
+
+// `evaluate` of these words.
+fn evaluate_of(words: &[String]) -> Option<Command<'_>>
+    ensures found { IfSome result (λ asked. evaluate_of (map string_bytes words.now) ≡ Some (command_view asked)) }
+    ensures none { IfNone result (evaluate_of (map string_bytes words.now) ≡ None) }
+    ensures small { IfSome result (λ asked. slack_in (command_view asked) ≤ 1_000_000_000) }
 {
     match words {
         [name, instance, plan] => {
             evaluation(name.as_str(), instance.as_str(), plan.as_str(), Some(0))
         }
-        [name, instance, plan, last] => with_last(
+        [name, instance, plan, slack] => evaluation(
             name.as_str(),
             instance.as_str(),
             plan.as_str(),
-            last.as_str(),
-        ),
-        [name, instance, plan, file, slack] => of_three_files(
-            name.as_str(),
-            instance.as_str(),
-            plan.as_str(),
-            file.as_str(),
             slack_of(slack.as_str()),
         ),
         _ => None,
     }
 }
 
-// The command of four words: the last one is a slack, or a file.
-fn with_last<'a>(name: &str, instance: &'a str, plan: &'a str, last: &'a str) -> Option<Command<'a>>
-    ensures found { IfSome result (λ asked. or_else (evaluation name.now instance.now plan.now (slack_of last.now))
-        (of_three_files name.now instance.now plan.now last.now (Some 0)) ≡ Some (command_view asked)) }
-    ensures none { IfNone result (or_else (evaluation name.now instance.now plan.now (slack_of last.now))
-        (of_three_files name.now instance.now plan.now last.now (Some 0)) ≡ None) }
-    ensures small { IfSome result (λ asked. (source_of (command_view asked)).slack ≤ 1_000_000_000) }
+// `replay` of these words.
+fn replay_of(words: &[String]) -> Option<Command<'_>>
+    ensures found { IfSome result (λ asked. replay_of (map string_bytes words.now) ≡ Some (command_view asked)) }
+    ensures none { IfNone result (replay_of (map string_bytes words.now) ≡ None) }
+    ensures small { IfSome result (λ asked. slack_in (command_view asked) ≤ 1_000_000_000) }
 {
-    match evaluation(name, instance, plan, slack_of(last)) {
-        Some(command) => Some(command),
-        None => of_three_files(name, instance, plan, last, Some(0)),
+    match words {
+        [name, instance, plan, script] => replaying(
+            name.as_str(),
+            instance.as_str(),
+            plan.as_str(),
+            script.as_str(),
+            Some(0),
+        ),
+        [name, instance, plan, script, slack] => replaying(
+            name.as_str(),
+            instance.as_str(),
+            plan.as_str(),
+            script.as_str(),
+            slack_of(slack.as_str()),
+        ),
+        _ => None,
     }
 }
 
-// One of the two commands of these three files, with this slack.
-fn of_three_files<'a>(
-    name: &str,
-    instance: &'a str,
-    plan: &'a str,
-    file: &'a str,
-    slack: Option<u32>,
-) -> Option<Command<'a>>
-    requires small { IfSome slack (λ count. count ≤ 1_000_000_000) }
-    ensures found { IfSome result (λ asked. of_three_files name.now instance.now plan.now file.now slack ≡ Some (command_view asked)) }
-    ensures none { IfNone result (of_three_files name.now instance.now plan.now file.now slack ≡ None) }
-    ensures small { IfSome result (λ asked. (source_of (command_view asked)).slack ≤ 1_000_000_000) }
+// `check` of these words.
+fn check_of(words: &[String]) -> Option<Command<'_>>
+    ensures found { IfSome result (λ asked. check_of (map string_bytes words.now) ≡ Some (command_view asked)) }
+    ensures none { IfNone result (check_of (map string_bytes words.now) ≡ None) }
+    ensures small { IfSome result (λ asked. slack_in (command_view asked) ≤ 1_000_000_000) }
 {
-    match replaying(name, instance, plan, file, slack) {
-        Some(command) => Some(command),
-        None => checking(name, instance, plan, file, slack),
+    match words {
+        [name, instance, plan, certificate] => checking(
+            name.as_str(),
+            instance.as_str(),
+            plan.as_str(),
+            certificate.as_str(),
+            Some(0),
+        ),
+        [name, instance, plan, certificate, slack] => checking(
+            name.as_str(),
+            instance.as_str(),
+            plan.as_str(),
+            certificate.as_str(),
+            slack_of(slack.as_str()),
+        ),
+        _ => None,
     }
 }
 
@@ -104,7 +143,7 @@ fn evaluation<'a>(
     requires small { IfSome slack (λ count. count ≤ 1_000_000_000) }
     ensures found { IfSome result (λ asked. evaluation name.now instance.now plan.now slack ≡ Some (command_view asked)) }
     ensures none { IfNone result (evaluation name.now instance.now plan.now slack ≡ None) }
-    ensures small { IfSome result (λ asked. (source_of (command_view asked)).slack ≤ 1_000_000_000) }
+    ensures small { IfSome result (λ asked. slack_in (command_view asked) ≤ 1_000_000_000) }
 {
     let slack = slack?;
     if name != "evaluate" || instance.is_empty() || plan.is_empty() {
@@ -127,7 +166,7 @@ fn replaying<'a>(
     requires small { IfSome slack (λ count. count ≤ 1_000_000_000) }
     ensures found { IfSome result (λ asked. replaying name.now instance.now plan.now script.now slack ≡ Some (command_view asked)) }
     ensures none { IfNone result (replaying name.now instance.now plan.now script.now slack ≡ None) }
-    ensures small { IfSome result (λ asked. (source_of (command_view asked)).slack ≤ 1_000_000_000) }
+    ensures small { IfSome result (λ asked. slack_in (command_view asked) ≤ 1_000_000_000) }
 {
     let slack = slack?;
     if name != "replay" || instance.is_empty() || plan.is_empty() || script.is_empty() {
@@ -151,7 +190,7 @@ fn checking<'a>(
     requires small { IfSome slack (λ count. count ≤ 1_000_000_000) }
     ensures found { IfSome result (λ asked. checking name.now instance.now plan.now certificate.now slack ≡ Some (command_view asked)) }
     ensures none { IfNone result (checking name.now instance.now plan.now certificate.now slack ≡ None) }
-    ensures small { IfSome result (λ asked. (source_of (command_view asked)).slack ≤ 1_000_000_000) }
+    ensures small { IfSome result (λ asked. slack_in (command_view asked) ≤ 1_000_000_000) }
 {
     let slack = slack?;
     if name != "check" || instance.is_empty() || plan.is_empty() || certificate.is_empty() {

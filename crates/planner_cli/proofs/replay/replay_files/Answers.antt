@@ -1,24 +1,43 @@
-use Rattle.planner_cli.specs.Words.{replay}
+-- A run of `replay` from what it read and what it said.
+use Rattle.instance_model.specs.Limits.{standard_limits}
 use Rattle.planner_cli.specs.Asked.{source_view}
-use Rattle.planner_cli.specs.Due.{IsDueFor}
-use Rattle.planner_cli.proofs.DueLemmas.{answer_ends, refusal_answers}
+use Rattle.planner_cli.specs.Files.{reading}
+use Rattle.planner_cli.specs.Replaying.{AnswersReplay}
+use Rattle.planner_cli.proofs.EndLemmas.{reads_keep, answer_ends, refusal_ends}
 use Rattle.planner_cli.proofs.ReplayLemmas.{read_answer}
+use Rattle.planner_cli.proofs.ReplayRun.{replay_stays, replay_runs}
 use Rattle.planner_cli.proofs.replay.replay_files.Goals as goal
 
-pub returns-in-Ok-clause-ends : goal.returns-in-Ok-clause-ends
-returns-in-Ok-clause-ends g c words asks =
+pub returns-in-Ok : goal.returns-in-Ok
+returns-in-Ok g c =
     let old = g.D.Desk.shows c.args.desk.now in
     let mid = g.D.Desk.shows c.read_files.new.desk in
     let new = g.D.Desk.shows c.replay_read.new.desk in
     let source = source_view c.args.source.now in
-    answer_ends words (replay source c.args.plan.now c.args.script.now) old mid new c.replay_read.result (record { later = c.in-Ok.ensures.later; silent = c.in-Ok.ensures.said }) c.replay_read.ensures.later asks
-    (read_answer source c.args.plan.now c.args.script.now old mid new c.in-Ok.files.inst c.in-Ok.files.plan c.in-Ok.files.script c.replay_read.result c.in-Ok.ensures.ok c.replay_read.ensures.ends)
+    let plan = c.args.plan.now in
+    let script = c.args.script.now in
+    let e = c.in-Ok.ensures in
+    replay_runs standard_limits source plan script old new c.replay_read.result
+    (answer_ends (λ at. AnswersReplay standard_limits (reading old at) source.slack source.instance plan script) old mid
+    new c.replay_read.result
+    (replay_stays standard_limits source plan script old mid new e.only_reads.later) e.only_reads
+    c.replay_read.ensures.keeps e.last
+    (read_answer source plan script old mid new c.in-Ok.files.inst c.in-Ok.files.plan c.in-Ok.files.script
+    c.replay_read.result e.ok c.replay_read.ensures.ends))
+    (reads_keep old mid new e.only_reads c.replay_read.ensures.keeps)
 
-pub returns-in-Err-clause-ends : goal.returns-in-Err-clause-ends
-returns-in-Err-clause-ends g c words asks =
+pub returns-in-Err : goal.returns-in-Err
+returns-in-Err g c =
     let old = g.D.Desk.shows c.args.desk.now in
     let mid = g.D.Desk.shows c.read_files.new.desk in
     let new = g.D.Desk.shows c.refuse.new.desk in
-    let asked = replay (source_view c.args.source.now) c.args.plan.now c.args.script.now in
-    answer_ends words asked old mid new c.refuse.result (record { later = c.in-Err.ensures.later; silent = c.in-Err.ensures.said }) c.refuse.ensures.later asks
-    (refusal_answers (IsDueFor asked old mid) mid new c.in-Err.refusal c.refuse.result c.in-Err.ensures.err c.refuse.ensures.ends)
+    let source = source_view c.args.source.now in
+    let plan = c.args.plan.now in
+    let script = c.args.script.now in
+    let e = c.in-Err.ensures in
+    replay_runs standard_limits source plan script old new c.refuse.result
+    (refusal_ends (λ at. AnswersReplay standard_limits (reading old at) source.slack source.instance plan script) old
+    mid new c.in-Err.refusal c.refuse.result
+    (replay_stays standard_limits source plan script old mid new e.only_reads.later) e.only_reads c.refuse.ensures.keeps
+    e.kept e.err c.refuse.ensures.ends)
+    (reads_keep old mid new e.only_reads c.refuse.ensures.keeps)

@@ -1,5 +1,14 @@
-use Rattle.planner_cli.proofs.OutcomeLemmas.{outcome_of}
+-- What a run of the words promises, command by command.
+use Rattle.std.proofs.Common.{List, ℕ, map, string_bytes, subst}
+use Rattle.std.specs.Prelude.{option_copied}
+use Rattle.planner_cli.specs.Asked.{source_view}
+use Rattle.planner_cli.specs.Refusals.{SaysOrFails}
+use Rattle.planner_cli.proofs.OutcomeLemmas.{outcome_refused, outcome_evaluate, outcome_replay, outcome_check}
 use Rattle.planner_cli.proofs.run.run_with.Goals as goal
 
-pub returns : goal.returns
-returns g c = outcome_of _ _ _ _ c.outcome.ensures.ends c.outcome.ensures.output c.outcome.ensures.later
+pub returns-in-None : goal.returns-in-None
+returns-in-None g c =
+    let old = g.D.Desk.shows c.args.desk.now in
+    let new = g.D.Desk.shows c.say.new.desk in
+    outcome_refused (map string_bytes c.args.words.now) old new c.say.result c.in-None.ensures.none c.say.ensures.keeps
+    (subst (λ (t : List ℕ). SaysOrFails 2 t old new c.say.result) c.as_bytes.ensures.value c.say.ensures.ends)
