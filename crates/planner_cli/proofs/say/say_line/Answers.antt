@@ -16,7 +16,7 @@ returns-in_err-say_piece-2-clause-err g c =
     let digits : c.bytes.result.now ≡ decimal c.args.n = c.bytes.ensures.value ∙ c.digits_of.ensures in
     on_err c.from_residual-in_err-say_piece-2.result
     (some_first (words ++ decimal c.args.n) (codes "\n") old new 8
-    (some_more words (decimal c.args.n) old one new 8 worded c.in_ok-say_piece.ensures.later
+    (some_more words (decimal c.args.n) old one new 8 worded c.in_ok-say_piece.ensures.keeps.later
     (subst (λ (xs : List ℕ). SaysSome xs one new 8) digits c.in_err-say_piece-2.ensures.err)))
 
 pub returns-clause-err : goal.returns-clause-err
@@ -32,7 +32,7 @@ returns-clause-err g c =
     let numbered = says_more words (decimal c.args.n) old one two worded
     (subst (λ (xs : List ℕ). Says xs one two) digits c.in_ok-say_piece-2.ensures.ok) in
     let later : old.faults ≤ two.faults = omega
-    (arith, c.in_ok-say_piece.ensures.later, c.in_ok-say_piece-2.ensures.later) in
+    (arith, c.in_ok-say_piece.ensures.keeps.later, c.in_ok-say_piece-2.ensures.keeps.later) in
     on_err_weaker c.say_piece-3.result
     (λ some. some_more (words ++ decimal c.args.n) (codes "\n") old two new 8 numbered later some)
     c.say_piece-3.ensures.err
