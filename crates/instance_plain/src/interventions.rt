@@ -10,9 +10,9 @@ ghost use Rattle.instance_plain.specs.Views.{entries_view};
 
 use crate::look_up::{elements_at, whole, whole_at};
 use crate::rows::{Rows, add_runs};
-use json_grammar::{Member, Tree};
 use indexmap::IndexSet;
 use instance_shape::{Known, add_text};
+use json_grammar::{Member, Tree};
 use std::alloc::{AllocError, Global};
 
 /// The whole numbers of a list.

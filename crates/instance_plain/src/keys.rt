@@ -11,10 +11,10 @@ ghost use Rattle.instance_shape.specs.ShapeFaults.{key_faults, key_limit};
 ghost use Rattle.instance_plain.specs.Surveys.{TellsClear, object_faults};
 ghost use Rattle.instance_plain.specs.Own.{counts_by_text, is_full, may_be_text as may_be_text_key};
 
-use json_grammar::Member;
 use indexmap::IndexSet;
 use instance_model::Limits;
 use instance_shape::{Kind, Spot, add_number, add_text, is_name, kind_of, missing_key, number_of};
+use json_grammar::Member;
 use std::alloc::{AllocError, Global};
 
 /// Whether an object at a spot has as many keys as the limit allows.

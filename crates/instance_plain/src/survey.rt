@@ -8,9 +8,9 @@ ghost use Rattle.instance_plain.specs.Own.{falls_short};
 
 use crate::keys::has_clear_keys;
 use crate::own::own_survey;
-use json_grammar::{Member, Node, Tree};
 use instance_model::Limits;
 use instance_shape::{Kind, Spot, element, kind_of, under};
+use json_grammar::{Member, Node, Tree};
 use std::alloc::{AllocError, Global};
 
 /// How many numbers stand under `risk` and under `workload`, and how many numbers reading has rounded.

@@ -1,23 +1,262 @@
-//! Small files, with their instances and faults worked out by hand. Each call of the crate stands in a function of its
-//! own without its clauses, which the proof of a loop would carry along.
+//! Small files, with their instances and faults worked out by hand.
 #![tactic(auto, unfolding(instance_model::specs::Tables::in_run))]
 
-ghost use Rattle.std.specs.Prelude.{◌≡◌, ◌<◌};
+ghost use Rattle.std.specs.Prelude.{◌≡◌, ◌<◌, ◌≤◌, length, IsTrue};
+ghost use Rattle.instance_model.specs.Tables.{in_run, is_allowed};
 ghost use Rattle.instance_shape.specs.Ranges.{AreStandard, IsSlack};
 
 use crate::{InstanceFault, StreamFault, read_instance, read_instance_from};
-use fixed_num::Fixed;
-use instance_model::{Instance, Limits};
+use fixed_num::{Fixed, Steps};
+use instance_model::{Exclusion, Instance, Limits};
 use plan_desk::{DeskCall, MemDesk};
 use std::alloc::{AllocError, Global};
+use std::marker::Brand;
 use std::process::Abort;
+use std::sync::ledger::{Blank, Ledger};
 use std::test::Fail;
 
-mod faulty;
-mod good;
+/// A file. Its lines begin at the bytes 0, 49, 74, 92, 121, 169, 239, 254, 269, 323, 340 and 374, and it has 433.
+const GOOD: &str = r#"{"Resources":{"c":{"max":[3,3],"min":[0,0.25]}},
+"Seasons":{"s":[2,"7"]},
+"Interventions":{
+"a":{"tmax":1,"Delta":[2,9],
+"workload":{"c":{"1":{"1":2},"2":{"01":-0.5}}},
+"risk":{"1":{"1":[1]},"02":{"1":[3,1]},"3":{"9":[0.0000000000001]}}},
+"b":{"tmax":2,
+"workload":{},
+"risk":{"1":{"1":[2]},"2":{"2":[1,5.0000000000001]}},
+"Delta":[1,1]}},
+"Exclusions":{"e":["a","b","s"]},
+"Quantile":0.95,"Alpha":0.5,"T":2,"Scenarios_number":[1,2]}"#;
 
-use faulty::{Edit, FAULTS, PAST_LIMITS, SMALL};
-use good::{GOOD, REORDERED, is_good};
+/// The same instance in another order and in other words, with values that are skipped.
+const REORDERED: &str = r#"{"T":"2","Scenarios_number":[1.0,"2"],"note":{"max":[1e9],"max":0},
+"Exclusions":{"e":["a","\u0062","s"]},
+"Interventions":{
+"\u0061":{"risk":{"2":{"001":[3,1]},"1":{"1":[1]},"7":{"1":[1e-13]}},"load":[],
+"workload":{"c":{"2":{"1":-5e-1},"1":{"1":2.0}}},"Delta":[2,9],"tmax":"1"},
+"b":{"Delta":[1,1],"risk":{"2":{"2":[1,5.0000000000001]},"1":{"1":[2]}},"workload":{},"tmax":2}},
+"Seasons":{"s":[7,2,2]},"Resources":{"c":{"min":[0,25e-2],"unit":null,"max":[3,3]}},
+"Alpha":0.5,"Quantile":95e-2}"#;
+
+/// A part of the file, what stands in its place, and what is told of the file then.
+type Edit = (&'static str, &'static str, &'static str);
+
+/// Files with a fault or more, of which one counts, and at the end one without.
+const FAULTS: [Edit; 37] = [
+    // Of the text, also behind a fault of shape.
+    (r#""T":2"#, r#""T":02"#, "Syntax { at: 407 }"),
+    (r#""T":2"#, r#""x":[[[[[[[[[[[[[[[["#, "TooDeep { at: 421 }"),
+    (
+        r#""Delta":[2,9]"#,
+        r#""Delta":null,"x":[2,,9]"#,
+        "Syntax { at: 126 }",
+    ),
+    // Of the shape: the second of two equal keys.
+    (r#""T":2"#, r#""T":2,"T":2"#, "Double { at: 408 }"),
+    (
+        r#""02":{"1":[3,1]}"#,
+        r#""01":{"1":[3,1]}"#,
+        "Double { at: 191 }",
+    ),
+    (
+        r#"{"1":[1]}"#,
+        r#"{"1":[1],"001":[1]}"#,
+        "Double { at: 190 }",
+    ),
+    (
+        r#""s":[2,"7"]"#,
+        r#""s":[2],"\u0073":[7]"#,
+        "Double { at: 68 }",
+    ),
+    (r#""c":{"max""#, r#""c 1":{"max""#, "BadName { at: 14 }"),
+    (r#"["a","b","s"]"#, r#"["a","","s"]"#, "BadName { at: 363 }"),
+    (r#","min":[0,0.25]"#, "", "Missing { at: 30, key: Min }"),
+    (
+        r#""Quantile":0.95,"#,
+        "",
+        "Missing { at: 416, key: Quantile }",
+    ),
+    (r#""Alpha":0.5,"T":2,"#, "", "Missing { at: 414, key: T }"),
+    (r#""tmax":1"#, r#""tmax":1.5"#, "Shape { at: 104 }"),
+    (r#""3":{"9""#, r#""x":{"9""#, "Shape { at: 208 }"),
+    (r#"["a","b","s"]"#, r#"["a","b"]"#, "Shape { at: 366 }"),
+    (
+        r#"["a","b","s"]"#,
+        r#"["a","b","s",4]"#,
+        "Shape { at: 371 }",
+    ),
+    ("0.95", "0", "Shape { at: 385 }"),
+    ("-0.5", "-1e8", "TooLarge { at: 160 }"),
+    (r#""T":2"#, r#""T":0"#, "Limit { at: 406, which: Periods }"),
+    ("[1,2]}", "[1,1025]}", "Limit { at: 430, which: Scenarios }"),
+    // The lesser place counts, though a missing key comes first at one place.
+    (
+        r#""max":[3,3],"min":[0,0.25]"#,
+        r#""max":[1e8]"#,
+        "TooLarge { at: 26 }",
+    ),
+    (
+        r#""tmax":1,"Delta":[2,9]"#,
+        r#""tmax":[],"Delta":1"#,
+        "Shape { at: 104 }",
+    ),
+    // Behind a fault across the file.
+    (
+        r#"["a","b","s"]"#,
+        r#"["a","x","s",4]"#,
+        "Shape { at: 371 }",
+    ),
+    // Across the file.
+    ("[1,2]}", "[1]}", "ScenarioList"),
+    (r#""T":2"#, r#""T":3"#, "ScenarioList"),
+    (
+        "[3,3]",
+        "[3]",
+        r#"BandLength { resource: Text { text: "c" } }"#,
+    ),
+    (
+        r#""tmax":1"#,
+        r#""tmax":0"#,
+        r#"BadTmax { intervention: Text { text: "a" } }"#,
+    ),
+    (
+        r#""tmax":2"#,
+        r#""tmax":3"#,
+        r#"BadTmax { intervention: Text { text: "b" } }"#,
+    ),
+    (
+        "[1,1]",
+        "[1]",
+        r#"NoDelta { intervention: Text { text: "b" } }"#,
+    ),
+    (
+        r#"{"c":{"1""#,
+        r#"{"d":{"1""#,
+        r#"Unknown { name: Text { text: "d" } }"#,
+    ),
+    (
+        r#""02":{"1""#,
+        r#""02":{"2""#,
+        r#"NoRisk { intervention: Text { text: "a" }, period: 2, start: 1 }"#,
+    ),
+    (
+        r#""1":{"1":[1]},"02":{"1":[3,1]},"#,
+        r#""1":{"1":[1,1]},"#,
+        r#"ScenarioCount { intervention: Text { text: "a" }, period: 1, start: 1 }"#,
+    ),
+    (
+        r#""1":[2]},"2":{"2""#,
+        r#""2":[2]},"2":{"1""#,
+        r#"NoRisk { intervention: Text { text: "b" }, period: 1, start: 1 }"#,
+    ),
+    (
+        "[3,1]",
+        "[3]",
+        r#"ScenarioCount { intervention: Text { text: "a" }, period: 2, start: 1 }"#,
+    ),
+    (
+        r#"["a","b","s"]"#,
+        r#"["a","s","b"]"#,
+        r#"Unknown { name: Text { text: "s" } }"#,
+    ),
+    (
+        r#"["a","b","s"]"#,
+        r#"["a","b","b"]"#,
+        r#"Unknown { name: Text { text: "b" } }"#,
+    ),
+    // A start that is not allowed needs no risks.
+    ("[1,1]", "[1,2]", "read"),
+];
+
+/// One thing more than the limits allow.
+const PAST_LIMITS: [Edit; 10] = [
+    ("", "", "read"),
+    (r#""T":2"#, r#""T":3"#, "Limit { at: 406, which: Periods }"),
+    ("[1,2]}", "[1,3]}", "Limit { at: 430, which: Scenarios }"),
+    (
+        "0.25]}}",
+        r#"0.25]},"d":0}"#,
+        "Limit { at: 47, which: Resources }",
+    ),
+    (
+        r#""s":[2,"7"]"#,
+        r#""s":[2],"r":[7]"#,
+        "Limit { at: 68, which: Seasons }",
+    ),
+    // At one place an equal key comes first.
+    (r#""s":[2,"7"]"#, r#""s":[2],"s":[7]"#, "Double { at: 68 }"),
+    (
+        "[1,1]}}",
+        r#"[1,1]},"c":0}"#,
+        "Limit { at: 338, which: Interventions }",
+    ),
+    (
+        r#""s"]}"#,
+        r#""s"],"f":0}"#,
+        "Limit { at: 372, which: Exclusions }",
+    ),
+    (
+        r#""1":[2]"#,
+        r#""1":[2,2]"#,
+        "Limit { at: 305, which: RiskCells }",
+    ),
+    (
+        "-0.5",
+        r#"-0.5,"2":1"#,
+        "Limit { at: 169, which: WorkloadEntries }",
+    ),
+];
+
+/// One period of the run of an allowed start.
+struct Running {
+    intervention: u32,
+    start: u32,
+    period: u32,
+    /// Of the resource.
+    load: i128,
+    risks: &'static [i128],
+    soft: bool,
+}
+
+/// The count of 1.
+const ONE: i128 = 1_000_000_000_000;
+
+/// All periods of the runs of all allowed starts of the file.
+const RUNNING: [Running; 4] = [
+    Running {
+        intervention: 0,
+        start: 1,
+        period: 1,
+        load: 2 * ONE,
+        risks: &[ONE],
+        soft: false,
+    },
+    Running {
+        intervention: 0,
+        start: 1,
+        period: 2,
+        load: -500_000_000_000,
+        risks: &[3 * ONE, ONE],
+        soft: false,
+    },
+    Running {
+        intervention: 1,
+        start: 1,
+        period: 1,
+        load: 0,
+        risks: &[2 * ONE],
+        soft: false,
+    },
+    Running {
+        intervention: 1,
+        start: 2,
+        period: 2,
+        load: 0,
+        risks: &[ONE, 5 * ONE],
+        soft: true,
+    },
+];
 
 /// The greatest slack.
 fn slack() -> Fixed
@@ -42,38 +281,6 @@ fn narrow() -> Limits
     limits
 }
 
-/// The answer to bytes.
-fn of_bytes(alloc: Global, limits: &Limits, bytes: &[u8]) -> Result<Instance, InstanceFault>
-    requires { AreStandard limits.now }
-{
-    read_instance(alloc, limits, slack(), bytes)
-}
-
-/// The answer to the file of a desk.
-fn of_desk(alloc: Global, limits: &Limits, desk: &mut MemDesk) -> Result<Instance, StreamFault>
-    requires { AreStandard limits.now }
-{
-    read_instance_from(alloc, limits, slack(), desk, "I")
-}
-
-/// A desk with a file that is read by pieces of at most so many bytes, where this call fails.
-fn desk_of(
-    alloc: Global,
-    text: &[u8],
-    most: usize,
-    failing: Option<(DeskCall, u32)>,
-) -> Result<MemDesk, AllocError>
-    requires { 0 < most }
-{
-    let mut desk = MemDesk::make(alloc);
-    desk.put_file("I", text)?;
-    if let Some((call, nth)) = failing {
-        desk.fail_at(call, nth)?;
-    }
-    desk.read_by(most);
-    Ok(desk)
-}
-
 /// The answer to a file that is read by pieces of at most so many bytes, where this call fails.
 fn of_file(
     alloc: Global,
@@ -85,8 +292,13 @@ fn of_file(
     requires limits { AreStandard limits.now }
     requires some { 0 < most }
 {
-    let mut desk = desk_of(alloc, text, most, failing)?;
-    of_desk(alloc, limits, &mut desk)
+    let mut desk = MemDesk::make(alloc);
+    desk.put_file("I", text)?;
+    if let Some((call, nth)) = failing {
+        desk.fail_at(call, nth)?;
+    }
+    desk.read_by(most);
+    read_instance_from(alloc, limits, slack(), &mut desk, "I")
 }
 
 /// What is told of bytes, unless memory ran out.
@@ -98,8 +310,8 @@ fn told(alloc: Global, answer: Result<Instance, InstanceFault>) -> Result<String
     }
 }
 
-/// What is told of a desk's file, unless memory ran out.
-fn told_of_stream(
+/// What is told of a file, unless memory ran out.
+fn told_of_file(
     alloc: Global,
     answer: Result<Instance, StreamFault>,
 ) -> Result<String, AllocError> {
@@ -111,91 +323,131 @@ fn told_of_stream(
     }
 }
 
-/// What is told of a text as bytes.
-fn told_whole(alloc: Global, limits: &Limits, bytes: &[u8]) -> Result<String, AllocError>
-    requires { AreStandard limits.now }
-{
-    told(alloc, of_bytes(alloc, limits, bytes))
-}
-
-/// What is told of a text as a file that is read by pieces of at most so many bytes.
-fn told_by(alloc: Global, limits: &Limits, bytes: &[u8], most: usize) -> Result<String, AllocError>
-    requires limits { AreStandard limits.now }
-    requires some { 0 < most }
-{
-    told_of_stream(alloc, of_file(alloc, limits, bytes, most, None))
-}
-
-/// Of a text this is told, whether it is read from bytes or by pieces.
-fn tells_text(
-    rt: &impl Abort,
-    alloc: Global,
-    limits: &Limits,
-    bytes: &[u8],
-    want: &str,
-) -> Result<(), AllocError>
-    requires { AreStandard limits.now }
-{
-    assert_eq!(rt; told_whole(alloc, limits, bytes)?.as_str(), want);
-    for most in [1usize, 7, 4096] {
-        assert_eq!(rt;
-            told_by(alloc, limits, bytes, most)?.as_str(),
-            want,
-            "by {most}"
-        );
-    }
-    Ok(())
-}
-
-/// Of each edited file this is told.
+/// Of each edited file this is told, whether it is read from bytes or by pieces.
 fn tells(rt: &impl Abort, alloc: Global, limits: &Limits, edits: &[Edit]) -> Result<(), AllocError>
     requires { AreStandard limits.now }
 {
     for (old, new, want) in edits {
         let text = GOOD.replacen(alloc, *old, new, 1)?;
-        tells_text(rt, alloc, limits, text.as_bytes(), want)?;
+        let bytes = text.as_bytes();
+        let answer = told(alloc, read_instance(alloc, limits, slack(), bytes))?;
+        assert_eq!(rt; answer.as_str(), *want, "{new}");
+        for most in [1usize, 7, 4096] {
+            let answer = told_of_file(alloc, of_file(alloc, limits, bytes, most, None))?;
+            assert_eq!(rt; answer.as_str(), *want, "{new} by {most}");
+        }
     }
     Ok(())
 }
 
-/// A file of this text is read as the instance of the file, from bytes and by pieces of each size.
-fn is_read(rt: &impl Abort, alloc: Global, limits: &Limits, text: &str) -> Result<(), StreamFault>
-    requires { AreStandard limits.now }
-{
-    match of_bytes(alloc, limits, text.as_bytes()) {
-        Ok(instance) => is_good(rt, &instance),
-        Err(fault) => return Err(StreamFault::Text(fault)),
+/// An instance has the sizes, names and limits of the file, with the greatest slack.
+fn has_parts(rt: &impl Abort, inst: &Instance) {
+    assert!(rt; inst.periods() == 2);
+    assert!(rt; inst.resources() == 1);
+    assert!(rt; inst.seasons() == 1);
+    assert!(rt; inst.interventions() == 2);
+    assert!(rt; inst.exclusions() == 1);
+    assert_eq!(rt;
+        (inst.alpha(), inst.quantile(), inst.rounded()),
+        (500_000, 950_000, 2)
+    );
+    assert_eq!(rt; (inst.resource_name(0), inst.season_name(0)), ("c", "s"));
+    assert_eq!(rt;
+        (inst.name(0), inst.name(1), inst.exclusion_name(0)),
+        ("a", "b", "e")
+    );
+    assert_eq!(rt; (inst.tmax(0), inst.tmax(1)), (1, 2));
+    assert_eq!(rt; (inst.scenarios(1), inst.scenarios(2)), (1, 2));
+    assert_eq!(rt; (inst.in_season(0, 1), inst.in_season(0, 2)), (false, true));
+    assert_eq!(rt;
+        (inst.upper(0, 1), inst.upper(0, 2)),
+        (3_001_000_000_000, 3_001_000_000_000)
+    );
+    assert_eq!(rt;
+        (inst.lower(0, 1), inst.lower(0, 2)),
+        (-1_000_000_000, 249_000_000_000)
+    );
+    let both = Exclusion {
+        first: 0,
+        second: 1,
+        season: 0,
+    };
+    assert_eq!(rt; inst.exclusion(0), both);
+}
+
+/// An instance has the load and the risks of this period.
+fn has_running<L: Ledger>(
+    rt: &impl Abort,
+    inst: &Instance,
+    running: &Running,
+    steps: &mut Steps<L>,
+) {
+    let (i, s, t) = (running.intervention, running.start, running.period);
+    assert!(rt; i < inst.interventions() && inst.resources() == 1);
+    assert!(rt; 1 <= s && s <= inst.tmax(i) && inst.allowed(i, s));
+    assert!(rt; s <= t && t - s < inst.delta(i, s) && t <= inst.periods());
+    assert_eq!(rt; inst.load(i, s, 0, t).count(), running.load, "{i} {s} {t}");
+    assert_eq!(rt; inst.soft(i, s, t), running.soft, "{i} {s} {t}");
+    assert!(rt; running.risks.len() == inst.scenarios(t) as usize);
+    for (k, risk) in running.risks.iter().enumerate() {
+        let number = inst.risk_cell(i, s, t, k as u32 + 1, steps);
+        assert_eq!(rt; number.count(), *risk, "{i} {s} {t} {k}");
     }
+}
+
+/// An instance has the loads and risks of all periods, which are read on a new ledger.
+fn has_all_running<L: Ledger>(rt: &impl Abort, inst: &Instance, blank: Blank)
+    requires name { blank.name ≡ L.name }
+    requires parts { blank.parts ≡ L.parts }
+    requires some { 0 < blank.parts }
+{
+    let mut steps: Steps<L> = Steps::zero(blank);
+    for running in &RUNNING {
+        has_running(rt, inst, running, &mut steps);
+    }
+}
+
+/// An instance is that of the file.
+fn is_good(rt: &impl Abort, inst: &Instance) {
+    has_parts(rt, inst);
+    has_all_running::<Brand>(rt, inst, Blank::new(1));
+}
+
+/// A file of this text is read by pieces of each size as the instance of the file.
+fn reads_pieces(rt: &impl Abort, alloc: Global, text: &str) -> Result<(), StreamFault> {
+    let limits = Limits::standard();
     for most in [1usize, 7, 4096] {
-        is_good(rt, &of_file(alloc, limits, text.as_bytes(), most, None)?);
+        is_good(rt, &of_file(alloc, &limits, text.as_bytes(), most, None)?);
     }
     Ok(())
 }
 
 #[test]
 fn a_file_is_read_in_pieces_of_each_size_and_in_each_order(rt: HostRuntime) -> Result<(), Fail> {
+    let alloc = rt.alloc();
     let limits = Limits::standard();
-    is_read(&rt, rt.alloc(), &limits, GOOD)?;
-    is_read(&rt, rt.alloc(), &limits, REORDERED)?;
-    Ok(())
-}
-
-/// The first bytes of the file, so many, end too early.
-fn ends_early(rt: &impl Abort, alloc: Global, limits: &Limits, n: usize) -> Result<(), AllocError>
-    requires { AreStandard limits.now }
-{
-    let cut = GOOD.as_bytes().get(..n).unwrap_or(&[]);
-    let want = format!(in alloc; "Syntax {{ at: {n} }}")?;
-    assert_eq!(rt; told_whole(alloc, limits, cut)?.as_str(), want.as_str());
-    assert_eq!(rt; told_by(alloc, limits, cut, 7)?.as_str(), want.as_str());
+    for text in [GOOD, REORDERED] {
+        is_good(
+            &rt,
+            &read_instance(alloc, &limits, slack(), text.as_bytes())?,
+        );
+        reads_pieces(&rt, alloc, text)?;
+    }
     Ok(())
 }
 
 #[test]
 fn a_cut_file_ends_too_early(rt: HostRuntime) -> Result<(), Fail> {
+    let alloc = rt.alloc();
     let limits = Limits::standard();
-    for n in 0..GOOD.len() {
-        ends_early(&rt, rt.alloc(), &limits, n)?;
+    let bytes = GOOD.as_bytes();
+    for n in 0..bytes.len() {
+        let cut = &bytes[..n];
+        let want = format!(in alloc; "Syntax {{ at: {n} }}")?;
+        let answer = told(alloc, read_instance(alloc, &limits, slack(), cut))?;
+        assert_eq!(rt; answer.as_str(), want.as_str());
+        let answer = told_of_file(alloc, of_file(alloc, &limits, cut, 7, None))?;
+        assert_eq!(rt; answer.as_str(), want.as_str());
     }
     Ok(())
 }
@@ -208,51 +460,8 @@ fn the_fault_that_counts_is_told(rt: HostRuntime) -> Result<(), Fail> {
 }
 
 #[test]
-fn of_small_files_this_is_told(rt: HostRuntime) -> Result<(), Fail> {
-    let limits = Limits::standard();
-    for (text, want) in &SMALL {
-        tells_text(&rt, rt.alloc(), &limits, text.as_bytes(), want)?;
-    }
-    Ok(())
-}
-
-#[test]
-fn a_million_brackets_are_too_deep(rt: HostRuntime) -> Result<(), Fail> {
-    let brackets = vec![in rt.alloc(); b'['; 1_000_000]?;
-    let limits = Limits::standard();
-    let answer = told_whole(rt.alloc(), &limits, brackets.as_slice())?;
-    assert_eq!(rt; answer.as_str(), "TooDeep { at: 16 }");
-    let answer = told_by(rt.alloc(), &limits, brackets.as_slice(), 65_536)?;
-    assert_eq!(rt; answer.as_str(), "TooDeep { at: 16 }");
-    Ok(())
-}
-
-/// What is told of an edited file with this limit, which is read by 100 bytes, where this call fails.
-fn told_within(
-    alloc: Global,
-    edit: (&str, &str),
-    limit: u64,
-    failing: Option<(DeskCall, u32)>,
-) -> Result<String, AllocError> {
-    let text = GOOD.replacen(alloc, edit.0, edit.1, 1)?;
-    let limits = limits_of(limit);
-    told_of_stream(
-        alloc,
-        of_file(alloc, &limits, text.as_bytes(), 100, failing),
-    )
-}
-
-/// The standard limits with this one on the bytes.
-fn limits_of(limit: u64) -> Limits
-    ensures { AreStandard result }
-{
-    let mut limits = Limits::standard();
-    limits.instance_bytes = limit;
-    limits
-}
-
-#[test]
 fn a_read_fault_and_a_long_file_win(rt: HostRuntime) -> Result<(), Fail> {
+    let alloc = rt.alloc();
     // The file has 436 bytes with a fault of shape at 104, 432 with a fault of the text at 1, and is read by 100 bytes.
     let shape = (r#""tmax":1"#, r#""tmax":null"#);
     let syntax = (r#"{"R"#, "{R");
@@ -269,9 +478,13 @@ fn a_read_fault_and_a_long_file_win(rt: HostRuntime) -> Result<(), Fail> {
         (syntax, 150, Some((DeskCall::Read, 2)), "Failed"),
         (syntax, 150, Some((DeskCall::Read, 3)), "TooLong"),
     ];
-    for (edit, limit, failing, want) in cases {
-        let answer = told_within(rt.alloc(), edit, limit, failing)?;
-        assert_eq!(rt; answer.as_str(), want, "{limit}");
+    for ((old, new), limit, failing, want) in cases {
+        let text = GOOD.replacen(alloc, old, new, 1)?;
+        let mut limits = Limits::standard();
+        limits.instance_bytes = limit;
+        let answer = of_file(alloc, &limits, text.as_bytes(), 100, failing);
+        let answer = told_of_file(alloc, answer)?;
+        assert_eq!(rt; answer.as_str(), want, "{new} {limit}");
     }
     Ok(())
 }

@@ -227,11 +227,6 @@ fn file_rows(alloc: Global, sketch: &Sketch) -> Result<FileRows, AllocError>
     })
 }
 
-/// The tables of the rows of a sketch, without the clauses of the call, which the proof of a test would carry along.
-fn made_of(alloc: Global, sketch: &Sketch, slack: Fixed) -> Result<Parts, RowsFault> {
-    parts(alloc, file_rows(alloc, sketch)?, slack)
-}
-
 /// Start, period and resource of load cells, with their counts.
 fn listed(alloc: Global, cells: &[LoadCell]) -> Result<Vec<(u32, u32, u32, i128)>, AllocError> {
     let mut list = Vec::new(alloc);
@@ -291,7 +286,7 @@ fn has_risks(rt: &impl Abort, alloc: Global, made: &Parts) -> Result<(), AllocEr
 #[test]
 fn tables_are_those_of_the_rows(rt: HostRuntime) -> Result<(), Fail> {
     let alloc = rt.alloc();
-    let made = made_of(alloc, &SUMMER, fixed(500))?;
+    let made = parts(alloc, file_rows(alloc, &SUMMER)?, fixed(500))?;
     has_limits(&rt, &made);
     has_exclusion(&rt, &made);
     has_durations(&rt, &made);
@@ -300,18 +295,14 @@ fn tables_are_those_of_the_rows(rt: HostRuntime) -> Result<(), Fail> {
     Ok(())
 }
 
-/// What is told of the rows of a sketch; nothing where they have no fault.
-fn told(alloc: Global, sketch: &Sketch) -> Result<String, AllocError> {
-    match made_of(alloc, sketch, Fixed::zero()) {
-        Ok(_) => Ok(String::new(alloc)),
-        Err(fault) => format!(in alloc; "{fault}"),
-    }
-}
-
 /// The rows of each sketch have the fault that its text tells.
 fn tells(rt: &impl Abort, alloc: Global, cases: &[(Sketch, &str)]) -> Result<(), Fail> {
     for (sketch, text) in cases {
-        assert_eq!(rt; told(alloc, sketch)?.as_str(), *text);
+        let told = match parts(alloc, file_rows(alloc, sketch)?, Fixed::zero()) {
+            Ok(_) => String::new(alloc),
+            Err(fault) => format!(in alloc; "{fault}")?,
+        };
+        assert_eq!(rt; told.as_str(), *text);
     }
     Ok(())
 }

@@ -12,7 +12,7 @@ pub data TextAnswer : Type 0 where
 
 -- the bytes are the text of the tree, which is nested at most 16 deep, or have the fault
 abbrev pub IsAnswerTo : List ℕ → TextAnswer → Type 0
-IsAnswerTo bytes (read tree) = IsText bytes tree × (first_past 16 tree ≡ None)
+IsAnswerTo bytes (read root) = IsText bytes root × (first_past 16 root ≡ None)
 IsAnswerTo bytes (syntax at) = IsSyntaxFault bytes at × IsShallow bytes at
 IsAnswerTo bytes (too_deep at) = IsDepthFault bytes at
 

@@ -7,7 +7,7 @@ use Rattle.fixed_num.proofs.SumLemmas.{*ℤ-+ℤ}
 use Rattle.instance_model.proofs.DeviationLemmas.{scale_mono}
 use Rattle.instance_model.proofs.QuotientLemmas.{turn}
 use Rattle.plan_desk.specs.Desk.{Shown}
-use Rattle.plan_desk.specs.Contents.{TellsSuch, Says}
+use Rattle.plan_desk.specs.Contents.{TellsSuch, Says, KeepsFiles}
 use Rattle.instance_model.specs.declared.limits.Limits.{Limits}
 use Rattle.instance_model.specs.Tables.{Tables}
 use Rattle.instance_model.specs.Values.{score_of}
@@ -27,7 +27,6 @@ use Rattle.planner_cli.specs.Checking.{BoundsEveryPlan, exact_cost, IsBest, Give
 use Rattle.planner_cli.specs.Checking.Checks.{broken_plan, failing_leaf, accepted}
 use Rattle.planner_cli.specs.Checking.BehindCheck.{accepted as behind_accepted, broken_given as behind_broken_given, refused_certificate as behind_refused_certificate, refused_instance as behind_refused_instance, refused_leaf as behind_refused_leaf, refused_plan as behind_refused_plan, unread_certificate as behind_unread_certificate, unread_instance as behind_unread_instance, unread_plan as behind_unread_plan}
 use Rattle.planner_cli.specs.Checking.ExpectsCheck.{broken_plan as expects_broken_plan, failing_leaf as expects_failing_leaf, no_certificate as expects_no_certificate, no_instance as expects_no_instance, no_plan as expects_no_plan, refused_certificate as expects_refused_certificate, refused_instance as expects_refused_instance, refused_plan as expects_refused_plan, valid_certificate as expects_valid_certificate}
-use Rattle.planner_cli.specs.Refusals.{KeepsFiles}
 use Rattle.planner_cli.proofs.FileLemmas.{Carries, CarriesGiven, on_other, on_given_other, Goes, later_reading, later_given, exact_reading, exact_given, OrUnread, missing_file, refused_file, told_file, then_next, then_more, say_refusal}
 use Rattle.planner_cli.proofs.AnswerLemmas.{instance_status, plan_status}
 use Rattle.planner_cli.proofs.CheckAnswers.{certificate_status, text_accepted, refused_apart, kept_or_broken, checked_files_once}

@@ -2,7 +2,7 @@
 use Rattle.std.proofs.Common.{◌≡◌, ◌≢◌, ℕ, ◌≤◌, ◌⊎◌, inl, inr, List, take, refl, sym, ◌∙◌, subst, arith}
 use Rattle.std.specs.Prelude.{Result, Ok, Err, OnOk, IfOk, IfErr}
 use Rattle.plan_desk.specs.Desk.{Shown}
-use Rattle.plan_desk.specs.Contents.{Says}
+use Rattle.plan_desk.specs.Contents.{Says, OnlyReads, KeepsFiles}
 use Rattle.planner_cli.specs.Lines.{memory_line}
 use Rattle.planner_cli.specs.Ending.{Answer, reply, OrMemory, IsQuiet, SayFails, IsUnsaid, Ends, Behind, IsAllowed, IsAnswered, NoFault}
 use Rattle.planner_cli.specs.Ending.OrMemory.{answers, no_memory}
@@ -11,7 +11,7 @@ use Rattle.planner_cli.specs.Ending.Behind.{of_command, unsaid as behind_unsaid,
 use Rattle.planner_cli.specs.declared.report.Report.{Report}
 use Rattle.planner_cli.specs.declared.refusal.Refusal.{Refusal}
 use Rattle.planner_cli.specs.declared.refusal.Refusal.TheVariants as refusal
-use Rattle.planner_cli.specs.Refusals.{OnlyReads, KeepsFiles, KeepsLast, status_of, line_of, IsDueAs, SaysOrFails, SaysAnswer, SaysReport}
+use Rattle.planner_cli.specs.Refusals.{KeepsLast, status_of, line_of, IsDueAs, SaysOrFails, SaysAnswer, SaysReport}
 use Rattle.planner_cli.proofs.SayLemmas.{rose_before, says_before}
 use Rattle.planner_cli.proofs.FileLemmas.{Goes, OrUnread}
 

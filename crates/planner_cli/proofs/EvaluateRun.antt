@@ -1,7 +1,7 @@
 -- What a run of `evaluate` promises follows from its end.
 use Rattle.std.proofs.Common.{◌≡◌, ℕ, ◌-◌, ◌^◌, ◌≤◌, ◌⊎◌, inl, inr, List, Option, refl, sym, pos, subst}
 use Rattle.plan_desk.specs.Desk.{Shown}
-use Rattle.plan_desk.specs.Contents.{TellsSuch, Says}
+use Rattle.plan_desk.specs.Contents.{TellsSuch, Says, OnlyReads, KeepsFiles}
 use Rattle.instance_model.specs.declared.limits.Limits.{Limits}
 use Rattle.instance_model.specs.Tables.{Tables}
 use Rattle.instance_model.specs.Rules.{KeepsRules}
@@ -15,7 +15,6 @@ use Rattle.planner_cli.specs.Evaluating.{Judges, AnswersEvaluate, DueEvaluate, B
 use Rattle.planner_cli.specs.Evaluating.Judges.{feasible, infeasible}
 use Rattle.planner_cli.specs.Evaluating.BehindEvaluate.{feasible as behind_feasible, infeasible as behind_infeasible, refused_instance as behind_refused_instance, refused_plan as behind_refused_plan, unread_instance as behind_unread_instance, unread_plan as behind_unread_plan}
 use Rattle.planner_cli.specs.Evaluating.ExpectsEvaluate.{no_instance, refused_instance, no_plan, refused_plan, kept_plan, broken_plan}
-use Rattle.planner_cli.specs.Refusals.{OnlyReads, KeepsFiles}
 use Rattle.planner_cli.proofs.FileLemmas.{Carries, on_other, Goes, later_reading, exact_reading, OrUnread, missing_file, refused_file, told_file, then_next, then_more, say_refusal}
 use Rattle.planner_cli.proofs.AnswerLemmas.{same_instance, taken_sound, refused_instance_bytes, instance_status, same_plan, spelled_sound, refused_plan_bytes, plan_status, evaluated_once}
 use Rattle.planner_cli.proofs.EndLemmas.{Stays, ends_quiet, ends_behind, ends_allowed, ends_exact}

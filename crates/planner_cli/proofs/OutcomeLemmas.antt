@@ -1,7 +1,7 @@
 -- What a run of the words promises, from what a run of their command does.
 use Rattle.std.proofs.Common.{◌≡◌, ℕ, ◌≤◌, inl, inr, List, Option, Some, None, refl, sym, ◌∙◌, ap, subst, arith}
 use Rattle.plan_desk.specs.Desk.{Shown}
-use Rattle.plan_desk.specs.Contents.{Says}
+use Rattle.plan_desk.specs.Contents.{Says, KeepsFiles}
 use Rattle.instance_model.specs.Limits.{standard_limits}
 use Rattle.planner_cli.specs.Words.{Source, Command, evaluate, replay, check, command_of}
 use Rattle.planner_cli.specs.Lines.{words_line}
@@ -12,7 +12,7 @@ use Rattle.planner_cli.specs.Replaying.{RunsReplay}
 use Rattle.planner_cli.specs.Checking.{RunsCheck}
 use Rattle.planner_cli.specs.Outcome.{Asks, DueRefusal, BehindRefusal, RefusesWords, Outcome}
 use Rattle.planner_cli.specs.Outcome.BehindRefusal.{refused as behind_refused, unsaid as behind_unsaid}
-use Rattle.planner_cli.specs.Refusals.{KeepsFiles, SaysOrFails}
+use Rattle.planner_cli.specs.Refusals.{SaysOrFails}
 use Rattle.planner_cli.proofs.EndLemmas.{reads_none, said_ends, ends_quiet, unsaid_fails}
 
 -- ---- words that are refused

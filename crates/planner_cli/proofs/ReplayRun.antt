@@ -2,7 +2,7 @@
 use Rattle.std.proofs.Common.{◌≡◌, ◌≢◌, ℕ, ◌≤◌, ◌⊎◌, inl, inr, List, Option, Some, None, refl, sym, subst}
 use Rattle.std.specs.Prelude.{IsSome}
 use Rattle.plan_desk.specs.Desk.{Shown}
-use Rattle.plan_desk.specs.Contents.{TellsSuch, Says}
+use Rattle.plan_desk.specs.Contents.{TellsSuch, Says, KeepsFiles}
 use Rattle.plan_moves.specs.declared.script_line.ScriptLine.{ScriptLine}
 use Rattle.plan_moves.specs.Scripts.{Succeeds, FailsAt}
 use Rattle.move_script.specs.Replays.{FailsByStart, FailsByUndo}
@@ -19,7 +19,6 @@ use Rattle.planner_cli.specs.Replaying.Replays.{broken_start, ended, not_allowed
 use Rattle.planner_cli.specs.Replaying.SaysFailure.{not_allowed as by_start, nothing_to_undo as by_undo}
 use Rattle.planner_cli.specs.Replaying.BehindReplay.{broken_start as behind_broken_start, ended as behind_ended, refused_instance as behind_refused_instance, refused_line as behind_refused_line, refused_plan as behind_refused_plan, refused_script as behind_refused_script, unread_instance as behind_unread_instance, unread_plan as behind_unread_plan, unread_script as behind_unread_script}
 use Rattle.planner_cli.specs.Replaying.ExpectsReplay.{no_instance, refused_instance, no_plan, refused_plan, no_script, refused_script, broken_opening, done_script, failing_line}
-use Rattle.planner_cli.specs.Refusals.{KeepsFiles}
 use Rattle.planner_cli.proofs.FileLemmas.{Carries, on_other, Goes, later_reading, exact_reading, OrUnread, missing_file, refused_file, told_file, then_next, then_more, say_refusal}
 use Rattle.planner_cli.proofs.AnswerLemmas.{instance_status, plan_status, same_script, script_sound, refused_script_bytes, script_status, same_opening, no_broken_start, no_failure, replayed_files_once}
 use Rattle.planner_cli.proofs.EndLemmas.{Stays, ends_quiet, ends_behind, ends_allowed, ends_exact}

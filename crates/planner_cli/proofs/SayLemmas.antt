@@ -1,6 +1,6 @@
 -- What was said, piece by piece.
 use Rattle.std.proofs.Common.{◌≡◌, ℕ, ◌+◌, ◌≤◌, inl, inr, List, ◌++◌, length, take, Option, Some, None, sym, ◌∙◌, ap, subst, arith, length-append, append_assoc}
-use Rattle.std.specs.Prelude.{option_map, Result, Ok, Err, OnErr}
+use Rattle.std.specs.Prelude.{option_map}
 use Rattle.std.proofs.Math.Seq.{take-append-add}
 use Rattle.std.proofs.lemmas.List.{take-append-le}
 use Rattle.plan_desk.specs.Desk.{Shown}
@@ -59,7 +59,3 @@ pub or_more : (a b : List ℕ) (old mid new : Shown) (due status : ℕ) → Says
 or_more a b old mid new due status first later same (inl all) =
     inl (record { status_is = all.status_is; says = says_more a b old mid new first all.says; same = all.same ∙ same })
 or_more a b old mid new due status first later same (inr some) = inr (some_more a b old mid new status first later some)
-
-pub on_err : {T E P : Type 0} (r : Result T E) → P → OnErr r P
-on_err (Ok x) p = tt
-on_err (Err e) p = p

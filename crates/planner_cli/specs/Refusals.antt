@@ -34,19 +34,6 @@ use Rattle.planner_cli.specs.Files.{ReadFails, ReadsSuch, ReadsInstance, ReadsPl
 use Rattle.planner_cli.specs.Replaying.{IsOpeningOf}
 use Rattle.planner_cli.specs.Checking.{GivenKeeps, IsBroken, Checks}
 
--- ---- calls that write no file
-
--- a call that only reads: what files hold and what was said is as before, and the count of faults never falls
-pub record OnlyReads (old new : Shown) : Type 0 where
-  pub output : new.output ≡ old.output
-  pub said : new.said ≡ old.said
-  pub later : old.faults ≤ new.faults
-
--- a call that writes no file: what files hold is as before, and the count of faults never falls
-pub record KeepsFiles (old new : Shown) : Type 0 where
-  pub output : new.output ≡ old.output
-  pub later : old.faults ≤ new.faults
-
 -- ---- refusals
 
 abbrev pub status_of : Refusal → ℕ

@@ -3,11 +3,12 @@
 ghost use Rattle.std.specs.Prelude.{◌≡◌, ◌<◌, ◌≤◌, ◌^◌, length, option_copied, Some, IfSome, IfOk, IfErr, OnOk, unsigned_abs};
 ghost use Rattle.instance_model.specs.Limits.{standard_limits};
 ghost use Rattle.branch_tree.specs.Ranges.{IsInRange};
+ghost use Rattle.plan_desk.specs.Contents.{OnlyReads};
 ghost use Rattle.planner_cli.specs.Asked.{source_view};
 ghost use Rattle.planner_cli.specs.Ending.{reply};
 ghost use Rattle.planner_cli.specs.Files.{reading};
 ghost use Rattle.planner_cli.specs.Checking.{Checks, AnswersCheck, RunsCheck};
-ghost use Rattle.planner_cli.specs.Refusals.{OnlyReads, KeepsLast, IsDueAs, StandsAs, ChecksFor};
+ghost use Rattle.planner_cli.specs.Refusals.{KeepsLast, IsDueAs, StandsAs, ChecksFor};
 
 use crate::reading::{certificate_of, given_plan_of, instance_of};
 use crate::refusal::{Refusal, leaf_text};

@@ -1,11 +1,12 @@
 // The command `evaluate`: both files are read, the plan is judged, and the report is said.
 ghost use Rattle.std.specs.Prelude.{◌≡◌, ◌≤◌, length, IfOk, IfErr, OnOk};
 ghost use Rattle.instance_model.specs.Limits.{standard_limits};
+ghost use Rattle.plan_desk.specs.Contents.{OnlyReads};
 ghost use Rattle.planner_cli.specs.Asked.{source_view};
 ghost use Rattle.planner_cli.specs.Ending.{reply};
 ghost use Rattle.planner_cli.specs.Files.{reading};
 ghost use Rattle.planner_cli.specs.Evaluating.{Judges, AnswersEvaluate, RunsEvaluate};
-ghost use Rattle.planner_cli.specs.Refusals.{OnlyReads, KeepsLast, IsDueAs};
+ghost use Rattle.planner_cli.specs.Refusals.{KeepsLast, IsDueAs};
 
 use crate::reading::{instance_of, plan_of};
 use crate::refusal::Refusal;

@@ -4,9 +4,10 @@ ghost use Rattle.instance_model.specs.Limits.{standard_limits};
 ghost use Rattle.plan_desk.specs.Desk.{ShowsSame, after_take_in};
 ghost use Rattle.plan_moves.specs.Scripts.{NamesKnown};
 ghost use Rattle.branch_tree.specs.Ranges.{IsInRange};
+ghost use Rattle.plan_desk.specs.Contents.{OnlyReads};
 ghost use Rattle.planner_cli.specs.Asked.{source_view};
 ghost use Rattle.planner_cli.specs.Files.{ReadsBytes, ReadsInstance, ReadsPlan, ReadsScript, ReadsGiven, ReadsCertificate};
-ghost use Rattle.planner_cli.specs.Refusals.{OnlyReads, KeepsLast, IsReadCause, IsInstanceCause, IsPlanCause, IsScriptCause};
+ghost use Rattle.planner_cli.specs.Refusals.{KeepsLast, IsReadCause, IsInstanceCause, IsPlanCause, IsScriptCause};
 ghost use Rattle.planner_cli.specs.Refusals.{IsGivenCause, IsCertificateCause, AfterGiven};
 
 use crate::refusal::Refusal;

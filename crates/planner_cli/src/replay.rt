@@ -3,10 +3,11 @@ ghost use Rattle.std.specs.Prelude.{◌≡◌, ◌≤◌, length, map, All, Some
 ghost use Rattle.instance_model.specs.Limits.{standard_limits};
 ghost use Rattle.instance_model.specs.Plans.{AreAllowedStarts};
 ghost use Rattle.plan_moves.specs.Scripts.{NamesKnown};
+ghost use Rattle.plan_desk.specs.Contents.{OnlyReads, KeepsFiles};
 ghost use Rattle.planner_cli.specs.Asked.{source_view};
 ghost use Rattle.planner_cli.specs.Files.{reading};
 ghost use Rattle.planner_cli.specs.Replaying.{Replays, AnswersReplay, RunsReplay};
-ghost use Rattle.planner_cli.specs.Refusals.{OnlyReads, KeepsFiles, KeepsLast, IsDueAs, AreRead, OpensAs, SaysAnswer};
+ghost use Rattle.planner_cli.specs.Refusals.{KeepsLast, IsDueAs, AreRead, OpensAs, SaysAnswer};
 
 use crate::reading::{instance_of, plan_of, script_of};
 use crate::refusal::{MEMORY_LINE, Refusal};

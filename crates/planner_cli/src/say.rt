@@ -1,13 +1,14 @@
-// What is due is said.
-ghost use Rattle.std.specs.Prelude.{◌≡◌, ◌⊎◌, OnOk, OnErr, decimal};
-ghost use Rattle.plan_desk.specs.Contents.{Says};
+//! What is due is said.
+ghost use Rattle.std.specs.Prelude.{◌⊎◌};
+ghost use Rattle.plan_desk.specs.Contents.{KeepsFiles};
+ghost use Rattle.plan_desk.specs.Written.{SaysText};
 ghost use Rattle.planner_cli.specs.Lines.{memory_line, numbered_line};
-ghost use Rattle.planner_cli.specs.Refusals.{KeepsFiles, SaysSome, SaysOrFails, SaysReport, status_of, line_of};
+ghost use Rattle.planner_cli.specs.Refusals.{SaysOrFails, SaysReport, status_of, line_of};
 
 use crate::refusal::{MEMORY_LINE, Refusal};
 use crate::report::Report;
 use fixed_num::Line;
-use plan_desk::{Desk, Failed, say_all};
+use plan_desk::{Desk, Failed, say_all, say_pieces};
 use std::alloc::Global;
 
 /// Says a text whole, and answers the status that is due with it; 8 where that failed.
@@ -58,29 +59,8 @@ pub fn say_numbered<D: Desk>(desk: &mut D, status: u8, words: &str, n: u64) -> u
 
 // Says a line that ends with a number.
 fn say_line<D: Desk>(desk: &mut D, words: &str, n: u64) -> Result<(), Failed>
-    ensures ok { OnOk result (Says (numbered_line words.now n) (D.shows desk.old) (D.shows desk.new)) }
-    ensures same { OnOk result ((D.shows desk.new).last ≡ (D.shows desk.old).last) }
-    ensures err { OnErr result (SaysSome (numbered_line words.now n) (D.shows desk.old) (D.shows desk.new) 8) }
-    ensures keeps { KeepsFiles (D.shows desk.old) (D.shows desk.new) }
+    ensures { SaysText (numbered_line words.now n) (D.shows desk.old) (D.shows desk.new) result }
 {
-    say_piece(desk, words.as_bytes())?;
-    say_piece(desk, digits_of(n).bytes())?;
-    say_piece(desk, b"\n")
-}
-
-// Says a piece whole.
-fn say_piece<D: Desk>(desk: &mut D, piece: &[u8]) -> Result<(), Failed>
-    ensures ok { OnOk result (Says piece.now (D.shows desk.old) (D.shows desk.new)) }
-    ensures same { OnOk result ((D.shows desk.new).last ≡ (D.shows desk.old).last) }
-    ensures err { OnErr result (SaysSome piece.now (D.shows desk.old) (D.shows desk.new) 8) }
-    ensures keeps { KeepsFiles (D.shows desk.old) (D.shows desk.new) }
-{
-    say_all(desk, piece)
-}
-
-// A number in decimal digits.
-fn digits_of(n: u64) -> Line
-    ensures { result ≡ decimal n }
-{
-    Line::of_int(n.into())
+    let digits = Line::of_natural(n);
+    say_pieces(desk, &[words.as_bytes(), digits.bytes(), b"\n"])
 }

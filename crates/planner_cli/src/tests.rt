@@ -115,7 +115,8 @@ const LOOSE: &str = r#"{"Resources":{"c1":{"max":[20.0,20.0,20.0],"min":[0.0,0.0
 "Quantile":0.95,"Alpha":0.5,"ComputationTime":15}"#;
 
 /// A risk of 13 decimals.
-const ROUNDED: &str = r#"{"Resources":{},"Seasons":{},"Interventions":{"I1":{"tmax":1,"Delta":[1],"workload":{},
+const ROUNDED: &str =
+    r#"{"Resources":{},"Seasons":{},"Interventions":{"I1":{"tmax":1,"Delta":[1],"workload":{},
 "risk":{"1":{"1":[1,3.0000000000005]}}}},
 "Exclusions":{},"T":1,"Scenarios_number":[2],"Quantile":0.95,"Alpha":0.5}"#;
 
@@ -338,7 +339,10 @@ fn an_instance_that_is_cut_is_refused_at_its_end(rt: HostRuntime) -> Result<(), 
 fn a_million_brackets_are_too_deep(rt: HostRuntime) -> Result<(), Fail> {
     let alloc = rt.alloc();
     let said = said_of(alloc, &vec![in alloc; b'['; 1_000_000]?)?;
-    assert_eq!(rt; said.as_slice(), b"refused instance too deep 16\n".as_slice());
+    assert_eq!(rt;
+        said.as_slice(),
+        b"refused instance too deep 16\n".as_slice()
+    );
     Ok(())
 }
 

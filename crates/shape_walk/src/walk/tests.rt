@@ -1,13 +1,11 @@
 //! Small texts, with their faults and spots worked out by hand.
 
-ghost use Rattle.json_events.specs.Pulls.{IsUnfinished};
-
 use super::*;
+use fixed_num::Fixed;
+use instance_shape::{Known, Which};
 use json_events::{Pull, Pulled};
 use json_grammar::{Member, Node, TextFault, Tree};
 use json_tree::read_tree;
-use fixed_num::Fixed;
-use instance_shape::{Known, Which};
 use std::test::Fail;
 
 /// A text without a fault that has each kind of value once.
@@ -76,11 +74,6 @@ fn walk_over(
     Ok((walk.fault(), told))
 }
 
-/// The first fault of a text.
-fn fault_of(alloc: Global, limits: &Limits, text: &[u8]) -> Result<Option<Fault>, TextFault> {
-    Ok(walk_over(alloc, limits, text)?.0)
-}
-
 fn fault(at: u64, flaw: Flaw) -> Option<Fault> {
     Some(Fault { at, flaw })
 }
@@ -132,7 +125,8 @@ fn first_faults(rt: HostRuntime) -> Result<(), Fail> {
         (b"{\"Quantile\":0}", fault(12, Flaw::Shape)),
     ];
     for (text, want) in table {
-        assert_eq!(rt; fault_of(rt.alloc(), &limits, text)?, want);
+        let (fault, _) = walk_over(rt.alloc(), &limits, text)?;
+        assert_eq!(rt; fault, want);
     }
     Ok(())
 }
@@ -144,18 +138,6 @@ fn count(number: i128) -> Read {
         count,
         rounded: false,
     }
-}
-
-/// What is read of a text, with the spots.
-fn read_in(alloc: Global, text: &[u8]) -> Result<Vec<(Spot, Read)>, TextFault> {
-    let (_, told) = walk_over(alloc, &Limits::standard(), text)?;
-    let mut read = Vec::new(alloc);
-    for (spot, one) in &told {
-        if *one != Read::Nothing {
-            read.push((*spot, *one))?;
-        }
-    }
-    Ok(read)
 }
 
 #[test]
@@ -178,19 +160,15 @@ fn what_is_read(rt: HostRuntime) -> Result<(), Fail> {
         (Spot::Quantile, Read::Millionths(950_000)),
         (Spot::Alpha, Read::Millionths(500_000)),
     ];
-    let read = read_in(rt.alloc(), GOOD)?;
+    let (_, told) = walk_over(rt.alloc(), &Limits::standard(), GOOD)?;
+    let mut read = Vec::new(rt.alloc());
+    for (spot, one) in &told {
+        if *one != Read::Nothing {
+            read.push((*spot, *one))?;
+        }
+    }
     assert_eq!(rt; read.as_slice(), want.as_slice());
     Ok(())
-}
-
-/// The spots of all events of a text.
-fn spots_in(alloc: Global, text: &[u8]) -> Result<Vec<Spot>, TextFault> {
-    let (_, told) = walk_over(alloc, &Limits::standard(), text)?;
-    let mut spots = Vec::new(alloc);
-    for (spot, _) in &told {
-        spots.push(*spot)?;
-    }
-    Ok(spots)
 }
 
 #[test]
@@ -215,17 +193,13 @@ fn spots_of_all_events(rt: HostRuntime) -> Result<(), Fail> {
         Spot::Skipped,
         Spot::Root,
     ];
-    let spots = spots_in(rt.alloc(), text)?;
+    let (_, told) = walk_over(rt.alloc(), &Limits::standard(), text)?;
+    let mut spots = Vec::new(rt.alloc());
+    for (spot, _) in &told {
+        spots.push(*spot)?;
+    }
     assert_eq!(rt; spots.as_slice(), want.as_slice());
     Ok(())
-}
-
-/// The next event that is due, without the clauses of the call, which the proof of a loop would carry along.
-fn next_of(pull: &mut Pull) -> Result<Pulled, TextFault>
-    requires { IsUnfinished pull.old }
-    ensures { IsUnfinished pull.new }
-{
-    pull.next_event()
 }
 
 /// A walk over the events that the first bytes of a text tell.
@@ -235,18 +209,12 @@ fn walk_along(alloc: Global, limits: &Limits, bytes: &[u8]) -> Result<ShapeWalk,
     let mut pull = Pull::make(alloc)?;
     pull.push(bytes)?;
     for _ in 0..100 {
-        match next_of(&mut pull)? {
+        match pull.next_event()? {
             Pulled::Event(event) => tell(&mut walk, &mut told, event)?,
             Pulled::More | Pulled::Done => return Ok(walk),
         }
     }
     Ok(walk)
-}
-
-/// Where a count is awaited behind the first bytes of a text.
-fn awaited_behind(alloc: Global, bytes: &[u8]) -> Result<Option<Spot>, TextFault> {
-    let walk = walk_along(alloc, &Limits::standard(), bytes)?;
-    Ok(walk.awaits_count())
 }
 
 #[test]
@@ -267,7 +235,8 @@ fn where_counts_are_awaited(rt: HostRuntime) -> Result<(), Fail> {
         (b"{\"T\":0,\"Resources\":{\"c\":{\"max\":[", None),
     ];
     for (bytes, want) in table {
-        assert_eq!(rt; awaited_behind(rt.alloc(), bytes)?, want);
+        let walk = walk_along(rt.alloc(), &Limits::standard(), bytes)?;
+        assert_eq!(rt; walk.awaits_count(), want);
     }
     Ok(())
 }
