@@ -60,7 +60,7 @@ class Walk:
         return entries + ([b"prices"] if self.begun < self.lists else [b"tree"])
 
     def fault(self, line):
-        """Where a line leaves the forms that may stand there, and what is due at that place; None where it may stand."""
+        """Where a line leaves the forms that may stand there, and what is due at that place; None if it may stand."""
         word = line.words()[0]
         if word not in self.awaited():
             return line.at, words_text(self.awaited()) or "the end of the file"
@@ -98,7 +98,7 @@ class Walk:
             self.last = entry_key(line)
 
     def take_nodes(self, number, leaf):
-        """Goes past nodes up to a line, or up to a leaf. Each is a split, or taken for a leaf: there may be millions."""
+        """Goes past nodes up to a line or a leaf. Each is a split, or taken for a leaf: there may be millions."""
         splits, count = self.splits, self.number + 1
         for node in NODE.finditer(self.case.data, self.at):
             if count == number or self.has_ended or self.leaves + 1 == leaf and node[1] is None:
@@ -202,7 +202,8 @@ def bad_line(case):
         expect(walk.has_ended and walk.number == number - 1, f"line {number} of {case.text.name} has no line feed")
     fault = walk.fault(line)
     expect(fault is not None, f"{line}, may stand there")
-    return Finding(fault[0]).say("due here", fault[1])
+    finding = Finding(fault[0]).say("due here", fault[1])
+    return finding.say("the line", form_text(case, line)) if line.words()[0] in LINES else finding
 
 
 def bounds(case):

@@ -152,8 +152,12 @@ class Json:
         """The keys and numbers of elements that lead to the value at a place; to the object where a key stands there,
         and to the object or list where it ends there."""
         ends = self.byte(at) in (b"]", b"}")
-        return [
-            level.element if level.is_list else self.text(level.key_at)
-            for level in levels
-            if level is not levels[-1] or not (ends or level.wants_key)
-        ]
+        return [self.step(level) for level in levels if level is not levels[-1] or not (ends or level.wants_key)]
+
+    def step(self, level):
+        """The number of the element, or the key, that an open list or object is at."""
+        if level.is_list:
+            return level.element
+        if level.key_at is None:
+            raise Broken(level.at)
+        return self.text(level.key_at)
