@@ -1,13 +1,12 @@
 //! Worked rows: plans of small instances, each with its verdict, worked out by hand from the definitions.
-#![tactic(auto, unfolding(instance_model::specs::Naturals::count_sum, instance_model::specs::Tables::is_allowed, instance_model::specs::Tables::allowed_of, instance_model::specs::Tables::in_run, instance_model::specs::Tables::durations, instance_model::specs::Tables::tmax, instance_model::specs::Tables::delta_of, instance_model::specs::Tables::entries_at, instance_model::specs::Tables::entries_of, instance_model::specs::Tables::all_entries, instance_model::specs::Tables::scenarios_before, instance_model::specs::Tables::periods_before,))]
 
-ghost use Rattle.std.specs.Prelude.{◌≡◌, length, IsTrue};
-ghost use Rattle.worked_plans.specs.Sketches.{is_fitting};
+ghost use Rattle.std.specs.Prelude.{IsTrue};
+ghost use Rattle.small_instances.specs.Sketches.{is_fitting};
 
 use crate::keeps_rules;
-use crate::sketch::{Sketch, instance};
-use instance_model::{Exclusion, Rule};
+use instance_model::{Exclusion, Instance, Rule};
 use plan_score::{Values, Verdict, judge};
+use small_instances::{Sketch, instance};
 use std::alloc::{AllocError, Global};
 use std::process::Abort;
 use std::test::Fail;
@@ -154,21 +153,40 @@ const SECOND_ALONE: Exclusion = Exclusion {
     season: 0,
 };
 
-// Each plan has the verdict beside it, and `keeps_rules` agrees.
+// The verdict on a plan, and whether it keeps the rules; none where the plan isn't one of this instance.
+fn judged(
+    alloc: Global,
+    inst: &Instance,
+    plan: &[Option<u32>],
+) -> Result<Option<(Verdict, bool)>, AllocError> {
+    if plan.len() != inst.interventions() as usize {
+        return Ok(None);
+    }
+    Ok(Some((judge(alloc, inst, plan)?, keeps_rules(alloc, inst, plan)?)))
+}
+
+// The plan has this verdict, and `keeps_rules` agrees.
+fn agrees(rt: &impl Abort, alloc: Global, inst: &Instance, plan: &[Option<u32>], verdict: Verdict) {
+    let kept = matches!(verdict, Verdict::Feasible(_));
+    assert_eq!(rt;
+        judged(alloc, inst, plan),
+        Ok(Some((verdict, kept))),
+        "{plan:?}"
+    );
+}
+
+// Each plan of the sketch's instance has the verdict beside it.
 fn judges<const N: usize>(
     rt: &impl Abort,
     alloc: Global,
     sketch: &Sketch,
     rows: &[([Option<u32>; N], Verdict)],
 ) -> Result<(), AllocError>
-    requires fits { IsTrue (is_fitting sketch.now) }
-    requires each { length sketch.now.names ≡ N }
+    requires { IsTrue (is_fitting sketch.now) }
 {
     let inst = instance(alloc, sketch)?;
     for (plan, verdict) in rows {
-        assert_eq!(rt; judge(alloc, &inst, plan)?, *verdict, "{plan:?}");
-        let kept = matches!(*verdict, Verdict::Feasible(_));
-        assert_eq!(rt; keeps_rules(alloc, &inst, plan)?, kept, "{plan:?}");
+        agrees(rt, alloc, &inst, plan, *verdict);
     }
     Ok(())
 }
