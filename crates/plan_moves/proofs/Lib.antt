@@ -1,4 +1,3 @@
 pub mod BoardLemmas
 pub mod KeyLemmas
 pub mod TrailLemmas
-pub mod SampleLemmas

@@ -3,4 +3,3 @@ pub mod KeptPlans
 pub mod Scripts
 pub mod Boards
 pub mod Trails
-pub mod Sample

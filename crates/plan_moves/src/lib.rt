@@ -9,8 +9,6 @@ mod change;
 mod kept;
 mod moves;
 mod script_line;
-#[cfg(test)]
-mod tests;
 
 pub use change::Change;
 pub use instance_model::Key;
