@@ -1,4 +1,4 @@
-// The entries of a price list.
+//! The entries of a price list.
 ghost use Rattle.std.specs.Prelude.{◌≡◌, ◌≤◌, ◌-◌, ℕ, Some, IfOk, IfErr, All};
 ghost use Rattle.std.specs.Bool.{OnTrue, OnFalse};
 ghost use Rattle.lagrange_bound.specs.Prices.{IsPriceList};

@@ -1,4 +1,4 @@
-// The first three lines of a certificate.
+//! The first three lines of a certificate.
 ghost use Rattle.std.specs.Prelude.{◌≡◌, ◌≤◌, [], ◌∷◌, None, IfOk, IfErr};
 ghost use Rattle.instance_model.specs.Tables.{Tables};
 ghost use Rattle.certificate_lines.specs.declared.line.CertificateLine.TheVariants as form;

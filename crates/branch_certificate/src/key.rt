@@ -1,4 +1,4 @@
-// What the entries of a price list are ordered by.
+//! What the entries of a price list are ordered by.
 ghost use Rattle.std.specs.Prelude.{◌≡◌, ◌↔◌, IsTrue, IfSome, IfNone};
 ghost use Rattle.certificate_text.specs.Grammar.{EntryKey as Key, KeyBelow};
 ghost use Rattle.branch_certificate.specs.Reading.{IsEntry, key_view};

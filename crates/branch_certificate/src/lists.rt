@@ -1,4 +1,4 @@
-// The price lists of a certificate.
+//! The price lists of a certificate.
 ghost use Rattle.std.specs.Prelude.{◌≡◌, ◌<◌, ℕ, Option, Some, None, IsTrue, ◌↔◌, IfOk, IfErr};
 ghost use Rattle.branch_tree.specs.Trees.{root_box};
 ghost use Rattle.certificate_lines.specs.declared.line.CertificateLine.TheVariants as form;

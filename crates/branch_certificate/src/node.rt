@@ -1,4 +1,4 @@
-// The node of a line.
+//! The node of a line.
 ghost use Rattle.std.specs.Prelude.{◌≡◌, ◌<◌, ◌≤◌, ℕ, List, ◌∷◌, length, IfOk, IfErr, IfSome, IfNone};
 ghost use Rattle.instance_model.specs.Tables.{Tables};
 ghost use Rattle.lagrange_bound.specs.declared.span.Span.{Span};

@@ -1,4 +1,4 @@
-// The nodes of a certificate.
+//! The nodes of a certificate.
 ghost use Rattle.std.specs.Prelude.{◌≡◌, ◌<◌, List, [], ◌∷◌, length, map, IfOk, IfErr, OnOk};
 ghost use Rattle.lagrange_bound.specs.declared.span.Span.{Span};
 ghost use Rattle.branch_tree.specs.Trees.{root_box};

@@ -1,4 +1,4 @@
-// A certificate is read from its text.
+//! A certificate is read from its text.
 ghost use Rattle.std.specs.Prelude.{◌≡◌, ◌≢◌, ◌⊎◌, Ok, Err, IfOk, IfErr};
 ghost use Rattle.branch_tree.specs.declared.certificate.Certificate.{Certificate};
 ghost use Rattle.certificate_text.specs.Grammar as place;

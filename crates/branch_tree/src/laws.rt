@@ -1,4 +1,4 @@
-// Laws of trees and certificates. The functions do nothing: the contract is the law.
+//! Laws of trees and certificates. The functions do nothing: the contract is the law.
 ghost use Rattle.branch_tree.specs.Laws.{PartsHoldPlans, PartsHoldStarts, PartsAreBoxes, NodesAreOneTree, LeavesHoldStarts, RootHoldsStarts, BandLeavesNoPlan, ExclLeavesNoPlan, EmptyLeavesNoPlan, ValidBoundsPlans};
 
 use lagrange_bound::{Goal, worth_bounds_plans};

@@ -1,4 +1,4 @@
-// The bound, whose number may have up to 37 digits.
+//! The bound, whose number may have up to 37 digits.
 ghost use Rattle.std.specs.Prelude.{◌≡◌, ℕ, ℤ, ◌<◌, ◌≤◌, ◌^◌, ◌∷◌, ◌↔◌, length, IfSome, IfNone, IsTrue, decimal, unsigned_abs};
 ghost use Rattle.std.specs.Fmt.{signed_decimal};
 ghost use Rattle.std.specs.Str.Parse.{AllDigits, digits_value};

@@ -1,4 +1,4 @@
-// Laws of the lines.
+//! Laws of the lines.
 ghost use Rattle.std.specs.Prelude.{◌≡◌, ◌≢◌, All};
 ghost use Rattle.certificate_lines.specs.Spelling.{spelling, IsLine};
 ghost use Rattle.certificate_lines.specs.declared.line.CertificateLine.{CertificateLine};

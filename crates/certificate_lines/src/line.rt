@@ -1,4 +1,4 @@
-// What a line of a certificate may be.
+//! What a line of a certificate may be.
 
 use crate::Numbers;
 

@@ -1,4 +1,4 @@
-// The places of a tail, which take memory.
+//! The places of a tail, which take memory.
 ghost use Rattle.std.specs.Prelude.{◌≡◌, ◌<◌, ℕ, List, All, IfOk, IfSome, IfNone, IsTrue, ◌↔◌};
 ghost use Rattle.std.specs.List.{AllPairs};
 ghost use Rattle.certificate_lines.specs.Spelling.{words, IsNumber};

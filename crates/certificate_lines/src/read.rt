@@ -1,4 +1,4 @@
-// A line is read from its text.
+//! A line is read from its text.
 ghost use Rattle.std.specs.Prelude.{◌≡◌, ℕ, List, ◌++◌, codes, IfOk, OnErr, IfSome, IfNone};
 ghost use Rattle.certificate_lines.specs.Spelling.{spelling, IsLine};
 ghost use Rattle.certificate_lines.specs.Steps.{Reads};

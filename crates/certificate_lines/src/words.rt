@@ -1,4 +1,4 @@
-// The words of a line, each behind one blank.
+//! The words of a line, each behind one blank.
 ghost use Rattle.std.specs.Prelude.{◌≡◌, ◌≢◌, ℕ, List, [], ◌∷◌, ◌++◌, All, IfSome, IfNone};
 ghost use Rattle.certificate_lines.specs.Spelling.{word, words, IsNumber};
 ghost use Rattle.certificate_lines.specs.Steps.{IsBreak};

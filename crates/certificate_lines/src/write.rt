@@ -1,4 +1,4 @@
-// A line is written.
+//! A line is written.
 ghost use Rattle.std.specs.Prelude.{◌≡◌, [], ◌∷◌, ◌++◌, IsTrue};
 ghost use Rattle.plan_desk.specs.Written.{WritesText};
 ghost use Rattle.certificate_lines.specs.Spelling.{spelling, words};

@@ -1,4 +1,4 @@
-// The entries of a price list are written.
+//! The entries of a price list are written.
 ghost use Rattle.std.specs.Prelude.{◌≡◌, ◌+◌, ◌<◌, ◌≤◌, [], ◌∷◌, length, map, IsTrue};
 ghost use Rattle.plan_desk.specs.Written.{WritesText};
 ghost use Rattle.lagrange_bound.specs.Prices.{IsPriceList, tail_of};

@@ -1,4 +1,4 @@
-// Laws of the text.
+//! Laws of the text.
 ghost use Rattle.certificate_text.specs.Laws.{TextsLead, LeadToCertificates, LinesHaveForms, LinesTell, TextsTell, TextsAreCutOneWay, TextsAreSpelledOneWay, ZeroHasNone, ZeroIsUpTo, UpGrows, LoGrows, TailGrows, ExGrows};
 
 use certificate_lines::lines_are_spelled_one_way;

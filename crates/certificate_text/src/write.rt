@@ -1,4 +1,4 @@
-// A certificate is written.
+//! A certificate is written.
 ghost use Rattle.std.specs.Prelude.{[], ◌∷◌, ◌++◌, length, map, All, IsTrue};
 ghost use Rattle.std.specs.List.{flat_map};
 ghost use Rattle.plan_desk.specs.Written.{WritesText};

@@ -1,4 +1,4 @@
-// Laws of the format.
+//! Laws of the format.
 ghost use Rattle.std.specs.Prelude.{◌≡◌, ℕ, List};
 ghost use Rattle.plan_moves.specs.declared.script_line.ScriptLine.{ScriptLine};
 ghost use Rattle.move_script.specs.Spelling.{IsScript};

@@ -1,4 +1,4 @@
-// A script is read from its text.
+//! A script is read from its text.
 ghost use Rattle.std.specs.Prelude.{◌≡◌, ◌≢◌, [], List, Ok, Err, IfOk, IfErr, All, Contains, slice_index_or};
 ghost use Rattle.plan_moves.specs.Scripts.{NamesKnown};
 ghost use Rattle.plan_moves.specs.declared.script_line.ScriptLine.{ScriptLine};

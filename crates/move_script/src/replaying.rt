@@ -1,4 +1,4 @@
-// A script is replayed from an opening plan.
+//! A script is replayed from an opening plan.
 ghost use Rattle.std.specs.Prelude.{◌≡◌, ◌≢◌, ◌+◌, ◌<◌, ◌≤◌, ◌&&◌, ℕ, [], ◌∷◌, length, slice_index, All, Some, None, IfSome, IfOk, IfErr, Err, OnOk, OnErr, IsErrOf};
 ghost use Rattle.plan_desk.specs.Faults.{Rose, IsFaultOf};
 ghost use Rattle.plan_desk.specs.declared.call.DeskCall.{DeskCall};

@@ -1,4 +1,4 @@
-// Changes are written as a script.
+//! Changes are written as a script.
 ghost use Rattle.std.specs.Prelude.{[], ◌∷◌, ◌++◌, map, All, IsTrue};
 ghost use Rattle.plan_desk.specs.Written.{WritesText};
 ghost use Rattle.plan_moves.specs.Scripts.{NamesKnown, line_of};

@@ -1,4 +1,4 @@
-// What reads files, writes files and speaks.
+//! What reads files, writes files and speaks.
 ghost use Rattle.std.specs.Prelude.{IsTrue};
 ghost use Rattle.plan_desk.specs.Desk.{Shown, TellsNames};
 ghost use Rattle.plan_desk.specs.Calls.{TakesIn, Reads, PutsOut, Writes, FinishesOut, Speaks};

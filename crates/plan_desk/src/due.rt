@@ -1,4 +1,4 @@
-// Which call is to fail.
+//! Which call is to fail.
 ghost use Rattle.std.specs.Prelude.{◌≡◌, ◌+◌, ◌-◌, ◌<◌, ◌^◌, ◌==◌, ◌&&◌, ℕ, slice_index, slice_set};
 ghost use Rattle.std.specs.List.{list_any};
 ghost use Rattle.plan_desk.specs.Mem.{next_of, number_of};

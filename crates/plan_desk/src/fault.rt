@@ -1,4 +1,4 @@
-// How faults are counted and kept.
+//! How faults are counted and kept.
 ghost use Rattle.std.specs.Prelude.{◌≡◌, ◌≤◌, ◌↔◌, List, length, IfSome, IsSome, true};
 ghost use Rattle.plan_desk.specs.Desk.{Fault};
 ghost use Rattle.plan_desk.specs.Faults.{Rose, count_after};

@@ -1,4 +1,4 @@
-// The file of a name, and changes to it.
+//! The file of a name, and changes to it.
 ghost use Rattle.std.specs.Prelude.{◌≡◌, ◌+◌, ◌-◌, ◌^◌, ◌<◌, ◌≤◌, take, drop, length, min, MatchOption, OnOk, OnErr, IfOk, IsOk, IsSome, None, bytes_eq, vec_len, ◌++◌, [], List, ◌∷◌, slice_set, option_copied};
 ghost use Rattle.plan_desk.specs.Mem.{held_by, IsAt, IsPut, file_at};
 

@@ -1,4 +1,4 @@
-// Loops over a desk, until a file is read or a piece is taken whole.
+//! Loops over a desk, until a file is read or a piece is taken whole.
 ghost use Rattle.std.specs.Prelude.{◌≡◌, ℕ, ◌+◌, ◌<◌, ◌≤◌, List, [], ◌++◌, length, take, drop, vec_len, IfOk, OnOk, OnErr, IfErr, IfSome, IsErrOf, IsTrue};
 ghost use Rattle.std.specs.List.{flat_map};
 ghost use Rattle.plan_desk.specs.Desk.{ShowsSame, after_take_in, after_read, all_read};

@@ -1,4 +1,4 @@
-// Real files and standard output.
+//! Real files and standard output.
 ghost use Rattle.std.specs.Prelude.{◌≡◌, IsTrue, is_err};
 ghost use Rattle.plan_desk.specs.Calls.{TakesIn, Reads, PutsOut, Writes, FinishesOut, Speaks};
 ghost use Rattle.plan_desk.specs.Faults.{count_after};

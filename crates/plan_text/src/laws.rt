@@ -1,4 +1,4 @@
-// Laws of the format.
+//! Laws of the format.
 ghost use Rattle.std.specs.Prelude.{◌≡◌, ℕ, List, Option};
 ghost use Rattle.plan_text.specs.Spelling.{IsPlan};
 ghost use Rattle.plan_text.specs.FirstFault.{HasPlanFault};

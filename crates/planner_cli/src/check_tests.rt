@@ -1,4 +1,4 @@
-// Checks of certificates over files in memory.
+//! Checks of certificates over files in memory.
 use crate::run;
 use crate::tests::{BANDED, BOTH, PLAIN, TIGHT, TOGETHER, desk, owned};
 use plan_desk::{DeskCall, MemDesk};

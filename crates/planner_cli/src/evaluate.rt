@@ -1,4 +1,4 @@
-// The command `evaluate`: both files are read, the plan is judged, and the report is said.
+//! The command `evaluate`: both files are read, the plan is judged, and the report is said.
 ghost use Rattle.std.specs.Prelude.{◌≡◌, ◌≤◌, length, IfOk, IfErr, OnOk};
 ghost use Rattle.instance_model.specs.Limits.{standard_limits};
 ghost use Rattle.plan_desk.specs.Contents.{OnlyReads};

@@ -1,4 +1,4 @@
-// The files of a command are read. None is changed, and nothing is said.
+//! The files of a command are read. None is changed, and nothing is said.
 ghost use Rattle.std.specs.Prelude.{◌≡◌, ◌≤◌, [], length, pos, All, option_copied, IfSome, IfOk, IfErr, OnOk};
 ghost use Rattle.instance_model.specs.Limits.{standard_limits};
 ghost use Rattle.plan_desk.specs.Desk.{ShowsSame, after_take_in};

@@ -1,4 +1,4 @@
-// The command `replay`: all files are read, and the keys along the script are said.
+//! The command `replay`: all files are read, and the keys along the script are said.
 ghost use Rattle.std.specs.Prelude.{◌≡◌, ◌≤◌, length, map, All, Some, IfOk, IfErr, OnOk, unwrap_or};
 ghost use Rattle.instance_model.specs.Limits.{standard_limits};
 ghost use Rattle.instance_model.specs.Plans.{AreAllowedStarts};

@@ -1,4 +1,4 @@
-// Replays of scripts over files in memory.
+//! Replays of scripts over files in memory.
 use crate::run::run_with;
 use crate::tests::{BANDED, BOTH, LATE, PLAIN, PLAIN_REPORT, desk, owned};
 use fixed_num::{Steps, Sum};

@@ -1,4 +1,4 @@
-// The reports on plans.
+//! The reports on plans.
 ghost use Rattle.std.specs.Prelude.{◌≡◌, ◌<◌, ◌≤◌, ◌^◌, ◌++◌, ℕ, List, Option, Some, IfOk, IfSome, OnOk, length, ℤ, codes, unsigned_abs};
 ghost use Rattle.branch_tree.specs.Ranges.{IsBoundInRange};
 ghost use Rattle.planner_cli.specs.Reports.{values_report, infeasible_report, score_line, ranges_text, range_line, rounded_line, numbered, band_text, rule_text, pair_text, NamesOf, bound_line, fixed_line, cost_line, bound_lines, bound_text, bound_cost, gap_line, score_and_gap, gap_text, accepted_text};

@@ -1,4 +1,4 @@
-// Runs over files in memory.
+//! Runs over files in memory.
 use crate::run;
 use plan_desk::{DeskCall, MemDesk};
 use std::alloc::{AllocError, Global};

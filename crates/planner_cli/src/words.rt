@@ -1,4 +1,4 @@
-// The command line.
+//! The command line.
 ghost use Rattle.std.specs.Prelude.{◌≡◌, ◌≤◌, map, string_bytes, option_copied, IfSome, IfNone, Some, None, IsTrue, false};
 ghost use Rattle.planner_cli.specs.Words.{command_of, evaluate_of, replay_of, check_of, IsOneCommand, evaluation, replaying, checking};
 ghost use Rattle.planner_cli.specs.Words.{given_plan, slack_in, slack_of, slack_count, fraction, are_decimals};

@@ -1,4 +1,4 @@
-// Loads of one intervention, worked out by hand.
+//! Loads of one intervention, worked out by hand.
 ghost use Rattle.std.specs.Prelude.{◌≡◌, ◌<◌, [], ◌∷◌, length, IfOk, IsTrue, map, string_bytes};
 ghost use Rattle.instance_model.specs.Tables.{is_allowed};
 ghost use Rattle.instance_model.specs.View.{tables_of};

@@ -1,4 +1,4 @@
-// Exclusions of two interventions, worked out by hand.
+//! Exclusions of two interventions, worked out by hand.
 ghost use Rattle.std.specs.Prelude.{◌≡◌, ℕ, ◌<◌, ◌≤◌, [], ◌∷◌, length, IfOk, IsTrue, map, string_bytes};
 ghost use Rattle.instance_model.specs.Tables.{is_allowed};
 ghost use Rattle.instance_model.specs.View.{tables_of};

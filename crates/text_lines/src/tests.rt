@@ -1,4 +1,4 @@
-// Texts cut, read as numbers, and looked up among the names I1 and I2.
+//! Texts cut, read as numbers, and looked up among the names I1 and I2.
 ghost use Rattle.std.specs.Prelude.{◌≡◌, [], ◌∷◌, IfOk, length, codes, map, string_bytes};
 ghost use Rattle.instance_model.specs.Fitting.{IsFitting};
 ghost use Rattle.instance_model.specs.View.{tables_of};
