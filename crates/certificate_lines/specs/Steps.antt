@@ -1,5 +1,6 @@
 -- What the steps of reading and writing a line say.
-use Rattle.std.specs.Prelude.{◌≡◌, ◌≢◌, ◌<◌, ◌≤◌, ℕ, ⊤, length, slice_index, All, List, [], ◌∷◌, ◌++◌, Option, Some, None, codes}
+use Rattle.std.specs.Prelude.{◌≡◌, ◌≢◌, ◌<◌, ◌≤◌, ℕ, ⊤, length, slice_index, All, List, [], ◌∷◌, ◌++◌, Option, Some}
+use Rattle.std.specs.Prelude.{None, codes}
 use Rattle.std.specs.Char.{digit_value}
 use Rattle.std.specs.Fmt.{signed_decimal}
 use Rattle.certificate_lines.specs.declared.line.Version.{Version}
@@ -9,7 +10,9 @@ use Rattle.certificate_lines.specs.declared.line.Version.TheVariants.{One, Two}
 use Rattle.certificate_lines.specs.declared.line.Bound.TheVariants.{NoPlan, Least}
 use Rattle.certificate_lines.specs.declared.line.Side.TheVariants.{Over, Under}
 use Rattle.certificate_lines.specs.declared.line.CertificateLine.{CertificateLine}
-use Rattle.certificate_lines.specs.declared.line.CertificateLine.TheVariants.{Title, Lists, Prices, Up, Lo, Tail, Ex, Tree, Split, Cost, Point, Band, Excl, Empty}
+use Rattle.certificate_lines.specs.declared.line.CertificateLine.TheVariants.{Title, Lists, Prices, Up, Lo, Tail, Ex}
+use Rattle.certificate_lines.specs.declared.line.CertificateLine.TheVariants.{Tree, Split, Cost, Point, Band, Excl}
+use Rattle.certificate_lines.specs.declared.line.CertificateLine.TheVariants.{Empty}
 use Rattle.certificate_lines.specs.declared.line.CertificateLine.TheVariants as line
 use Rattle.certificate_lines.specs.declared.keyword.Keyword.{Keyword}
 use Rattle.certificate_lines.specs.declared.keyword.Keyword.TheVariants as key

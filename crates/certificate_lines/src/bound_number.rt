@@ -1,5 +1,6 @@
 //! The bound, whose number may have up to 37 digits.
-ghost use Rattle.std.specs.Prelude.{◌≡◌, ℕ, ℤ, ◌<◌, ◌≤◌, ◌^◌, ◌∷◌, ◌↔◌, length, IfSome, IfNone, IsTrue, decimal, unsigned_abs};
+ghost use Rattle.std.specs.Prelude.{◌≡◌, ℕ, ℤ, ◌<◌, ◌≤◌, ◌^◌, ◌∷◌, ◌↔◌, length, IfSome, IfNone, IsTrue, decimal};
+ghost use Rattle.std.specs.Prelude.{unsigned_abs};
 ghost use Rattle.std.specs.Fmt.{signed_decimal};
 ghost use Rattle.std.specs.Str.Parse.{AllDigits, digits_value};
 ghost use Rattle.certificate_lines.specs.Steps.{Reads, IsDigitText};

@@ -32,7 +32,9 @@ fn places_of(alloc: Global, text: &[u8]) -> Result<Option<Vec<u64>>, AllocError>
     ensures found { IfOk result (λ read. IfSome read (λ places. text.now ≡ words places.items)) }
     ensures small { IfOk result (λ read. IfSome read (λ places. All IsNumber places.items)) }
     ensures ascending { IfOk result (λ read. IfSome read (λ places. AllPairs (λ k l. k < l) places.items)) }
-    ensures none { IfOk result (λ read. IfNone read ((places : List ℕ) → All IsNumber places → AllPairs (λ k l. k < l) places → text.now ≡ words places → ⊥)) }
+    ensures none { IfOk result
+        (λ read. IfNone read
+        ((places : List ℕ) → All IsNumber places → AllPairs (λ k l. k < l) places → text.now ≡ words places → ⊥)) }
 {
     let mut places = Vec::new(alloc);
     let mut rest = text;

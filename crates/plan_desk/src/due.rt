@@ -8,7 +8,8 @@ use crate::files::Listed;
 
 /// Counts a call of this kind, and says whether it is to fail.
 pub fn is_listed(made: &mut [u64; 6], listed: &[Listed], call: DeskCall) -> bool
-    ensures due { result ≡ list_any (λ l. (number_of l.call == number_of call) && (l.nth == next_of made.old call)) listed.now }
+    ensures due { result
+        ≡ list_any (λ l. (number_of l.call == number_of call) && (l.nth == next_of made.old call)) listed.now }
     ensures counted { made.new ≡ slice_set made.old (number_of call) (next_of made.old call) }
 {
     let kind = number(call);

@@ -6,7 +6,8 @@ use Rattle.certificate_lines.proofs.NumberLemmas.{digit_text_of, text_of_digits,
 use Rattle.certificate_lines.proofs.bound_number.wide_numeral.Goals as goal
 
 pub returns-then-not-is_digit_text-clause-none : goal.returns-then-not-is_digit_text-clause-none
-returns-then-not-is_digit_text-clause-none c = λ n small e. false≢true (c.if-not-is_digit_text.ensures.1 (subst IsDigitText (sym e) (digit_text_of n small)))
+returns-then-not-is_digit_text-clause-none c =
+    λ n small e. false≢true (c.if-not-is_digit_text.ensures.1 (subst IsDigitText (sym e) (digit_text_of n small)))
 
 pub wide_value-requires-clause-digits : goal.wide_value-requires-clause-digits
 wide_value-requires-clause-digits c =
