@@ -1,18 +1,17 @@
 -- Numbers of up to 37 digits.
 use Rattle.std.proofs.Common.{◌≡◌, ◌≢◌, ⊎_elim, ℕ, zero, suc, ◌+◌, ◌-◌, ◌*◌, ◌/◌, ◌%◌, ◌^◌, ◌<◌, ◌≤◌, List, [], ◌∷◌}
-use Rattle.std.proofs.Common.{◌++◌, length, take, get_or, sym, ◌∙◌, ap, subst, arith, decimal, add-one, ℤ, pos, negsuc}
-use Rattle.std.proofs.Common.{neg_ℤ, unsigned_abs, refl}
+use Rattle.std.proofs.Common.{◌++◌, Option, Some, None, IfSome, IfNone, length, take, get_or, sym, ◌∙◌, ap, subst}
+use Rattle.std.proofs.Common.{arith, decimal, add-one, ℤ, pos, negsuc, neg_ℤ, unsigned_abs, refl, rules}
 use Rattle.std.specs.List.{All}
 use Rattle.std.specs.Fmt.{signed_decimal}
-use Rattle.std.specs.Str.Parse.{AllDigits, digits_value}
+use Rattle.std.specs.Char.{digit_value}
+use Rattle.std.specs.Str.Parse.{AllDigits, IsNumeral, digits_value}
 use Rattle.std.proofs.lemmas.Bool.{cases_lt}
 use Rattle.std.proofs.lemmas.Fmt.{decimal_digit, decimal_step_wide, decimal_by_steps_wide, decimal_is_IsNumeral_wide}
 use Rattle.std.proofs.lemmas.Fmt.{length-decimal-le_wide}
 use Rattle.std.proofs.lemmas.List.{take_more, take_all, length_push, get_or_append_left}
 use Rattle.std.proofs.lemmas.List.Elements.{All-head}
 use Rattle.text_lines.proofs.DigitLemmas.{IsDigit, digit_bytes, digits-each, each-digits, next_value}
-use Rattle.text_lines.proofs.DigitLemmas.{digits_value-small}
-use Rattle.certificate_lines.specs.Steps.{IsDigitText}
 use Rattle.certificate_lines.proofs.WordLemmas.{decimal_digits}
 
 -- a number from 1 on begins with no zero
@@ -35,8 +34,15 @@ first_wide : (n : ℕ) → 0 < n → n < 10 ^ 64 → 48 < get_or (decimal n) 0 0
 unfolding AsFirst
 first_wide n some small = (decimal_by_steps_wide AsFirst first_one first_more n small some).1
 
+-- the text has 1 to 37 digits, the first of them no needless zero
+record IsDigitText (text : List ℕ) : Type 0 where
+  some : 0 < length text
+  few : length text ≤ 37
+  front : 1 < length text → get_or text 0 0 ≢ 48
+  digits : All (λ b. digit_value b < 10) text
+
 -- the text of a number
-pub digit_text_of : (n : ℕ) → n < 10 ^ 37 → IsDigitText (decimal n)
+digit_text_of : (n : ℕ) → n < 10 ^ 37 → IsDigitText (decimal n)
 digit_text_of n small =
     let wide : n < 10 ^ 64 = omega (arith, small) in
     let numeral = (decimal_is_IsNumeral_wide n wide).0 in
@@ -103,7 +109,7 @@ text_grows ds (suc (suc k)) some l few h front =
     (text_grows ds (suc k) (omega arith) (omega (arith, l)) few h front))
 
 -- such digits are the text of their number
-pub text_of_digits : (ds : List ℕ) → IsDigitText ds → ds ≡ decimal (digits_value 10 ds)
+text_of_digits : (ds : List ℕ) → IsDigitText ds → ds ≡ decimal (digits_value 10 ds)
 text_of_digits ds t =
     let h : AllDigits 10 ds = each-digits ds t.digits in
     let whole : (m : ℕ) → length ds ≤ m → decimal (digits_value 10 (take m ds)) ≡ take m ds
@@ -115,8 +121,31 @@ text_of_digits ds t =
     (λ short. whole 1 (omega (arith, short)) (text_one ds t.some t.few h))
     (cases_lt 1 (length ds))
 
-pub value_small : (ds : List ℕ) → IsDigitText ds → digits_value 10 ds < 10 ^ 37
-value_small ds t = digits_value-small 37 ds (each-digits ds t.digits) t.few
+-- a text that begins with a needless zero is that of no number
+pub no_wide_zero_in_front : (bytes : List ℕ) (n : ℕ) → n < 10 ^ 37 → bytes ≡ decimal n → 1 < length bytes →
+    get_or bytes 0 0 ≡ 48 → ⊥
+no_wide_zero_in_front bytes n small e = (subst IsDigitText (sym e) (digit_text_of n small)).front
+
+-- what the digits say, said of the text of a number
+pub wide_found : (bytes : List ℕ) (value : Option ℕ) → (get_or bytes 0 0 ≡ 48 → length bytes ≤ 1) →
+    IfSome value (λ n. digits_value 10 bytes ≡ n) → IfSome value (λ n. IsNumeral 10 bytes) →
+    IfSome value (λ n. length bytes ≤ 37) → IfSome value (λ n. bytes ≡ decimal n)
+wide_found bytes None front e h l = search rules
+wide_found bytes (Some n) front e h l =
+    let text : IsDigitText bytes = record {
+      some = h.0;
+      few = l;
+      front = λ long zero_first. omega (arith, front zero_first, long);
+      digits = digits-each bytes h.1;
+    } in
+    text_of_digits bytes text ∙ ap decimal e
+
+pub wide_none : (bytes : List ℕ) (value : Option ℕ) → IfNone value (IsNumeral 10 bytes → length bytes ≤ 37 → ⊥) →
+    IfNone value ((n : ℕ) → n < 10 ^ 37 → bytes ≡ decimal n → ⊥)
+wide_none bytes None none = λ n small e.
+    let text : IsDigitText bytes = subst IsDigitText (sym e) (digit_text_of n small) in
+    none (text.some, each-digits bytes text.digits) text.few
+wide_none bytes (Some n) none = search rules
 
 -- a number has one text
 pub decimal_once : (n m : ℕ) → n < 10 ^ 37 → m < 10 ^ 37 → decimal n ≡ decimal m → n ≡ m

@@ -1,7 +1,5 @@
 -- What the steps of reading and writing a line say.
-use Rattle.std.specs.Prelude.{◌≡◌, ◌≢◌, ◌<◌, ◌≤◌, ℕ, ⊤, length, slice_index, All, List, [], ◌∷◌, ◌++◌, Option, Some}
-use Rattle.std.specs.Prelude.{None, codes}
-use Rattle.std.specs.Char.{digit_value}
+use Rattle.std.specs.Prelude.{◌≡◌, ℕ, ⊤, List, [], ◌∷◌, ◌++◌, Option, Some, None, codes}
 use Rattle.std.specs.Fmt.{signed_decimal}
 use Rattle.certificate_lines.specs.declared.line.Version.{Version}
 use Rattle.certificate_lines.specs.declared.line.Bound.{Bound}
@@ -100,10 +98,3 @@ pub record Follows (keyword : Keyword) (rest : List ℕ) (line : CertificateLine
 abbrev pub Reads : Keyword → List ℕ → Option CertificateLine → Type 0
 Reads keyword rest (Some line) = Follows keyword rest line
 Reads keyword rest None = (line : CertificateLine) → Follows keyword rest line → ⊥
-
--- the text has 1 to 37 digits, the first of them no needless zero
-pub record IsDigitText (text : List ℕ) : Type 0 where
-  pub some : 0 < length text
-  pub few : length text ≤ 37
-  pub front : 1 < length text → slice_index text 0 ≢ 48
-  pub digits : All (λ b. digit_value b < 10) text

@@ -8,20 +8,20 @@ pub overflow_mul-value : goal.overflow_mul-value
 overflow_mul-value c =
     omega (
       arith,
-      (next_value 19 c.args.digits.now _ _ c.loop-digit-test.true c.requires.few c.requires.digits
+      (next_value 38 c.args.digits.now _ _ c.loop-digit-test.true c.requires.few c.requires.digits
           c.loop-digit.invariant).small,
     )
 
 pub overflow_sub-digit : goal.overflow_sub-digit
 overflow_sub-digit c =
-    (next_value 19 c.args.digits.now _ _ c.loop-digit-test.true c.requires.few c.requires.digits
+    (next_value 38 c.args.digits.now _ _ c.loop-digit-test.true c.requires.few c.requires.digits
     c.loop-digit.invariant).from
 
 pub overflow_add-value : goal.overflow_add-value
 overflow_add-value c =
     omega (
       arith,
-      (next_value 19 c.args.digits.now _ _ c.loop-digit-test.true c.requires.few c.requires.digits
+      (next_value 38 c.args.digits.now _ _ c.loop-digit-test.true c.requires.few c.requires.digits
           c.loop-digit.invariant).small,
     )
 
@@ -29,7 +29,7 @@ pub loop-digit-preserved : goal.loop-digit-preserved
 loop-digit-preserved c =
     omega (
       arith,
-      (next_value 19 c.args.digits.now _ _ c.loop-digit-test.true c.requires.few c.requires.digits
+      (next_value 38 c.args.digits.now _ _ c.loop-digit-test.true c.requires.few c.requires.digits
           c.loop-digit.invariant).is,
     )
 
