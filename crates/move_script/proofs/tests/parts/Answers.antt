@@ -22,10 +22,14 @@ returns-clause-fits c =
       season_names = sym (ap (map string_bytes) seasons) j;
       in_season = sym c.new-7.ensures.items j;
       names = sym c.in_ok-two_names.ensures j;
-      delta = sym (two_pushed (λ v. v.items) _ _ _ _ _ c.new-delta.ensures.items c.in_ok-push.ensures.items c.in_ok-push-2.ensures.items ∙ (λ i. one i ∷ other i ∷ [])) j;
+      delta = sym
+          (two_pushed (λ v. v.items) _ _ _ _ _ c.new-delta.ensures.items c.in_ok-push.ensures.items
+          c.in_ok-push-2.ensures.items ∙ (λ i. one i ∷ other i ∷ [])) j;
       exclusion_names = sym (ap (map string_bytes) exclusions) j;
       excluded = sym c.new-9.ensures.items j;
-      loads = sym (two_pushed (λ v. v.items) _ _ _ _ _ c.new-loads.ensures.items c.in_ok-push-3.ensures.items c.in_ok-push-4.ensures.items ∙ (λ i. c.new.ensures.items i ∷ c.new-2.ensures.items i ∷ [])) j;
+      loads = sym
+          (two_pushed (λ v. v.items) _ _ _ _ _ c.new-loads.ensures.items c.in_ok-push-3.ensures.items
+          c.in_ok-push-4.ensures.items ∙ (λ i. c.new.ensures.items i ∷ c.new-2.ensures.items i ∷ [])) j;
       risks = sym c.new-10.ensures.items j;
       soft = sym c.new-11.ensures.items j;
       rounded = 0;
