@@ -7,7 +7,8 @@ use Rattle.instance_model.specs.Tables.{Tables}
 abbrev pub pair_of : ℕ → ℕ → Exclusion
 pair_of first second = record { first = first; second = second; season = 0 }
 
--- two interventions of one period each over two periods, the first in season; they exclude each other, and the second one itself
+-- two interventions of one period each over two periods, the first in season; they
+-- exclude each other, and the second one itself
 abbrev pub sample : Tables
 sample = record {
   periods = 2;
