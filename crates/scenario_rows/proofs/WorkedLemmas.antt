@@ -1,9 +1,11 @@
 -- The tables of the tests' instance fit.
-use Rattle.std.proofs.Common.{◌≡◌, ◌≢◌, ℕ, zero, suc, ◌<◌, ◌≤◌, ◌^◌, List, [], ◌∷◌, length, ℤ, pos, negsuc, refl, ap, subst, arith, codes, slice_index_or, unsigned_abs, lit<, lit≤, IsTrue}
+use Rattle.std.proofs.Common.{◌≡◌, ◌≢◌, ℕ, zero, suc, ◌<◌, ◌≤◌, ◌^◌, List, [], ◌∷◌, length, ℤ, pos, negsuc, refl, ap}
+use Rattle.std.proofs.Common.{subst, arith, codes, slice_index_or, unsigned_abs, lit<, lit≤, IsTrue}
 use Rattle.std.specs.List.{All, AllByRecursion}
 use Rattle.std.proofs.lemmas.List.Elements.{All-nil, All-cons, All-from_recursion}
 use Rattle.instance_model.specs.Naturals.{count_sum}
-use Rattle.instance_model.specs.Tables.{Tables, is_allowed, allowed_of, durations, tmax, delta_of, entries_at, entries_of, all_entries, scenarios_before, periods_before}
+use Rattle.instance_model.specs.Tables.{Tables, is_allowed, allowed_of, durations, tmax, delta_of, entries_at}
+use Rattle.instance_model.specs.Tables.{entries_of, all_entries, scenarios_before, periods_before}
 use Rattle.instance_model.specs.Fitting.{IsFitting, AreCells}
 use Rattle.instance_model.specs.Plans.{AreAllowedStarts}
 use Rattle.instance_model.proofs.SmallTables.{two_letters, apart_at, no_names, two_names, no_cells}
@@ -28,11 +30,14 @@ SmallRisk z = unsigned_abs z < 10 ^ 20
 
 short_rows : All (λ (ds : List ℕ). All Short ds) worked.delta
 short_rows =
-    All-cons (λ (ds : List ℕ). All Short ds) (1 ∷ 1 ∷ []) ((2 ∷ []) ∷ []) (All-cons Short 1 (1 ∷ []) (lit< tt) (All-cons Short 1 [] (lit< tt) (All-nil Short)))
-    (All-cons (λ (ds : List ℕ). All Short ds) (2 ∷ []) [] (All-cons Short 2 [] (lit< tt) (All-nil Short)) (All-nil (λ (ds : List ℕ). All Short ds)))
+    All-cons (λ (ds : List ℕ). All Short ds) (1 ∷ 1 ∷ []) ((2 ∷ []) ∷ [])
+    (All-cons Short 1 (1 ∷ []) (lit< tt) (All-cons Short 1 [] (lit< tt) (All-nil Short)))
+    (All-cons (λ (ds : List ℕ). All Short ds) (2 ∷ []) [] (All-cons Short 2 [] (lit< tt) (All-nil Short))
+    (All-nil (λ (ds : List ℕ). All Short ds)))
 
 pub worked-fits : IsFitting worked
-unfolding count_sum all_entries entries_of entries_at is_allowed allowed_of durations tmax delta_of scenarios_before periods_before
+unfolding count_sum all_entries entries_of entries_at is_allowed allowed_of durations tmax delta_of
+    scenarios_before periods_before
 worked-fits = record {
   some_periods = lit≤ tt;
   few_periods = lit≤ tt;
@@ -48,9 +53,13 @@ worked-fits = record {
   lower_small = λ k d l. absurd (omega (arith, l));
   seasons = no_names 64;
   season_each = refl;
-  names = two_names 1024 (codes "I1") (codes "I2") (lit≤ tt) (two_letters 73 49 (omega arith) (omega arith) (omega arith) (omega arith)) (two_letters 73 50 (omega arith) (omega arith) (omega arith) (omega arith)) (apart_at 1 (codes "I1") (codes "I2") (omega arith));
+  names = two_names 1024 (codes "I1") (codes "I2") (lit≤ tt)
+      (two_letters 73 49 (omega arith) (omega arith) (omega arith) (omega arith))
+      (two_letters 73 50 (omega arith) (omega arith) (omega arith) (omega arith))
+      (apart_at 1 (codes "I1") (codes "I2") (omega arith));
   delta_each = refl;
-  delta_some = All-cons SomeStarts (1 ∷ 1 ∷ []) ((2 ∷ []) ∷ []) (lit≤ tt, lit≤ tt) (All-cons SomeStarts (2 ∷ []) [] (lit≤ tt, lit≤ tt) (All-nil SomeStarts));
+  delta_some = All-cons SomeStarts (1 ∷ 1 ∷ []) ((2 ∷ []) ∷ []) (lit≤ tt, lit≤ tt)
+      (All-cons SomeStarts (2 ∷ []) [] (lit≤ tt, lit≤ tt) (All-nil SomeStarts));
   delta_small = short_rows;
   exclusions = no_names 65_536;
   excluded_each = refl;
@@ -60,7 +69,8 @@ worked-fits = record {
   loads_few = lit≤ tt;
   risks_each = refl;
   risks_few = lit≤ tt;
-  risks_small = All-from_recursion SmallRisk worked.risks (lit< tt, (lit< tt, (lit< tt, (lit< tt, (lit< tt, (lit< tt, (lit< tt, (lit< tt, (lit< tt, (lit< tt, tt))))))))));
+  risks_small = All-from_recursion SmallRisk worked.risks
+      (lit< tt, (lit< tt, (lit< tt, (lit< tt, (lit< tt, (lit< tt, (lit< tt, (lit< tt, (lit< tt, (lit< tt, tt))))))))));
   soft_each = refl;
 }
 

@@ -2,7 +2,8 @@
 use Rattle.std.specs.Prelude.{pos, negsuc, false, [], ◌∷◌, codes}
 use Rattle.instance_model.specs.Tables.{Tables}
 
--- the first runs for one period, from period 1 or 2, the second for both; three scenarios in period 1, and two in period 2
+-- the first runs for one period, from period 1 or 2, the second for both; three
+-- scenarios in period 1, and two in period 2
 abbrev pub worked : Tables
 worked =
     record {

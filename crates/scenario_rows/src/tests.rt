@@ -14,7 +14,8 @@ use std::process::Abort;
 use std::sync::ledger::{Blank, Ledger};
 use std::test::Fail;
 
-/// The risks in counts: of the first at start 1 in period 1, at start 2 in period 2, then of the second in periods 1 and 2.
+/// The risks in counts: of the first at start 1 in period 1, at start 2 in period
+/// 2, then of the second in periods 1 and 2.
 const RISKS: [i64; 10] = [-1, -1, -2, -3, 5, 1, 1, -5, 2, -2];
 
 fn fixed(count: i64) -> Fixed

@@ -8,7 +8,9 @@ pub make-requires : goal.make-requires
 make-requires g c = subst (λ (t : Tables). AreAllowedStarts t (1 ∷ 1 ∷ [])) (sym c.in_ok-inst.ensures) first_starts
 
 pub add_run-requires-clause-allowed : goal.add_run-requires-clause-allowed
-add_run-requires-clause-allowed g c = subst (λ (t : Tables). IsTrue (is_allowed t 0 2)) (sym c.in_ok-inst.ensures) first_in_two
+add_run-requires-clause-allowed g c =
+    subst (λ (t : Tables). IsTrue (is_allowed t 0 2)) (sym c.in_ok-inst.ensures) first_in_two
 
 pub add_run-requires-2-clause-allowed : goal.add_run-requires-2-clause-allowed
-add_run-requires-2-clause-allowed g c = subst (λ (t : Tables). IsTrue (is_allowed t 0 1)) (sym c.in_ok-inst.ensures) first_in_one
+add_run-requires-2-clause-allowed g c =
+    subst (λ (t : Tables). IsTrue (is_allowed t 0 1)) (sym c.in_ok-inst.ensures) first_in_one
