@@ -1,11 +1,13 @@
 -- The instance of the tests fits.
-use Rattle.std.proofs.Common.{ℕ, zero, suc, ◌*◌, ◌^◌, ◌<◌, ◌≤◌, ℤ, pos, List, [], ◌∷◌, length, refl, arith, get_or, unsigned_abs, IsTrue, inl, lit<, lit≤}
+use Rattle.std.proofs.Common.{ℕ, zero, suc, ◌*◌, ◌^◌, ◌<◌, ◌≤◌, ℤ, pos, List, [], ◌∷◌, length, refl, arith, get_or}
+use Rattle.std.proofs.Common.{unsigned_abs, IsTrue, inl, lit<, lit≤}
 use Rattle.std.specs.List.{All}
 use Rattle.std.proofs.lemmas.List.Elements.{All-nil, All-cons, All-from_recursion}
 use Rattle.instance_model.specs.declared.parts.LoadCell.{LoadCell}
 use Rattle.instance_model.specs.declared.parts.Exclusion.{Exclusion}
 use Rattle.instance_model.specs.Naturals.{count_sum}
-use Rattle.instance_model.specs.Tables.{is_allowed, in_run, allowed_of, durations, tmax, delta_of, entries_at, entries_of, all_entries, scenarios_before, periods_before}
+use Rattle.instance_model.specs.Tables.{is_allowed, in_run, allowed_of, durations, tmax, delta_of, entries_at}
+use Rattle.instance_model.specs.Tables.{entries_of, all_entries, scenarios_before, periods_before}
 use Rattle.instance_model.specs.Fitting.{IsFitting, AreCells, CellBefore}
 use Rattle.instance_model.specs.Plans.{AreAllowedStarts}
 use Rattle.instance_model.proofs.SmallTables.{one, two, two_pairs, letter, apart_at, one_name, two_names}
@@ -51,7 +53,8 @@ abbrev SmallLimit : ℤ → Type 0
 SmallLimit z = unsigned_abs z < 2 * 10 ^ 20
 
 pub sample-fits : IsFitting sample
-unfolding count_sum all_entries entries_of entries_at is_allowed allowed_of durations tmax delta_of scenarios_before periods_before
+unfolding count_sum all_entries entries_of entries_at is_allowed allowed_of durations tmax delta_of
+    scenarios_before periods_before
 sample-fits = record {
   some_periods = lit≤ tt;
   few_periods = lit≤ tt;
@@ -67,19 +70,28 @@ sample-fits = record {
   lower_small = All-from_recursion SmallLimit sample.lower (lit< tt, (lit< tt, (lit< tt, tt)));
   seasons = one_name 64 (83 ∷ []) (omega arith) (letter 83 (omega arith) (omega arith));
   season_each = refl;
-  names = two_names 1024 (65 ∷ []) (66 ∷ []) (omega arith) (letter 65 (omega arith) (omega arith)) (letter 66 (omega arith) (omega arith)) (apart_at 0 (65 ∷ []) (66 ∷ []) (omega arith));
+  names = two_names 1024 (65 ∷ []) (66 ∷ []) (omega arith) (letter 65 (omega arith) (omega arith))
+      (letter 66 (omega arith) (omega arith)) (apart_at 0 (65 ∷ []) (66 ∷ []) (omega arith));
   delta_each = refl;
   delta_some = two SomeStarts (2 ∷ 2 ∷ []) (2 ∷ 2 ∷ []) (lit≤ tt, lit≤ tt) (lit≤ tt, lit≤ tt);
-  delta_small = two (λ (ds : List ℕ). All Short ds) (2 ∷ 2 ∷ []) (2 ∷ 2 ∷ []) (two Short 2 2 (lit< tt) (lit< tt)) (two Short 2 2 (lit< tt) (lit< tt));
+  delta_small = two (λ (ds : List ℕ). All Short ds) (2 ∷ 2 ∷ []) (2 ∷ 2 ∷ []) (two Short 2 2 (lit< tt) (lit< tt))
+      (two Short 2 2 (lit< tt) (lit< tt));
   exclusions = one_name 65_536 (69 ∷ []) (omega arith) (letter 69 (omega arith) (omega arith));
   excluded_each = refl;
-  excluded = one (λ (e : Exclusion). (e.first < 2) × (e.second < 2) × (e.season < 1)) each_other (omega arith, omega arith, omega arith);
+  excluded = one (λ (e : Exclusion). (e.first < 2) × (e.second < 2) × (e.season < 1)) each_other
+      (omega arith, omega arith, omega arith);
   loads_each = refl;
   cells = cells_fit;
   loads_few = lit≤ tt;
   risks_each = refl;
   risks_few = lit≤ tt;
-  risks_small = All-from_recursion SmallRisk sample.risks (lit< tt, (lit< tt, (lit< tt, (lit< tt, (lit< tt, (lit< tt, (lit< tt, (lit< tt, (lit< tt, (lit< tt, (lit< tt, (lit< tt, tt))))))))))));
+  risks_small = All-from_recursion SmallRisk sample.risks (
+    lit< tt,
+    (
+      lit< tt,
+      (lit< tt, (lit< tt, (lit< tt, (lit< tt, (lit< tt, (lit< tt, (lit< tt, (lit< tt, (lit< tt, (lit< tt, tt)))))))))),
+    ),
+  );
   soft_each = refl;
 }
 
