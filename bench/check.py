@@ -1,16 +1,17 @@
 #!/usr/bin/env python3
-"""Times `check` on drawn certificates, and compares its verdicts with a plain computation of every leaf on a box made afresh.
+"""Times `check` on drawn certificates, and compares its verdicts with a plain computation of every leaf.
 
     bench/check.py [--splits "1000 10000 100000"] [--rounds 5] [--seed 1] [--program PATH]
     bench/check.py --compare [--certificates 200] [--seed 1] [--program PATH]
 
-The first form draws an instance of 100 interventions over 100 periods, and certificates whose trees split deeply: a split takes one start
-off, and mostly the right part alone is split again. A row has the leaves a second (the processor time of a check less that of one without a split), the
-seconds of the whole check and its peak memory. Each is a median over the rounds.
+The first form draws an instance of 100 interventions over 100 periods, and certificates whose trees split deeply: a
+split takes one start off, and mostly the right part alone is split again. A row has the leaves a second (the processor
+time of a check less that of one without a split), the seconds of the whole check and its peak memory. Each is a median
+over the rounds.
 
-The second form draws small instances with bands on both sides, seasons, exclusions and risks below 0, and certificates with price lists of all four
-kinds of entries. Every leaf is tried by the definitions, in whole numbers; a certificate has the greatest bound that its leaves bear, one more than
-that, or a leaf of another kind somewhere.
+The second form draws small instances with bands on both sides, seasons, exclusions and risks below 0, and certificates
+with price lists of all four kinds of entries. Every leaf is tried by the definitions, in whole numbers; a certificate
+has the greatest bound that its leaves bear, one more than that, or a leaf of another kind somewhere.
 """
 import argparse
 import os
@@ -88,7 +89,8 @@ class Bounds(Plain):
         total = sum(min(self.price(prices, i, s) for s in self.allowed(box, i)) for i in range(self.inst.interventions))
         for c in range(2):
             for t in range(1, self.inst.periods + 1):
-                total += prices.lo.get((c, t), 0) * self.lower[c][t - 1] - prices.up.get((c, t), 0) * self.upper[c][t - 1]
+                total += prices.lo.get((c, t), 0) * self.lower[c][t - 1]
+                total -= prices.up.get((c, t), 0) * self.upper[c][t - 1]
         return total - COUNTS * sum(prices.ex.values())
 
     def load(self, c, t, i, s):
@@ -101,9 +103,13 @@ class Bounds(Plain):
         return self.score(starts)
 
     def most(self, lists, box, leaf):
-        """The greatest bound under which a leaf holds on a box: none where it never holds, and `all` where it holds whatever the bound is."""
+        """The greatest bound under which a leaf holds on a box.
+
+        None where it never holds, and `all` where it holds whatever the bound is.
+        """
         kind, *numbers = leaf
-        sums = lambda pick, c, t: sum(pick(self.load(c, t, i, s) for s in self.allowed(box, i)) for i in range(self.inst.interventions))
+        every = range(self.inst.interventions)
+        sums = lambda pick, c, t: sum(pick(self.load(c, t, i, s) for s in self.allowed(box, i)) for i in every)
         if kind == "cost":
             return self.worth(lists[numbers[0]], box) if self.has_starts(box) else None
         if kind == "point":
@@ -119,7 +125,8 @@ class Bounds(Plain):
             return "all" if self.has_starts(box) and sums(max, c, t) < self.lower[c][t - 1] else None
         if kind == "excl":
             i, j, q = self.inst.exclusions[numbers[0]]
-            meets = lambda s, r: any(t in self.inst.run(i, s) and t in self.inst.run(j, r) for t in self.inst.seasons[q])
+            season = self.inst.seasons[q]
+            meets = lambda s, r: any(t in self.inst.run(i, s) and t in self.inst.run(j, r) for t in season)
             return "all" if all(meets(s, r) for s in self.allowed(box, i) for r in self.allowed(box, j)) else None
         return None if self.allowed(box, numbers[0]) else "all"
 
@@ -135,7 +142,8 @@ def line_of(leaf):
 
 def any_leaf(source, inst, lists):
     c, t = source.randrange(2), source.randint(1, inst.periods)
-    leaves = [("cost", source.randrange(len(lists))), ("point",), ("over", c, t), ("under", c, t), ("empty", source.randrange(inst.interventions))]
+    leaves = [("cost", source.randrange(len(lists))), ("point",), ("over", c, t), ("under", c, t)]
+    leaves.append(("empty", source.randrange(inst.interventions)))
     if inst.exclusions:
         leaves.append(("excl", source.randrange(len(inst.exclusions))))
     return source.choice(leaves)
@@ -144,7 +152,8 @@ def any_leaf(source, inst, lists):
 def holding_leaf(source, plain, lists, box):
     """A leaf that holds on the box under some bound."""
     inst = plain.inst
-    choices = [("point",)] + [("cost", j) for j in range(len(lists))] + [("empty", i) for i in range(inst.interventions)]
+    choices = [("point",)] + [("cost", j) for j in range(len(lists))]
+    choices += [("empty", i) for i in range(inst.interventions)]
     choices += [(kind, c, t) for kind in ("over", "under") for c in range(2) for t in range(1, inst.periods + 1)]
     choices += [("excl", e) for e in range(len(inst.exclusions))]
     source.shuffle(choices)
@@ -222,11 +231,15 @@ def compare(program, certificates, seed, folder):
             sys.exit(f"certificate {round_}: said {said!r} for {expected!r}; files in {folder}")
         kind = expected.split()[0]
         seen[kind] = seen.get(kind, 0) + 1
-    print(f"{certificates} verdicts as computed by the definitions: {seen['accepted']} accepted, {seen['refused']} refused at the same leaf")
+    counts = f"{seen['accepted']} accepted, {seen['refused']} refused at the same leaf"
+    print(f"{certificates} verdicts as computed by the definitions: {counts}")
 
 
 def draw_deep(source, inst, splits):
-    """The lines of a tree of so many splits over the box of all starts: a split takes one start off, and mostly its right part alone is split again."""
+    """The lines of a tree of so many splits over the box of all starts.
+
+    A split takes one start off, and mostly its right part alone is split again.
+    """
     lines, waiting = [], [([(1, inst.periods)] * inst.interventions, splits)]
     while waiting:
         box, budget = waiting.pop()
@@ -271,7 +284,9 @@ def measure(program, sizes, rounds, seed, folder):
         splits = sum(line.startswith("split") for line in trees[size])
         seconds = statistics.median(a - b for a, b in zip(spent[size], spent[0]))
         memory = statistics.median(peak[size])
-        print(f"| {splits} | {splits / seconds:.0f} | {statistics.median(spent[size]):.3f} | {memory:.1f} | {memory - statistics.median(peak[0]):.1f} |")
+        whole = statistics.median(spent[size])
+        more = memory - statistics.median(peak[0])
+        print(f"| {splits} | {splits / seconds:.0f} | {whole:.3f} | {memory:.1f} | {more:.1f} |")
 
 
 def main():

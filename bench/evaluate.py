@@ -1,16 +1,18 @@
 #!/usr/bin/env python3
 """Times `evaluate` on drawn instances beside other readers of the same file, in one run.
 
-    bench/evaluate.py [--sizes "60 400"] [--rounds 5] [--seed 1] [--program PATH] [--beside "NAME=COMMAND"].. [--keep FOLDER]
+    bench/evaluate.py [--sizes "60 400"] [--rounds 5] [--seed 1] [--program PATH] [--beside "NAME=COMMAND"]..
+                      [--keep FOLDER]
 
-For each size in megabytes (10^6 bytes) it draws an instance with two resources, two seasons, exclusions and risks of up to four
-decimals, and a plan that keeps its rules, and prints a row for `evaluate` and one for each program beside it: the median seconds with
-the start of the process, megabytes a second, the peak memory, and both over those of `evaluate`, so that above 1 `evaluate` is the
-better one. Then come the growth from the least size to the greatest and the bytes of memory a risk number.
+For each size in megabytes (10^6 bytes) it draws an instance with two resources, two seasons, exclusions and risks of up
+to four decimals, and a plan that keeps its rules, and prints a row for `evaluate` and one for each program beside it:
+the median seconds with the start of the process, megabytes a second, the peak memory, and both over those of
+`evaluate`, so that above 1 `evaluate` is the better one. Then come the growth from the least size to the greatest and
+the bytes of memory a risk number.
 
-Beside it is always Python's `json.load`. COMMAND is run with the instance and the plan as its last two words. In each round every program
-runs once, and a first round isn't counted: it warms the page cache. Without --program it is `planner` at the top of the repository,
-built first. With --keep the drawn files stay in FOLDER and are used again.
+Beside it is always Python's `json.load`. COMMAND is run with the instance and the plan as its last two words. In each
+round every program runs once, and a first round isn't counted: it warms the page cache. Without --program it is
+`planner` at the top of the repository, built first. With --keep the drawn files stay in FOLDER and are used again.
 """
 import argparse
 import os
@@ -124,7 +126,8 @@ def print_table(size, numbers, results):
     print("| program | seconds | MB/s | peak MB | seconds over evaluate | peak over evaluate |")
     print("|---|--:|--:|--:|--:|--:|")
     for name, (seconds, peak) in results.items():
-        print(f"| {name} | {seconds:.3f} | {size / 1e6 / seconds:.0f} | {peak / 1e6:.1f} | {seconds / ours[0]:.2f} | {peak / ours[1]:.2f} |")
+        own = f"{seconds:.3f} | {size / 1e6 / seconds:.0f} | {peak / 1e6:.1f}"
+        print(f"| {name} | {own} | {seconds / ours[0]:.2f} | {peak / ours[1]:.2f} |")
 
 
 def main():

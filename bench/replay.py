@@ -1,17 +1,17 @@
 #!/usr/bin/env python3
-"""Times the moves of `replay` on a drawn instance, and compares every key that it says with a plain computation from scratch.
+"""Times the moves of `replay` on a drawn instance, and compares every key that it says with one from scratch.
 
     bench/replay.py [--scenarios "100 200 1000"] [--moves 20000] [--rounds 9] [--seed 1] [--program PATH] [--flat PATH]
     bench/replay.py --compare [--moves 5000] [--seed 1] [--program PATH]
 
-The first form draws instances of 100 interventions over 100 periods with two resources, seasons and exclusions, one for each number of
-scenarios a period, and a script of random moves. A row has the microseconds of a move (the processor time of the whole script less that of an
-empty one, by its lines) and of a key from scratch (the time of `evaluate` less that of `evaluate` with a plan whose text is refused), and their
-ratio. Each is a median over the rounds.
-With --flat, another built program, such as one whose `run` keeps its plans over `FlatRow`, is timed beside it.
+The first form draws instances of 100 interventions over 100 periods with two resources, seasons and exclusions, one for
+each number of scenarios a period, and a script of random moves. A row has the microseconds of a move (the processor
+time of the whole script less that of an empty one, by its lines) and of a key from scratch (the time of `evaluate` less
+that of `evaluate` with a plan whose text is refused), and their ratio. Each is a median over the rounds. With --flat,
+another built program, such as one whose `run` keeps its plans over `FlatRow`, is timed beside it.
 
-The second form draws a smaller instance with bands on both sides, seasons, exclusions and risks below 0, and a script of random moves, exchanges and
-undos, and computes each key anew in whole numbers.
+The second form draws a smaller instance with bands on both sides, seasons, exclusions and risks below 0, and a script
+of random moves, exchanges and undos, and computes each key anew in whole numbers.
 """
 import argparse
 import os
@@ -94,7 +94,8 @@ def measure(programs, scenarios, moves, rounds, seed, folder):
             spent["bad"].append(run([program, "evaluate", path["instance"], path["bad"]])[0])
         move = statistics.median(a - b for a, b in zip(spent["script"], spent["none"])) / moves
         scratch = statistics.median(a - b for a, b in zip(spent["judged"], spent["bad"]))
-        print(f"| {scenarios} | {name} | {1 / move:.0f} | {move * 1e6:.1f} | {scratch * 1e6:.0f} | {scratch / move:.1f} |")
+        times = f"{1 / move:.0f} | {move * 1e6:.1f} | {scratch * 1e6:.0f} | {scratch / move:.1f}"
+        print(f"| {scenarios} | {name} | {times} |")
 
 
 def main():
@@ -115,7 +116,8 @@ def main():
         programs = {"balanced rows": words.program}
         if words.flat:
             programs["flat rows"] = words.flat
-        print("| scenarios a period | rows | moves a second | µs a move | µs a key from scratch | from scratch over a move |")
+        times = "moves a second | µs a move | µs a key from scratch | from scratch over a move"
+        print(f"| scenarios a period | rows | {times} |")
         print("|--:|---|--:|--:|--:|--:|")
         for scenarios in map(int, words.scenarios.split()):
             measure(programs, scenarios, words.moves or 20_000, words.rounds, words.seed, folder)

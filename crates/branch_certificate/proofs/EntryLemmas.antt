@@ -1,5 +1,6 @@
 -- The entries of a price list, one after another.
-use Rattle.std.proofs.Common.{◌≡◌, Bool, true, false, ℕ, ◌+◌, ◌-◌, ◌≤◌, refl, sym, ◌∙◌, ap, subst, arith, List, [], ◌∷◌, Option, Some, IsTrue}
+use Rattle.std.proofs.Common.{◌≡◌, Bool, true, false, ℕ, ◌+◌, ◌-◌, ◌≤◌, refl, sym, ◌∙◌, ap, subst, arith, List, [], ◌∷◌}
+use Rattle.std.proofs.Common.{Option, Some, IsTrue}
 use Rattle.std.specs.Bool.{OnTrue, OnFalse}
 use Rattle.std.proofs.lemmas.Bool.{false≢true}
 use Rattle.instance_model.specs.Tables.{Tables}
@@ -11,13 +12,15 @@ use Rattle.certificate_lines.specs.declared.line.CertificateLine.{CertificateLin
 use Rattle.certificate_lines.specs.declared.line.CertificateLine.TheVariants as line
 use Rattle.branch_tree.specs.Ranges.{HasPricesOf}
 use Rattle.certificate_text.specs.Text.{entry_lines}
-use Rattle.certificate_text.specs.Grammar.{Place, lists, EntryKey, KeyBelow, Stands, Fits, after, before_entries, up_key, lo_key, tail_key, ex_key}
+use Rattle.certificate_text.specs.Grammar.{Place, lists, EntryKey, KeyBelow, Stands, Fits, after, before_entries}
+use Rattle.certificate_text.specs.Grammar.{up_key, lo_key, tail_key, ex_key}
 use Rattle.certificate_text.specs.Entries.{IsUpTo}
 use Rattle.certificate_text.specs.Laws.{Grows}
 use Rattle.certificate_text.proofs.GrowLemmas.{up_grows, lo_grows, tail_grows, ex_grows, zero_has_none, zero_up_to}
 use Rattle.branch_certificate.specs.declared.fault.CertFault.{CertFault}
 use Rattle.branch_certificate.specs.Lines.{Left}
-use Rattle.branch_certificate.specs.Reading.{Passes, Fails, IsMark, IsEntry, EntryFits, SetsEntry, ReadsEntry, ReadsEntries}
+use Rattle.branch_certificate.specs.Reading.{Passes, Fails, IsMark, IsEntry, EntryFits, SetsEntry, ReadsEntry}
+use Rattle.branch_certificate.specs.Reading.{ReadsEntries}
 use Rattle.branch_certificate.proofs.StepLemmas.{passes_none, passes_more, passes_line, fails_behind}
 
 pub told_false : (b : Bool) (P : Type 0) → b ≡ false → OnFalse b P → P
@@ -36,7 +39,8 @@ unfolding zero_list
 zero_ex inst = refl
 
 -- an entry above the last one stands where it is
-pub stands_entry : (version : Version) (count left : ℕ) (last key : EntryKey) (line : CertificateLine) → IsEntry version line key → KeyBelow last key → Stands (lists version count left (Some last)) line
+pub stands_entry : (version : Version) (count left : ℕ) (last key : EntryKey) (line : CertificateLine)
+    → IsEntry version line key → KeyBelow last key → Stands (lists version count left (Some last)) line
 stands_entry v n l last key (line.Title version) f b = absurd f
 stands_entry v n l last key (line.Bound least) f b = absurd f
 stands_entry v n l last key (line.Lists count) f b = absurd f
@@ -54,7 +58,9 @@ stands_entry v n l last key (line.Excl e) f b = absurd f
 stands_entry v n l last key (line.Empty i) f b = absurd f
 
 -- the place behind an entry
-pub after_entry : (inst : Tables) (version : Version) (count left : ℕ) (last key : EntryKey) (line : CertificateLine) → IsEntry version line key → after inst (lists version count left (Some last)) line ≡ lists version count left (Some key)
+pub after_entry : (inst : Tables) (version : Version) (count left : ℕ) (last key : EntryKey) (line : CertificateLine)
+    → IsEntry version line key → after inst (lists version count left (Some last)) line
+    ≡ lists version count left (Some key)
 after_entry inst v n l last key (line.Title version) f = absurd f
 after_entry inst v n l last key (line.Bound least) f = absurd f
 after_entry inst v n l last key (line.Lists count) f = absurd f
@@ -72,7 +78,8 @@ after_entry inst v n l last key (line.Excl e) f = absurd f
 after_entry inst v n l last key (line.Empty i) f = absurd f
 
 -- the ranges of an entry
-pub fits_entry : (inst : Tables) (version : Version) (count left : ℕ) (last : Option EntryKey) (line : CertificateLine) → EntryFits inst line → Fits inst (lists version count left last) line
+pub fits_entry : (inst : Tables) (version : Version) (count left : ℕ) (last : Option EntryKey) (line : CertificateLine)
+    → EntryFits inst line → Fits inst (lists version count left last) line
 fits_entry inst v n l last (line.Title version) f = absurd f
 fits_entry inst v n l last (line.Bound least) f = absurd f
 fits_entry inst v n l last (line.Lists count) f = absurd f
@@ -89,7 +96,9 @@ fits_entry inst v n l last (line.Band c t side) f = absurd f
 fits_entry inst v n l last (line.Excl e) f = absurd f
 fits_entry inst v n l last (line.Empty i) f = absurd f
 
-pub fits_back : (inst : Tables) (version : Version) (count left : ℕ) (last : Option EntryKey) (key : EntryKey) (line : CertificateLine) → IsEntry version line key → Fits inst (lists version count left last) line → EntryFits inst line
+pub fits_back : (inst : Tables) (version : Version) (count left : ℕ) (last : Option EntryKey) (key : EntryKey)
+    (line : CertificateLine) → IsEntry version line key
+    → Fits inst (lists version count left last) line → EntryFits inst line
 fits_back inst v n l last key (line.Title version) f g = absurd f
 fits_back inst v n l last key (line.Bound least) f g = absurd f
 fits_back inst v n l last key (line.Lists count) f g = absurd f
@@ -107,7 +116,8 @@ fits_back inst v n l last key (line.Excl e) f g = absurd f
 fits_back inst v n l last key (line.Empty i) f g = absurd f
 
 -- what neither is an entry nor begins a list or the tree doesn't stand among entries
-pub no_entry : (version : Version) (count left : ℕ) (last : EntryKey) (line : CertificateLine) → (IsMark line → ⊥) → ((key : EntryKey) → IsEntry version line key → ⊥) → Stands (lists version count left (Some last)) line → ⊥
+pub no_entry : (version : Version) (count left : ℕ) (last : EntryKey) (line : CertificateLine) → (IsMark line → ⊥)
+    → ((key : EntryKey) → IsEntry version line key → ⊥) → Stands (lists version count left (Some last)) line → ⊥
 no_entry v n l last (line.Title version) unmarked none s = s
 no_entry v n l last (line.Bound least) unmarked none s = s
 no_entry v n l last (line.Lists count) unmarked none s = s
@@ -125,7 +135,8 @@ no_entry v n l last (line.Excl e) unmarked none s = s
 no_entry v n l last (line.Empty i) unmarked none s = s
 
 -- nor does an entry that isn't above the last one
-pub low_entry : (version : Version) (count left : ℕ) (last key : EntryKey) (line : CertificateLine) → IsEntry version line key → (KeyBelow last key → ⊥) → Stands (lists version count left (Some last)) line → ⊥
+pub low_entry : (version : Version) (count left : ℕ) (last key : EntryKey) (line : CertificateLine)
+    → IsEntry version line key → (KeyBelow last key → ⊥) → Stands (lists version count left (Some last)) line → ⊥
 low_entry v n l last key (line.Title version) f low s = absurd f
 low_entry v n l last key (line.Bound least) f low s = absurd f
 low_entry v n l last key (line.Lists count) f low s = absurd f
@@ -146,32 +157,42 @@ back_one : (c : ℕ) → 1 ≤ c → c - 1 + 1 ≡ c
 back_one c h = omega (arith, h)
 
 -- an entry that is set is one line more
-pub set_grows : (inst : Tables) (old new : PriceList) (version : Version) (last key : EntryKey) (line : CertificateLine) → IsPriceList inst old → IsPriceList inst new → IsUpTo inst old last → IsEntry version line key → KeyBelow last key → EntryFits inst line → SetsEntry inst old new line → Grows inst old new line key
+pub set_grows : (inst : Tables) (old new : PriceList) (version : Version) (last key : EntryKey) (line : CertificateLine)
+    → IsPriceList inst old → IsPriceList inst new → IsUpTo inst old last → IsEntry version line key → KeyBelow last key
+    → EntryFits inst line → SetsEntry inst old new line → Grows inst old new line key
 set_grows inst old new v last key (line.Title version) p q up f b fits sets = absurd f
 set_grows inst old new v last key (line.Bound least) p q up f b fits sets = absurd f
 set_grows inst old new v last key (line.Lists count) p q up f b fits sets = absurd f
 set_grows inst old new v last key line.Prices p q up f b fits sets = absurd f
 set_grows inst old new v last key (line.Up c t w) p q up f b fits sets =
     let e = back_one c fits.some_resource in
-    let place : IsBandPlace inst (c - 1) t = record { resource = omega (arith, fits.some_resource, fits.resource); from = fits.from; to = fits.to } in
+    let place : IsBandPlace inst (c - 1) t =
+    record { resource = omega (arith, fits.some_resource, fits.resource); from = fits.from; to = fits.to } in
     let above = subst (λ (k : EntryKey). KeyBelow last k) (f ∙ ap (λ (d : ℕ). up_key d t) (sym e)) b in
     let g = up_grows inst old last (c - 1) t w p up place fits.some above in
-    subst (λ (k : EntryKey). Grows inst old new (line.Up c t w) k) (sym f) (subst (λ (x : PriceList). Grows inst old x (line.Up c t w) (up_key c t)) (sym sets) (subst (λ (d : ℕ). Grows inst old (with_up inst old (c - 1) t w) (line.Up d t w) (up_key d t)) e g))
+    subst (λ (k : EntryKey). Grows inst old new (line.Up c t w) k) (sym f)
+    (subst (λ (x : PriceList). Grows inst old x (line.Up c t w) (up_key c t)) (sym sets)
+    (subst (λ (d : ℕ). Grows inst old (with_up inst old (c - 1) t w) (line.Up d t w) (up_key d t)) e g))
 set_grows inst old new v last key (line.Lo c t w) p q up f b fits sets =
     let e = back_one c fits.some_resource in
-    let place : IsBandPlace inst (c - 1) t = record { resource = omega (arith, fits.some_resource, fits.resource); from = fits.from; to = fits.to } in
+    let place : IsBandPlace inst (c - 1) t =
+    record { resource = omega (arith, fits.some_resource, fits.resource); from = fits.from; to = fits.to } in
     let above = subst (λ (k : EntryKey). KeyBelow last k) (f ∙ ap (λ (d : ℕ). lo_key d t) (sym e)) b in
     let g = lo_grows inst old last (c - 1) t w p up place fits.some above in
-    subst (λ (k : EntryKey). Grows inst old new (line.Lo c t w) k) (sym f) (subst (λ (x : PriceList). Grows inst old x (line.Lo c t w) (lo_key c t)) (sym sets) (subst (λ (d : ℕ). Grows inst old (with_lo inst old (c - 1) t w) (line.Lo d t w) (lo_key d t)) e g))
+    subst (λ (k : EntryKey). Grows inst old new (line.Lo c t w) k) (sym f)
+    (subst (λ (x : PriceList). Grows inst old x (line.Lo c t w) (lo_key c t)) (sym sets)
+    (subst (λ (d : ℕ). Grows inst old (with_lo inst old (c - 1) t w) (line.Lo d t w) (lo_key d t)) e g))
 set_grows inst old new v last key (line.Tail t weight places) p q up f b fits sets =
     let above = subst (λ (k : EntryKey). KeyBelow last k) f b in
     let g = tail_grows inst old last t (record { weight = weight; places = places }) p up fits.0 fits.1 above in
-    subst (λ (k : EntryKey). Grows inst old new (line.Tail t weight places) k) (sym f) (subst (λ (x : PriceList). Grows inst old x (line.Tail t weight places) (tail_key t)) (sym sets) g)
+    subst (λ (k : EntryKey). Grows inst old new (line.Tail t weight places) k) (sym f)
+    (subst (λ (x : PriceList). Grows inst old x (line.Tail t weight places) (tail_key t)) (sym sets) g)
 set_grows inst old new v last key (line.Ex e t w) p q up f b fits sets =
     let i = back_one e fits.0 in
     let above = subst (λ (k : EntryKey). KeyBelow last k) (f.1 ∙ ap (λ (d : ℕ). ex_key d t) (sym i)) b in
     let g = ex_grows inst old new last (e - 1) t w p q up sets fits.1.some above in
-    subst (λ (k : EntryKey). Grows inst old new (line.Ex e t w) k) (sym f.1) (subst (λ (d : ℕ). Grows inst old new (line.Ex d t w) (ex_key d t)) i g)
+    subst (λ (k : EntryKey). Grows inst old new (line.Ex e t w) k) (sym f.1)
+    (subst (λ (d : ℕ). Grows inst old new (line.Ex d t w) (ex_key d t)) i g)
 set_grows inst old new v last key line.Tree p q up f b fits sets = absurd f
 set_grows inst old new v last key (line.Split i m) p q up f b fits sets = absurd f
 set_grows inst old new v last key (line.Cost j) p q up f b fits sets = absurd f
@@ -181,7 +202,8 @@ set_grows inst old new v last key (line.Excl e) p q up f b fits sets = absurd f
 set_grows inst old new v last key (line.Empty i) p q up f b fits sets = absurd f
 
 -- and keeps to the version
-pub set_keeps : (inst : Tables) (old new : PriceList) (version : Version) (key : EntryKey) (line : CertificateLine) → IsEntry version line key → SetsEntry inst old new line → HasPricesOf version old → HasPricesOf version new
+pub set_keeps : (inst : Tables) (old new : PriceList) (version : Version) (key : EntryKey) (line : CertificateLine)
+    → IsEntry version line key → SetsEntry inst old new line → HasPricesOf version old → HasPricesOf version new
 set_keeps inst old new One key (line.Title version) f sets h = absurd f
 set_keeps inst old new One key (line.Bound least) f sets h = absurd f
 set_keeps inst old new One key (line.Lists count) f sets h = absurd f
@@ -199,9 +221,13 @@ set_keeps inst old new One key (line.Excl e) f sets h = absurd f
 set_keeps inst old new One key (line.Empty i) f sets h = absurd f
 set_keeps inst old new Two key line f sets h = tt
 
-pub entries_none : (inst : Tables) (version : Version) (left : Left) (prices : PriceList) → prices ≡ zero_list inst → IsPriceList inst prices → ReadsEntries inst version left prices before_entries left
+pub entries_none : (inst : Tables) (version : Version) (left : Left) (prices : PriceList) → prices ≡ zero_list inst
+    → IsPriceList inst prices → ReadsEntries inst version left prices before_entries left
 entries_none inst version left prices e p = record {
-  passes = λ count more. subst (λ (ls : List CertificateLine). Passes inst (lists version count more (Some before_entries)) left ls (lists version count more (Some before_entries)) left) (sym (ap (entry_lines inst) e ∙ zero_has_none inst)) (passes_none inst (lists version count more (Some before_entries)) left);
+  passes = λ count more. subst
+      (λ (ls : List CertificateLine). Passes inst (lists version count more (Some before_entries)) left ls
+      (lists version count more (Some before_entries)) left) (sym (ap (entry_lines inst) e ∙ zero_has_none inst))
+      (passes_none inst (lists version count more (Some before_entries)) left);
   in_range = p;
   has_prices = no_ex version;
   up_to = subst (λ (x : PriceList). IsUpTo inst x before_entries) (sym e) (zero_up_to inst);
@@ -211,24 +237,37 @@ entries_none inst version left prices e p = record {
     no_ex One = ap (λ (x : PriceList). x.ex) e ∙ zero_ex inst
     no_ex Two = tt
 
-pub entries_more : (inst : Tables) (version : Version) (old now new : Left) (prices changed : PriceList) (last key : EntryKey) → ReadsEntries inst version old prices last now → ReadsEntry inst version now new prices changed last key → ReadsEntries inst version old changed key new
+pub entries_more : (inst : Tables) (version : Version) (old now new : Left) (prices changed : PriceList)
+    (last key : EntryKey) → ReadsEntries inst version old prices last now
+    → ReadsEntry inst version now new prices changed last key → ReadsEntries inst version old changed key new
 entries_more inst version old now new prices changed last key u r =
-    let grows = set_grows inst prices changed version last key r.entry u.in_range r.in_range u.up_to r.key_is r.above r.fits r.sets in
+    let grows = set_grows inst prices changed version last key r.entry u.in_range r.in_range u.up_to r.key_is
+    r.above r.fits r.sets in
     record {
       passes = λ count left.
           let p = lists version count left (Some last) in
           let q = lists version count left (Some key) in
-          let one = passes_line inst p now new r.entry r.reads (stands_entry version count left last key r.entry r.key_is r.above) (fits_entry inst version count left (Some last) r.entry r.fits) in
-          let to = subst (λ (x : Place). Passes inst p now (r.entry ∷ []) x new) (after_entry inst version count left last key r.entry r.key_is) one in
-          let all = passes_more inst (lists version count left (Some before_entries)) p q old now new (entry_lines inst prices) (r.entry ∷ []) (u.passes count left) to in
-          subst (λ (ls : List CertificateLine). Passes inst (lists version count left (Some before_entries)) old ls q new) (sym grows.lines) all;
+          let one = passes_line inst p now new r.entry r.reads
+          (stands_entry version count left last key r.entry r.key_is r.above)
+          (fits_entry inst version count left (Some last) r.entry r.fits) in
+          let to = subst (λ (x : Place). Passes inst p now (r.entry ∷ []) x new)
+          (after_entry inst version count left last key r.entry r.key_is) one in
+          let all = passes_more inst (lists version count left (Some before_entries)) p q old now new
+          (entry_lines inst prices) (r.entry ∷ []) (u.passes count left) to in
+          subst (λ (ls : List CertificateLine). Passes inst (lists version count left (Some before_entries)) old ls q
+          new) (sym grows.lines) all;
       in_range = r.in_range;
       has_prices = set_keeps inst prices changed version key r.entry r.key_is r.sets u.has_prices;
       up_to = grows.up_to;
     }
 
-pub entry_fails : (inst : Tables) (version : Version) (old now : Left) (prices : PriceList) (last : EntryKey) (fault : CertFault) → ReadsEntries inst version old prices last now → ((count left : ℕ) → Fails inst (lists version count left (Some last)) now fault) → (count left : ℕ) → Fails inst (lists version count left (Some before_entries)) old fault
-entry_fails inst version old now prices last fault u f count left = fails_behind inst (lists version count left (Some before_entries)) (lists version count left (Some last)) old now (entry_lines inst prices) fault (u.passes count left) (f count left)
+pub entry_fails : (inst : Tables) (version : Version) (old now : Left) (prices : PriceList) (last : EntryKey)
+    (fault : CertFault) → ReadsEntries inst version old prices last now
+    → ((count left : ℕ) → Fails inst (lists version count left (Some last)) now fault) → (count left : ℕ)
+    → Fails inst (lists version count left (Some before_entries)) old fault
+entry_fails inst version old now prices last fault u f count left = fails_behind inst
+    (lists version count left (Some before_entries)) (lists version count left (Some last)) old now
+    (entry_lines inst prices) fault (u.passes count left) (f count left)
 
 pub below_told : (b : Bool) (P : Type 0) → (IsTrue b → P) × (P → IsTrue b) → b ≡ true → P
 below_told b P w e = w.0 e

@@ -1,5 +1,6 @@
 -- Lines that are read one after another, and the fault of the first that has one.
-use Rattle.std.proofs.Common.{◌≡◌, ℕ, ◌+◌, ◌<◌, inl, inr, refl, sym, ◌∙◌, ap, subst, arith, List, [], ◌∷◌, ◌++◌, length, append_assoc, length-append}
+use Rattle.std.proofs.Common.{◌≡◌, ℕ, ◌+◌, ◌<◌, inl, inr, refl, sym, ◌∙◌, ap, subst, arith, List, [], ◌∷◌, ◌++◌, length}
+use Rattle.std.proofs.Common.{append_assoc, length-append}
 use Rattle.std.proofs.lemmas.List.Elements.{All-append, All-nil, All-cons}
 use Rattle.text_lines.proofs.CutLemmas.{cut_once}
 use Rattle.instance_model.specs.Tables.{Tables}
@@ -19,20 +20,25 @@ use Rattle.branch_certificate.specs.Reading.{ReadsLine, IsNoLine, Passes, Fails,
 
 pub text-append : (xs ys : List CertificateLine) → text_of_lines (xs ++ ys) ≡ text_of_lines xs ++ text_of_lines ys
 text-append [] ys = refl
-text-append (x ∷ xs) ys = ap (λ (t : List ℕ). line_text x ++ t) (text-append xs ys) ∙ sym (append_assoc (line_text x) (text_of_lines xs) (text_of_lines ys))
+text-append (x ∷ xs) ys = ap (λ (t : List ℕ). line_text x ++ t) (text-append xs ys)
+    ∙ sym (append_assoc (line_text x) (text_of_lines xs) (text_of_lines ys))
 
 pub passes_none : (inst : Tables) (p : Place) (left : Left) → Passes inst p left [] p left
 passes_none inst p left = record { forms = All-nil IsLine; cut = refl; next = omega arith; leads = refl }
 
-pub passes_more : (inst : Tables) (p q r : Place) (a b c : Left) (xs ys : List CertificateLine) → Passes inst p a xs q b → Passes inst q b ys r c → Passes inst p a (xs ++ ys) r c
+pub passes_more : (inst : Tables) (p q r : Place) (a b c : Left) (xs ys : List CertificateLine) → Passes inst p a xs q b
+    → Passes inst q b ys r c → Passes inst p a (xs ++ ys) r c
 passes_more inst p q r a b c xs ys u v = record {
   forms = All-append IsLine xs ys u.forms v.forms;
-  cut = u.cut ∙ ap (λ (t : List ℕ). text_of_lines xs ++ t) v.cut ∙ sym (append_assoc (text_of_lines xs) (text_of_lines ys) c.rest) ∙ ap (λ (t : List ℕ). t ++ c.rest) (sym (text-append xs ys));
+  cut = u.cut ∙ ap (λ (t : List ℕ). text_of_lines xs ++ t) v.cut
+      ∙ sym (append_assoc (text_of_lines xs) (text_of_lines ys) c.rest)
+      ∙ ap (λ (t : List ℕ). t ++ c.rest) (sym (text-append xs ys));
   next = omega (arith, u.next, v.next, length-append xs ys);
   leads = leads_append inst p q r xs ys u.leads v.leads;
 }
 
-pub passes_line : (inst : Tables) (p : Place) (a b : Left) (line : CertificateLine) → ReadsLine a b line → Stands p line → Fits inst p line → Passes inst p a (line ∷ []) (after inst p line) b
+pub passes_line : (inst : Tables) (p : Place) (a b : Left) (line : CertificateLine) → ReadsLine a b line → Stands p line
+    → Fits inst p line → Passes inst p a (line ∷ []) (after inst p line) b
 passes_line inst p a b line r s f = record {
   forms = All-cons IsLine line [] r.form (All-nil IsLine);
   cut = r.cut ∙ sym (spelled line b.rest);
@@ -44,27 +50,34 @@ passes_line inst p a b line r s f = record {
     spelled line rest = append_assoc (line_text line) [] rest ∙ append_assoc (spelling line) (10 ∷ []) rest
 
 -- a fault behind lines that were read is the fault of all
-pub fails_behind : (inst : Tables) (p q : Place) (a b : Left) (xs : List CertificateLine) (fault : CertFault) → Passes inst p a xs q b → Fails inst q b fault → Fails inst p a fault
+pub fails_behind : (inst : Tables) (p q : Place) (a b : Left) (xs : List CertificateLine) (fault : CertFault)
+    → Passes inst p a xs q b → Fails inst q b fault → Fails inst p a fault
 fails_behind inst p q a b xs fault u f = record {
   lines = xs ++ f.lines;
   place = f.place;
   rest = f.rest;
   faultless = record {
-    cut = u.cut ∙ ap (λ (t : List ℕ). text_of_lines xs ++ t) f.faultless.cut ∙ sym (append_assoc (text_of_lines xs) (text_of_lines f.lines) f.rest) ∙ ap (λ (t : List ℕ). t ++ f.rest) (sym (text-append xs f.lines));
+    cut = u.cut ∙ ap (λ (t : List ℕ). text_of_lines xs ++ t) f.faultless.cut
+        ∙ sym (append_assoc (text_of_lines xs) (text_of_lines f.lines) f.rest)
+        ∙ ap (λ (t : List ℕ). t ++ f.rest) (sym (text-append xs f.lines));
     forms = All-append IsLine xs f.lines u.forms f.faultless.forms;
     leads = leads_append inst p q f.place xs f.lines u.leads f.faultless.leads;
   };
-  here = let e : b.count + length f.lines + 1 ≡ a.count + length (xs ++ f.lines) + 1 = omega (arith, u.next, length-append xs f.lines) in subst (λ (n : ℕ). HasLineFault inst f.place f.rest n fault) e f.here;
+  here = let e : b.count + length f.lines + 1 ≡ a.count + length (xs ++ f.lines) + 1 =
+      omega (arith, u.next, length-append xs f.lines) in
+      subst (λ (n : ℕ). HasLineFault inst f.place f.rest n fault) e f.here;
 }
 
 -- a fault of the first line
-pub fails_here : (inst : Tables) (p : Place) (a : Left) (fault : CertFault) → HasLineFault inst p a.rest (a.count + 1) fault → Fails inst p a fault
+pub fails_here : (inst : Tables) (p : Place) (a : Left) (fault : CertFault)
+    → HasLineFault inst p a.rest (a.count + 1) fault → Fails inst p a fault
 fails_here inst p a fault f = record {
   lines = [];
   place = p;
   rest = a.rest;
   faultless = record { cut = refl; forms = All-nil IsLine; leads = refl };
-  here = let e : a.count + 1 ≡ a.count + 0 + 1 = omega arith in subst (λ (n : ℕ). HasLineFault inst p a.rest n fault) e f;
+  here = let e : a.count + 1 ≡ a.count + 0 + 1 = omega arith in
+      subst (λ (n : ℕ). HasLineFault inst p a.rest n fault) e f;
 }
 
 -- want of memory
@@ -72,7 +85,8 @@ pub fails_memory : (inst : Tables) (p : Place) (a : Left) → Fails inst p a Mem
 fails_memory inst p a = fails_here inst p a Memory tt
 
 -- no line was read where one is needed
-pub fails_no_line : (inst : Tables) (p : Place) (a : Left) (fault : CertFault) → (HasEnded p → ⊥) → IsNoLine a fault → Fails inst p a fault
+pub fails_no_line : (inst : Tables) (p : Place) (a : Left) (fault : CertFault) → (HasEnded p → ⊥)
+    → IsNoLine a fault → Fails inst p a fault
 fails_no_line inst p a Memory needed f = fails_memory inst p a
 fails_no_line inst p a (Bounds k) needed f = absurd f
 fails_no_line inst p a (Cut k) needed f = fails_here inst p a (Cut k) (f.0, record { needed = needed; unended = f.1 })
@@ -89,7 +103,8 @@ fails_no_line inst p a (BadLine k) needed f = fails_here inst p a (BadLine k) (
 )
 
 -- a line that was read is refused
-pub fails_refused : (inst : Tables) (p : Place) (a b : Left) (line : CertificateLine) (refusal : Refusal) → (HasEnded p → ⊥) → ReadsLine a b line → Refuses inst p line refusal → Fails inst p a (fault_at b.count refusal)
+pub fails_refused : (inst : Tables) (p : Place) (a b : Left) (line : CertificateLine) (refusal : Refusal)
+    → (HasEnded p → ⊥) → ReadsLine a b line → Refuses inst p line refusal → Fails inst p a (fault_at b.count refusal)
 fails_refused inst p a b line Misplaced needed r f = fails_here inst p a (BadLine b.count) (
   r.next,
   inl (record {
@@ -98,7 +113,8 @@ fails_refused inst p a b line Misplaced needed r f = fails_here inst p a (BadLin
     more = b.rest;
     cut = r.cut;
     whole = no_line_feed line r.form;
-    misplaced = λ other form spelled stands. f (subst (λ (l : CertificateLine). Stands p l) (sym (one_line line other r.form form spelled)) stands);
+    misplaced = λ other form spelled stands. f
+        (subst (λ (l : CertificateLine). Stands p l) (sym (one_line line other r.form form spelled)) stands);
   }),
 )
 fails_refused inst p a b line OutOfRange needed r f = fails_here inst p a (Bounds b.count) (
@@ -114,17 +130,23 @@ fails_refused inst p a b line OutOfRange needed r f = fails_here inst p a (Bound
 )
 
 -- something is left behind the end
-pub fails_past_end : (inst : Tables) (p : Place) (a : Left) (fault : CertFault) → HasEnded p → IsMore a fault → Fails inst p a fault
-fails_past_end inst p a fault ended m = subst (λ (e : CertFault). Fails inst p a e) (sym m.1) (fails_here inst p a (BadLine (a.count + 1)) (refl, inr (record { ended = ended; some = m.0 })))
+pub fails_past_end : (inst : Tables) (p : Place) (a : Left) (fault : CertFault) → HasEnded p
+    → IsMore a fault → Fails inst p a fault
+fails_past_end inst p a fault ended m = subst (λ (e : CertFault). Fails inst p a e) (sym m.1)
+    (fails_here inst p a (BadLine (a.count + 1)) (refl, inr (record { ended = ended; some = m.0 })))
 
 -- a line that is read is one
 pub read_once : (a b c : Left) (line other : CertificateLine) → ReadsLine a b line → ReadsLine a c other → line ≡ other
 read_once a b c line other r s =
-    one_line line other r.form s.form (cut_once 10 (spelling line) b.rest (spelling other) c.rest (no_line_feed line r.form) (no_line_feed other s.form) (sym r.cut ∙ s.cut)).0
+    one_line line other r.form s.form (cut_once 10 (spelling line) b.rest (spelling other) c.rest
+    (no_line_feed line r.form) (no_line_feed other s.form) (sym r.cut ∙ s.cut)).0
 
 -- the same, of what tells the fault
-pub fails_told : (inst : Tables) (p : Place) (a b : Left) (line : CertificateLine) (refusal : Refusal) (fault : CertFault) → fault ≡ fault_at b.count refusal → (HasEnded p → ⊥) → ReadsLine a b line → Refuses inst p line refusal → Fails inst p a fault
-fails_told inst p a b line refusal fault e needed r f = subst (λ (x : CertFault). Fails inst p a x) (sym e) (fails_refused inst p a b line refusal needed r f)
+pub fails_told : (inst : Tables) (p : Place) (a b : Left) (line : CertificateLine) (refusal : Refusal)
+    (fault : CertFault) → fault ≡ fault_at b.count refusal → (HasEnded p → ⊥) → ReadsLine a b line
+    → Refuses inst p line refusal → Fails inst p a fault
+fails_told inst p a b line refusal fault e needed r f =
+    subst (λ (x : CertFault). Fails inst p a x) (sym e) (fails_refused inst p a b line refusal needed r f)
 
 -- a line less is left
 pub read_shorter : (a b : Left) (line : CertificateLine) → ReadsLine a b line → length b.rest < length a.rest

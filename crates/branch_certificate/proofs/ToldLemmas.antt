@@ -1,5 +1,6 @@
 -- A text is that of a certificate, or has a fault.
-use Rattle.std.proofs.Common.{◌≡◌, ◌≢◌, ◌⊎◌, inl, inr, ℕ, zero, suc, ◌+◌, ◌<◌, ◌≤◌, refl, sym, ◌∙◌, ap, arith, Bool, true, false, eqb, List, [], ◌∷◌, ◌++◌, length, append_assoc, length-append}
+use Rattle.std.proofs.Common.{◌≡◌, ◌≢◌, ◌⊎◌, inl, inr, ℕ, zero, suc, ◌+◌, ◌<◌, ◌≤◌, refl, sym, ◌∙◌, ap, arith, Bool}
+use Rattle.std.proofs.Common.{true, false, eqb, List, [], ◌∷◌, ◌++◌, length, append_assoc, length-append}
 use Rattle.std.specs.List.{All}
 use Rattle.std.proofs.lemmas.Bool.Decides.{nat_tests}
 use Rattle.std.proofs.lemmas.List.{append-nil}
@@ -34,12 +35,19 @@ first_line : (rest : List ℕ) → All IsInside rest ⊎ HasFirstLine rest
 first_line [] = inl (All-nil IsInside)
 first_line (b ∷ rest) = at (eqb b 10) refl (first_line rest)
   where
-    at : (v : Bool) → eqb b 10 ≡ v → All IsInside rest ⊎ HasFirstLine rest → All IsInside (b ∷ rest) ⊎ HasFirstLine (b ∷ rest)
-    at true e r = let feed : b ≡ 10 = grind (arith, nat_tests) in inr (record { text = []; more = rest; cut = ap (λ (x : ℕ). x ∷ rest) feed; whole = All-nil IsInside })
+    at : (v : Bool) → eqb b 10 ≡ v → All IsInside rest ⊎ HasFirstLine rest → All IsInside (b ∷ rest)
+        ⊎ HasFirstLine (b ∷ rest)
+    at true e r = let feed : b ≡ 10 = grind (arith, nat_tests) in
+        inr (record { text = []; more = rest; cut = ap (λ (x : ℕ). x ∷ rest) feed; whole = All-nil IsInside })
     at false e (inl h) = let inside : b ≢ 10 = grind (arith, nat_tests) in inl (All-cons IsInside b rest inside h)
     at false e (inr f) =
         let inside : b ≢ 10 = grind (arith, nat_tests) in
-        inr (record { text = b ∷ f.text; more = f.more; cut = ap (λ (xs : List ℕ). b ∷ xs) f.cut; whole = All-cons IsInside b f.text inside f.whole })
+        inr (record {
+          text = b ∷ f.text;
+          more = f.more;
+          cut = ap (λ (xs : List ℕ). b ∷ xs) f.cut;
+          whole = All-cons IsInside b f.text inside f.whole;
+        })
 
 ended_or_not : (place : Place) → HasEnded place ⊎ (HasEnded place → ⊥)
 ended_or_not title = inr (λ h. h)
@@ -49,12 +57,15 @@ ended_or_not (lists v n l k) = inr (λ h. h)
 ended_or_not (nodes n []) = inl tt
 ended_or_not (nodes n (b ∷ bs)) = inr (λ h. h)
 
-module _ (law : LeadToCertificates) (inst : Tables) (bytes : List ℕ) (no_cert : (cert : Certificate) → IsTextOf inst bytes cert → ⊥) (no_fault : (fault : CertFault) → HasCertFault inst bytes fault → ⊥) where
+module _ (law : LeadToCertificates) (inst : Tables) (bytes : List ℕ)
+    (no_cert : (cert : Certificate) → IsTextOf inst bytes cert → ⊥)
+    (no_fault : (fault : CertFault) → HasCertFault inst bytes fault → ⊥) where
   -- the text begins with lines that lead to the place
   abbrev Reaches : List CertificateLine → Place → List ℕ → Type 0
   Reaches lines place rest = BeginsWith inst title bytes lines place rest
 
-  fails : (lines : List CertificateLine) (place : Place) (rest : List ℕ) (fault : CertFault) → Reaches lines place rest → HasLineFault inst place rest (0 + length lines + 1) fault → HasFault inst bytes fault
+  fails : (lines : List CertificateLine) (place : Place) (rest : List ℕ) (fault : CertFault) → Reaches lines place rest
+      → HasLineFault inst place rest (0 + length lines + 1) fault → HasFault inst bytes fault
   fails lines place rest fault b h = record { lines = lines; place = place; rest = rest; faultless = b; here = h }
 
   -- the lines are all, and lead to the end
@@ -66,15 +77,20 @@ module _ (law : LeadToCertificates) (inst : Tables) (bytes : List ℕ) (no_cert 
   whole lines (nodes n (x ∷ xs)) h b = h
   whole lines (nodes n []) h b =
       let led = law inst lines n b.leads in
-      no_cert led.0 (record { in_range = led.1; text = b.cut ∙ append-nil (text_of_lines lines) ∙ ap text_of_lines (sym led.2) })
+      no_cert led.0
+      (record { in_range = led.1; text = b.cut ∙ append-nil (text_of_lines lines) ∙ ap text_of_lines (sym led.2) })
 
   -- nothing is needed any more
   over : (lines : List CertificateLine) (place : Place) (rest : List ℕ) → HasEnded place → Reaches lines place rest → ⊥
   over lines place [] h b = whole lines place h b
-  over lines place (x ∷ rest) h b = no_fault (BadLine (0 + length lines + 1)) (fails lines place (x ∷ rest) (BadLine (0 + length lines + 1)) b (refl, inr (record { ended = h; some = omega arith })))
+  over lines place (x ∷ rest) h b = no_fault (BadLine (0 + length lines + 1))
+      (fails lines place (x ∷ rest) (BadLine (0 + length lines + 1)) b
+      (refl, inr (record { ended = h; some = omega arith })))
 
   -- behind one more line
-  further : (lines : List CertificateLine) (place : Place) (rest more : List ℕ) (a : CertificateLine) → rest ≡ spelling a ++ 10 ∷ more → IsLine a → Stands place a → Fits inst place a → Reaches lines place rest → Reaches (lines ++ a ∷ []) (after inst place a) more
+  further : (lines : List CertificateLine) (place : Place) (rest more : List ℕ) (a : CertificateLine)
+      → rest ≡ spelling a ++ 10 ∷ more → IsLine a → Stands place a → Fits inst place a → Reaches lines place rest
+      → Reaches (lines ++ a ∷ []) (after inst place a) more
   further lines place rest more a e form stands fit b = record {
     cut = b.cut
         ∙ ap (λ (t : List ℕ). text_of_lines lines ++ t) (e ∙ sym (begins a [] more))
@@ -85,7 +101,9 @@ module _ (law : LeadToCertificates) (inst : Tables) (bytes : List ℕ) (no_cert 
   }
 
   -- what is told behind one more line is told here
-  step : (lines : List CertificateLine) (place : Place) (rest : List ℕ) → ((more_lines : List CertificateLine) (next : Place) (more : List ℕ) → length more < length rest → Reaches more_lines next more → ⊥) → Reaches lines place rest → ⊥
+  step : (lines : List CertificateLine) (place : Place) (rest : List ℕ)
+      → ((more_lines : List CertificateLine) (next : Place) (more : List ℕ) → length more < length rest
+      → Reaches more_lines next more → ⊥) → Reaches lines place rest → ⊥
   step lines place rest go b = at (ended_or_not place)
     where
       n : ℕ
@@ -96,13 +114,26 @@ module _ (law : LeadToCertificates) (inst : Tables) (bytes : List ℕ) (no_cert 
       at (inr needed) = from (first_line rest)
         where
           from : All IsInside rest ⊎ HasFirstLine rest → ⊥
-          from (inl h) = no_fault (Cut n) (fails lines place rest (Cut n) b (refl, record { needed = needed; unended = h }))
-          from (inr f) = no_fault (BadLine n) (fails lines place rest (BadLine n) b (refl, inl (record { needed = needed; text = f.text; more = f.more; cut = f.cut; whole = f.whole; misplaced = read })))
+          from (inl h) =
+              no_fault (Cut n) (fails lines place rest (Cut n) b (refl, record { needed = needed; unended = h }))
+          from (inr f) = no_fault (BadLine n)
+              (fails lines place rest (BadLine n) b (
+                refl,
+                inl (record {
+                  needed = needed;
+                  text = f.text;
+                  more = f.more;
+                  cut = f.cut;
+                  whole = f.whole;
+                  misplaced = read;
+                }),
+              ))
             where
               read : (a : CertificateLine) → IsLine a → f.text ≡ spelling a → Stands place a → ⊥
               read a form spelled stands =
                   let e : rest ≡ spelling a ++ 10 ∷ f.more = f.cut ∙ ap (λ (t : List ℕ). t ++ 10 ∷ f.more) spelled in
-                  let shorter : length f.more < length rest = omega (arith, ap (λ (t : List ℕ). length t) e, length-append (spelling a) (10 ∷ f.more)) in
+                  let shorter : length f.more < length rest =
+                  omega (arith, ap (λ (t : List ℕ). length t) e, length-append (spelling a) (10 ∷ f.more)) in
                   no_fault (Bounds n) (fails lines place rest (Bounds n) b (
                     refl,
                     record {
@@ -111,14 +142,18 @@ module _ (law : LeadToCertificates) (inst : Tables) (bytes : List ℕ) (no_cert 
                       cut = e;
                       form = form;
                       stands = stands;
-                      unfit = λ fit. go (lines ++ a ∷ []) (after inst place a) f.more shorter (further lines place rest f.more a e form stands fit b);
+                      unfit = λ fit. go (lines ++ a ∷ []) (after inst place a) f.more shorter
+                          (further lines place rest f.more a e form stands fit b);
                     },
                   ))
 
   -- by the length of what is left
-  walk : (most : ℕ) (lines : List CertificateLine) (place : Place) (rest : List ℕ) → length rest ≤ most → Reaches lines place rest → ⊥
-  walk zero lines place rest few b = step lines place rest (λ more_lines next more l c. absurd (omega (arith, few, l))) b
-  walk (suc most) lines place rest few b = step lines place rest (λ more_lines next more l c. walk most more_lines next more (omega (arith, few, l)) c) b
+  walk : (most : ℕ) (lines : List CertificateLine) (place : Place) (rest : List ℕ) → length rest ≤ most
+      → Reaches lines place rest → ⊥
+  walk zero lines place rest few b =
+      step lines place rest (λ more_lines next more l c. absurd (omega (arith, few, l))) b
+  walk (suc most) lines place rest few b =
+      step lines place rest (λ more_lines next more l c. walk most more_lines next more (omega (arith, few, l)) c) b
 
   told : ⊥
   told = walk (length bytes) [] title bytes (omega arith) (record { cut = refl; forms = All-nil IsLine; leads = refl })

@@ -11,7 +11,13 @@ use Rattle.certificate_text.proofs.LedLemmas.{tree_led}
 use Rattle.certificate_text.proofs.TellLemmas.{nodes_tell}
 
 -- over one box the nodes are those of one tree
-pub tree_of : (inst : Tables) (m : ℕ) (box : List Span) (read : List Node) → Leads inst (nodes m (box ∷ [])) (map node_line read) (nodes m []) → (t : Tree) × AreNodesOf inst m box t read
+pub tree_of : (inst : Tables) (m : ℕ) (box : List Span) (read : List Node)
+    → Leads inst (nodes m (box ∷ [])) (map node_line read) (nodes m []) → (t : Tree) × AreNodesOf inst m box t read
 tree_of inst m box read leads =
-    let led = tree_led inst m m box (map node_line read) leads in
-    (led.tree.0, record { order = led.tree.1.order ∙ nodes_tell led.nodes_of read led.spelled; in_range = led.tree.1.in_range })
+    let led = tree_led inst m m box (map node_line read) leads in (
+      led.tree.0,
+      record {
+        order = led.tree.1.order ∙ nodes_tell led.nodes_of read led.spelled;
+        in_range = led.tree.1.in_range;
+      },
+    )

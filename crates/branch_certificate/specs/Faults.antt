@@ -50,7 +50,8 @@ HasLineFault inst place rest n Memory = ⊤
 -- ---- the fault of a text
 
 -- the text begins with these lines, which lead from one place to another without a fault
-pub record BeginsWith (inst : Tables) (start : Place) (text : List ℕ) (lines : List CertificateLine) (place : Place) (rest : List ℕ) : Type 0 where
+pub record BeginsWith (inst : Tables) (start : Place) (text : List ℕ) (lines : List CertificateLine) (place : Place)
+    (rest : List ℕ) : Type 0 where
   pub cut : text ≡ text_of_lines lines ++ rest
   pub forms : All IsLine lines
   pub leads : Leads inst start lines place

@@ -7,4 +7,5 @@ use Rattle.branch_certificate.specs.Faults.{HasCertFault, IsTextOf}
 
 -- a text is that of a certificate, or has a fault: it can't be without both
 abbrev pub TextsAreTold : Type 0
-TextsAreTold = (inst : Tables) (bytes : List ℕ) → ((cert : Certificate) → IsTextOf inst bytes cert → ⊥) → ((fault : CertFault) → HasCertFault inst bytes fault → ⊥) → ⊥
+TextsAreTold = (inst : Tables) (bytes : List ℕ) → ((cert : Certificate) → IsTextOf inst bytes cert → ⊥)
+    → ((fault : CertFault) → HasCertFault inst bytes fault → ⊥) → ⊥

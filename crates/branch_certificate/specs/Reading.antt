@@ -18,7 +18,8 @@ use Rattle.branch_tree.specs.Trees.{IsSplit, below, above, root_box}
 use Rattle.branch_tree.specs.Ranges.{HasPricesOf, IsInRange}
 use Rattle.branch_tree.specs.Walk.{first_box, other_boxes}
 use Rattle.certificate_text.specs.Grammar as place
-use Rattle.certificate_text.specs.Grammar.{Place, EntryKey, Stands, Fits, after, Leads, IsLimitPrice, KeyBelow, before_entries, up_key, lo_key, tail_key, ex_key}
+use Rattle.certificate_text.specs.Grammar.{Place, EntryKey, Stands, Fits, after, Leads, IsLimitPrice, KeyBelow}
+use Rattle.certificate_text.specs.Grammar.{before_entries, up_key, lo_key, tail_key, ex_key}
 use Rattle.certificate_text.specs.Entries.{IsUpTo}
 use Rattle.certificate_text.specs.Text.{text_of_lines, entry_lines, list_lines, node_line, certificate_lines}
 use Rattle.branch_certificate.specs.declared.fault.CertFault.{CertFault}
@@ -63,7 +64,8 @@ abbrev pub IsMore : Left → CertFault → Type 0
 IsMore left fault = (0 < length left.rest) × (fault ≡ BadLine (left.count + 1))
 
 -- these lines were read, and lead from one place to another
-pub record Passes (inst : Tables) (start : Place) (old : Left) (lines : List CertificateLine) (end : Place) (new : Left) : Type 0 where
+pub record Passes (inst : Tables) (start : Place) (old : Left) (lines : List CertificateLine) (end : Place)
+    (new : Left) : Type 0 where
   pub forms : All IsLine lines
   pub cut : old.rest ≡ text_of_lines lines ++ new.rest
   pub next : new.count ≡ old.count + length lines
@@ -102,7 +104,8 @@ pub record IsNodeOf (inst : Tables) (lists : ℕ) (box : List Span) (line : Cert
 
 -- the boxes that wait behind a node
 abbrev pub boxes_after : Node → List (List Span) → List (List Span)
-boxes_after (node.Split i last) boxes = below (first_box boxes) i last ∷ above (first_box boxes) i last ∷ other_boxes boxes
+boxes_after (node.Split i last) boxes =
+    below (first_box boxes) i last ∷ above (first_box boxes) i last ∷ other_boxes boxes
 boxes_after _ boxes = other_boxes boxes
 
 -- ---- entries
@@ -162,12 +165,14 @@ EntryFits inst _ = ⊥
 abbrev pub SetsEntry : Tables → PriceList → PriceList → CertificateLine → Type 0
 SetsEntry inst old new (line.Up c t v) = new ≡ with_up inst old (c - 1) t v
 SetsEntry inst old new (line.Lo c t v) = new ≡ with_lo inst old (c - 1) t v
-SetsEntry inst old new (line.Tail t weight places) = new ≡ with_tail old t (Some (record { weight = weight; places = places }))
+SetsEntry inst old new (line.Tail t weight places) =
+    new ≡ with_tail old t (Some (record { weight = weight; places = places }))
 SetsEntry inst old new (line.Ex e t v) = IsExSet old new (e - 1) t v
 SetsEntry inst old new _ = ⊥
 
 -- an entry above the last one was read, and written into a price list
-pub record ReadsEntry (inst : Tables) (version : Version) (old new : Left) (prices changed : PriceList) (last key : EntryKey) : Type 0 where
+pub record ReadsEntry (inst : Tables) (version : Version) (old new : Left) (prices changed : PriceList)
+    (last key : EntryKey) : Type 0 where
   pub entry : CertificateLine
   pub reads : ReadsLine old new entry
   pub key_is : IsEntry version entry key
@@ -177,39 +182,48 @@ pub record ReadsEntry (inst : Tables) (version : Version) (old new : Left) (pric
   pub in_range : IsPriceList inst changed
 
 -- the entries of a price list that was begun were read, the last one with this key
-pub record ReadsEntries (inst : Tables) (version : Version) (old : Left) (prices : PriceList) (last : EntryKey) (new : Left) : Type 0 where
-  pub passes : (count left : ℕ) → Passes inst (place.lists version count left (Some before_entries)) old (entry_lines inst prices) (place.lists version count left (Some last)) new
+pub record ReadsEntries (inst : Tables) (version : Version) (old : Left) (prices : PriceList) (last : EntryKey)
+    (new : Left) : Type 0 where
+  pub passes : (count left : ℕ) → Passes inst (place.lists version count left (Some before_entries)) old (entry_lines
+      inst prices) (place.lists version count left (Some last)) new
   pub in_range : IsPriceList inst prices
   pub has_prices : HasPricesOf version prices
   pub up_to : IsUpTo inst prices last
 
 -- all its entries were read
-pub record ReadsAllEntries (inst : Tables) (version : Version) (old : Left) (prices : PriceList) (new : Left) : Type 0 where
+pub record ReadsAllEntries (inst : Tables) (version : Version) (old : Left) (prices : PriceList)
+    (new : Left) : Type 0 where
   pub last : EntryKey
   pub entries : ReadsEntries inst version old prices last new
   pub between : IsBeforeMark new
 
 -- a price list was read
-pub record ReadsList (inst : Tables) (version : Version) (start : Option EntryKey) (old : Left) (prices : PriceList) (new : Left) : Type 0 where
+pub record ReadsList (inst : Tables) (version : Version) (start : Option EntryKey) (old : Left) (prices : PriceList)
+    (new : Left) : Type 0 where
   pub last : EntryKey
-  pub passes : (count left : ℕ) → 0 < left → Passes inst (place.lists version count left start) old (list_lines inst prices) (place.lists version count (left - 1) (Some last)) new
+  pub passes : (count left : ℕ) → 0 < left → Passes inst (place.lists version count left start) old (list_lines inst
+      prices) (place.lists version count (left - 1) (Some last)) new
   pub in_range : IsPriceList inst prices
   pub has_prices : HasPricesOf version prices
   pub between : IsBeforeMark new
 
 -- price lists were read
-pub record ReadsLists (inst : Tables) (version : Version) (count : ℕ) (old : Left) (lists : List PriceList) (new : Left) : Type 0 where
+pub record ReadsLists (inst : Tables) (version : Version) (count : ℕ) (old : Left) (lists : List PriceList)
+    (new : Left) : Type 0 where
   pub few : length lists ≤ count
   pub last : Option EntryKey
-  pub passes : Passes inst (place.lists version count count None) old (flat_map (list_lines inst) lists) (place.lists version count (count - length lists) last) new
+  pub passes : Passes inst (place.lists version count count None) old (flat_map (list_lines inst) lists)
+      (place.lists version count (count - length lists) last) new
   pub in_range : All (IsPriceList inst) lists
   pub has_prices : All (HasPricesOf version) lists
   pub between : IsBetween last new
 
 -- all price lists and the line that begins the tree were read
-pub record ReadsAllLists (inst : Tables) (version : Version) (count : ℕ) (old : Left) (lists : List PriceList) (new : Left) : Type 0 where
+pub record ReadsAllLists (inst : Tables) (version : Version) (count : ℕ) (old : Left) (lists : List PriceList)
+    (new : Left) : Type 0 where
   pub each : length lists ≡ count
-  pub passes : Passes inst (place.lists version count count None) old (flat_map (list_lines inst) lists ++ line.Tree ∷ []) (place.nodes count (root_box inst ∷ [])) new
+  pub passes : Passes inst (place.lists version count count None) old
+      (flat_map (list_lines inst) lists ++ line.Tree ∷ []) (place.nodes count (root_box inst ∷ [])) new
   pub in_range : All (IsPriceList inst) lists
   pub has_prices : All (HasPricesOf version) lists
 

@@ -1,4 +1,4 @@
-// The entries of a price list.
+//! The entries of a price list.
 ghost use Rattle.std.specs.Prelude.{◌≡◌, ◌≤◌, ◌-◌, ℕ, Some, IfOk, IfErr, All};
 ghost use Rattle.std.specs.Bool.{OnTrue, OnFalse};
 ghost use Rattle.lagrange_bound.specs.Prices.{IsPriceList};
@@ -6,7 +6,8 @@ ghost use Rattle.lagrange_bound.specs.Changes.{with_up, with_lo, with_tail, IsEx
 ghost use Rattle.certificate_text.specs.Grammar as place;
 ghost use Rattle.certificate_text.specs.Grammar.{IsLimitPrice};
 ghost use Rattle.certificate_text.specs.Entries.{IsUpTo};
-ghost use Rattle.branch_certificate.specs.Reading.{Fails, IsBeforeNoMark, IsTailOf, IsExPriceOf, EntryFits, SetsEntry, ReadsEntry, key_view};
+ghost use Rattle.branch_certificate.specs.Reading.{Fails, IsBeforeNoMark, IsTailOf, IsExPriceOf, EntryFits, SetsEntry};
+ghost use Rattle.branch_certificate.specs.Reading.{ReadsEntry, key_view};
 
 use crate::CertFault;
 use crate::fits::{fits_ex, fits_limit, fits_tail};
@@ -29,8 +30,10 @@ pub fn read_entry(
 ) -> Result<EntryKey, CertFault>
     requires prices { IsPriceList inst.now prices.old }
     requires no_mark { IsBeforeNoMark lines.old }
-    ensures ok { IfOk result (λ key. ReadsEntry inst.now version lines.old lines.new prices.old prices.new (key_view last) (key_view key)) }
-    ensures err { (count left : ℕ) → IfErr result (Fails inst.now (place.lists version count left (Some (key_view last))) lines.old) }
+    ensures ok { IfOk result (λ key. ReadsEntry inst.now version lines.old lines.new prices.old prices.new
+        (key_view last) (key_view key)) }
+    ensures err { (count left : ℕ)
+        → IfErr result (Fails inst.now (place.lists version count left (Some (key_view last))) lines.old) }
 {
     let line = lines.next_line(alloc)?;
     let Some(key) = key_of(version, &line) else {
@@ -106,10 +109,14 @@ fn set_tail(
     prices: &mut Prices,
 ) -> Result<bool, AllocError>
     requires prices { IsPriceList inst.now prices.old }
-    ensures fits { IfOk result (λ set. OnTrue set (IsTailOf inst.now t (record { weight = weight; places = places.now }))) }
-    ensures set { IfOk result (λ set. OnTrue set (prices.new ≡ with_tail prices.old t (Some (record { weight = weight; places = places.now })))) }
+    ensures fits { IfOk result
+        (λ set. OnTrue set (IsTailOf inst.now t (record { weight = weight; places = places.now }))) }
+    ensures set { IfOk result
+        (λ set. OnTrue set
+        (prices.new ≡ with_tail prices.old t (Some (record { weight = weight; places = places.now })))) }
     ensures in_range { IfOk result (λ set. OnTrue set (IsPriceList inst.now prices.new)) }
-    ensures unfit { IfOk result (λ set. OnFalse set (IsTailOf inst.now t (record { weight = weight; places = places.now }) → ⊥)) }
+    ensures unfit { IfOk result
+        (λ set. OnFalse set (IsTailOf inst.now t (record { weight = weight; places = places.now }) → ⊥)) }
 {
     if !fits_tail(inst, t, weight, places) {
         return Ok(false);

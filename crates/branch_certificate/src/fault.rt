@@ -1,4 +1,4 @@
-// Why a text is no certificate.
+//! Why a text is no certificate.
 ghost use Rattle.std.specs.Prelude.{◌≡◌};
 ghost use Rattle.branch_certificate.specs.declared.fault.CertFault.TheVariants.{Memory};
 

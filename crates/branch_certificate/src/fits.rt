@@ -1,4 +1,4 @@
-// Whether the numbers of a line are in their ranges.
+//! Whether the numbers of a line are in their ranges.
 ghost use Rattle.std.specs.Prelude.{◌≡◌, ◌≤◌, ◌↔◌, IsTrue, All};
 ghost use Rattle.std.specs.Bool.{OnTrue};
 ghost use Rattle.lagrange_bound.specs.Least.{AscendAbove};

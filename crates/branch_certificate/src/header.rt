@@ -1,4 +1,4 @@
-// The first three lines of a certificate.
+//! The first three lines of a certificate.
 ghost use Rattle.std.specs.Prelude.{◌≡◌, ◌≤◌, [], ◌∷◌, None, IfOk, IfErr};
 ghost use Rattle.instance_model.specs.Tables.{Tables};
 ghost use Rattle.certificate_lines.specs.declared.line.CertificateLine.TheVariants as form;
@@ -20,7 +20,8 @@ const MOST_BOUND: u128 = 1_000_000_000_000_000_000_000_000_000_000_000_000;
 
 /// Reads the title.
 pub fn read_title(alloc: Global, lines: &mut Lines<'_>) -> Result<Version, CertFault>
-    ensures ok { (inst : Tables) → IfOk result (λ version. Passes inst place.title lines.old (form.Title version ∷ []) (place.bound version) lines.new) }
+    ensures ok { (inst : Tables) → IfOk result (λ version. Passes inst place.title lines.old (form.Title version ∷ [])
+        (place.bound version) lines.new) }
     ensures err { (inst : Tables) → IfErr result (Fails inst place.title lines.old) }
 {
     let line = lines.next_line(alloc)?;
@@ -46,7 +47,8 @@ pub fn read_bound(
     version: Version,
     lines: &mut Lines<'_>,
 ) -> Result<Bound, CertFault>
-    ensures ok { (inst : Tables) → IfOk result (λ bound. Passes inst (place.bound version) lines.old (form.Bound bound ∷ []) (place.count version) lines.new) }
+    ensures ok { (inst : Tables) → IfOk result (λ bound. Passes inst (place.bound version) lines.old
+        (form.Bound bound ∷ []) (place.count version) lines.new) }
     ensures in_range { IfOk result IsBoundInRange }
     ensures err { (inst : Tables) → IfErr result (Fails inst (place.bound version) lines.old) }
 {
@@ -72,7 +74,8 @@ fn bound_of(version: Version, line: &CertificateLine) -> Result<Bound, Refusal>
 
 /// Reads how many price lists follow.
 pub fn read_count(alloc: Global, version: Version, lines: &mut Lines<'_>) -> Result<u32, CertFault>
-    ensures ok { (inst : Tables) → IfOk result (λ count. Passes inst (place.count version) lines.old (form.Lists count ∷ []) (place.lists version count count None) lines.new) }
+    ensures ok { (inst : Tables) → IfOk result (λ count. Passes inst (place.count version) lines.old
+        (form.Lists count ∷ []) (place.lists version count count None) lines.new) }
     ensures few { IfOk result (λ count. count ≤ 16) }
     ensures err { (inst : Tables) → IfErr result (Fails inst (place.count version) lines.old) }
 {

@@ -1,11 +1,12 @@
-// What the entries of a price list are ordered by.
+//! What the entries of a price list are ordered by.
 ghost use Rattle.std.specs.Prelude.{◌≡◌, ◌↔◌, IsTrue, IfSome, IfNone};
 ghost use Rattle.certificate_text.specs.Grammar.{EntryKey as Key, KeyBelow};
 ghost use Rattle.branch_certificate.specs.Reading.{IsEntry, key_view};
 
 use certificate_lines::{CertificateLine, Version};
 
-/// What the entries of a price list are ordered by: their kind, and then the first two numbers, of which a tail has one.
+/// What the entries of a price list are ordered by: their kind, and then the
+/// first two numbers, of which a tail has one.
 #[derive(Clone, Copy, Debug, PartialEq, Eq)]
 pub enum EntryKey {
     /// Below the key of each entry.

@@ -1,4 +1,4 @@
-// Laws of texts.
+//! Laws of texts.
 ghost use Rattle.branch_certificate.specs.Laws.{TextsAreTold};
 
 use certificate_text::lead_to_certificates;

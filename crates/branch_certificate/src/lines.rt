@@ -1,4 +1,4 @@
-// The lines of a text, one after another.
+//! The lines of a text, one after another.
 ghost use Rattle.std.specs.Prelude.{◌≡◌, IfOk, IfErr, length};
 ghost use Rattle.std.specs.Bool.{OnTrue, OnFalse};
 ghost use Rattle.branch_certificate.specs.Reading.{ReadsLine, IsNoLine, IsBeforeMark, IsBeforeNoMark, IsMore, fault_at};

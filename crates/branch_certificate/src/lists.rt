@@ -1,10 +1,11 @@
-// The price lists of a certificate.
+//! The price lists of a certificate.
 ghost use Rattle.std.specs.Prelude.{◌≡◌, ◌<◌, ℕ, Option, Some, None, IsTrue, ◌↔◌, IfOk, IfErr};
 ghost use Rattle.branch_tree.specs.Trees.{root_box};
 ghost use Rattle.certificate_lines.specs.declared.line.CertificateLine.TheVariants as form;
 ghost use Rattle.certificate_text.specs.Grammar as place;
 ghost use Rattle.certificate_text.specs.Grammar.{EntryKey as Key, before_entries};
-ghost use Rattle.branch_certificate.specs.Reading.{Fails, IsBetween, ReadsAllEntries, ReadsList, ReadsLists, ReadsAllLists};
+ghost use Rattle.branch_certificate.specs.Reading.{Fails, IsBetween, ReadsAllEntries, ReadsList, ReadsLists};
+ghost use Rattle.branch_certificate.specs.Reading.{ReadsAllLists};
 
 use crate::CertFault;
 use crate::entry::read_entry;
@@ -47,8 +48,10 @@ fn read_list(
     version: Version,
     lines: &mut Lines<'_>,
 ) -> Result<Prices, CertFault>
-    ensures ok { (start : Option Key) → IfOk result (λ prices. ReadsList inst.now version start lines.old prices lines.new) }
-    ensures err { (start : Option Key) (count left : ℕ) → IsBetween start lines.old → 0 < left → IfErr result (Fails inst.now (place.lists version count left start) lines.old) }
+    ensures ok { (start : Option Key)
+        → IfOk result (λ prices. ReadsList inst.now version start lines.old prices lines.new) }
+    ensures err { (start : Option Key) (count left : ℕ) → IsBetween start lines.old → 0 < left
+        → IfErr result (Fails inst.now (place.lists version count left start) lines.old) }
 {
     let line = lines.next_line(alloc)?;
     if !is_prices(&line) {
@@ -65,7 +68,8 @@ fn read_entries(
     lines: &mut Lines<'_>,
 ) -> Result<Prices, CertFault>
     ensures ok { IfOk result (λ prices. ReadsAllEntries inst.now version lines.old prices lines.new) }
-    ensures err { (count left : ℕ) → IfErr result (Fails inst.now (place.lists version count left (Some before_entries)) lines.old) }
+    ensures err { (count left : ℕ)
+        → IfErr result (Fails inst.now (place.lists version count left (Some before_entries)) lines.old) }
 {
     let mut prices = Prices::zero(alloc, inst)?;
     let mut last = EntryKey::Begin;

@@ -1,4 +1,4 @@
-// The node of a line.
+//! The node of a line.
 ghost use Rattle.std.specs.Prelude.{◌≡◌, ◌<◌, ◌≤◌, ℕ, List, ◌∷◌, length, IfOk, IfErr, IfSome, IfNone};
 ghost use Rattle.instance_model.specs.Tables.{Tables};
 ghost use Rattle.lagrange_bound.specs.declared.span.Span.{Span};
@@ -22,7 +22,8 @@ pub fn node_of(
 ) -> Result<Node, Refusal>
     requires each { length spans.now ≡ length inst.now.names }
     ensures ok { IfOk result (IsNodeOf inst.now lists spans.now line.now) }
-    ensures err { (boxes : List (List Span)) → IfErr result (Refuses inst.now (place.nodes lists (spans.now ∷ boxes)) line.now) }
+    ensures err { (boxes : List (List Span))
+        → IfErr result (Refuses inst.now (place.nodes lists (spans.now ∷ boxes)) line.now) }
 {
     match *line {
         CertificateLine::Split { i, last } => split_of(inst, spans, i, last),
@@ -38,7 +39,8 @@ pub fn node_of(
 fn split_of(inst: &Instance, spans: &[Span], i: u64, last: u64) -> Result<Node, Refusal>
     requires each { length spans.now ≡ length inst.now.names }
     ensures ok { (lists : ℕ) → IfOk result (IsNodeOf inst.now lists spans.now (form.Split i last)) }
-    ensures err { (lists : ℕ) (boxes : List (List Span)) → IfErr result (Refuses inst.now (place.nodes lists (spans.now ∷ boxes)) (form.Split i last)) }
+    ensures err { (lists : ℕ) (boxes : List (List Span))
+        → IfErr result (Refuses inst.now (place.nodes lists (spans.now ∷ boxes)) (form.Split i last)) }
 {
     if !counts_to(i, inst.interventions()) {
         return Err(Refusal::OutOfRange);
@@ -66,7 +68,8 @@ fn start_before_end(span: Span, n: u64) -> Option<u32>
 
 fn cost_of(lists: u32, list: u64) -> Result<Node, Refusal>
     ensures ok { (inst : Tables) (box : List Span) → IfOk result (IsNodeOf inst lists box (form.Cost list)) }
-    ensures err { (inst : Tables) (box : List Span) (boxes : List (List Span)) → IfErr result (Refuses inst (place.nodes lists (box ∷ boxes)) (form.Cost list)) }
+    ensures err { (inst : Tables) (box : List Span) (boxes : List (List Span))
+        → IfErr result (Refuses inst (place.nodes lists (box ∷ boxes)) (form.Cost list)) }
 {
     if list > u64::from(lists) {
         return Err(Refusal::OutOfRange);
@@ -76,7 +79,8 @@ fn cost_of(lists: u32, list: u64) -> Result<Node, Refusal>
 
 fn band_of(inst: &Instance, c: u64, t: u64, side: Side) -> Result<Node, Refusal>
     ensures ok { (lists : ℕ) (box : List Span) → IfOk result (IsNodeOf inst.now lists box (form.Band c t side)) }
-    ensures err { (lists : ℕ) (box : List Span) (boxes : List (List Span)) → IfErr result (Refuses inst.now (place.nodes lists (box ∷ boxes)) (form.Band c t side)) }
+    ensures err { (lists : ℕ) (box : List Span) (boxes : List (List Span))
+        → IfErr result (Refuses inst.now (place.nodes lists (box ∷ boxes)) (form.Band c t side)) }
 {
     if !counts_to(c, inst.resources()) || !counts_to(t, inst.periods()) {
         return Err(Refusal::OutOfRange);
@@ -90,7 +94,8 @@ fn band_of(inst: &Instance, c: u64, t: u64, side: Side) -> Result<Node, Refusal>
 
 fn excl_of(inst: &Instance, e: u64) -> Result<Node, Refusal>
     ensures ok { (lists : ℕ) (box : List Span) → IfOk result (IsNodeOf inst.now lists box (form.Excl e)) }
-    ensures err { (lists : ℕ) (box : List Span) (boxes : List (List Span)) → IfErr result (Refuses inst.now (place.nodes lists (box ∷ boxes)) (form.Excl e)) }
+    ensures err { (lists : ℕ) (box : List Span) (boxes : List (List Span))
+        → IfErr result (Refuses inst.now (place.nodes lists (box ∷ boxes)) (form.Excl e)) }
 {
     if !counts_to(e, inst.exclusions()) {
         return Err(Refusal::OutOfRange);
@@ -100,7 +105,8 @@ fn excl_of(inst: &Instance, e: u64) -> Result<Node, Refusal>
 
 fn empty_of(inst: &Instance, i: u64) -> Result<Node, Refusal>
     ensures ok { (lists : ℕ) (box : List Span) → IfOk result (IsNodeOf inst.now lists box (form.Empty i)) }
-    ensures err { (lists : ℕ) (box : List Span) (boxes : List (List Span)) → IfErr result (Refuses inst.now (place.nodes lists (box ∷ boxes)) (form.Empty i)) }
+    ensures err { (lists : ℕ) (box : List Span) (boxes : List (List Span))
+        → IfErr result (Refuses inst.now (place.nodes lists (box ∷ boxes)) (form.Empty i)) }
 {
     if !counts_to(i, inst.interventions()) {
         return Err(Refusal::OutOfRange);

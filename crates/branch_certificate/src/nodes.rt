@@ -1,4 +1,4 @@
-// The nodes of a certificate.
+//! The nodes of a certificate.
 ghost use Rattle.std.specs.Prelude.{◌≡◌, ◌<◌, List, [], ◌∷◌, length, map, IfOk, IfErr, OnOk};
 ghost use Rattle.lagrange_bound.specs.declared.span.Span.{Span};
 ghost use Rattle.branch_tree.specs.Trees.{root_box};
@@ -22,7 +22,8 @@ pub fn read_nodes(
     lists: u32,
     lines: &mut Lines<'_>,
 ) -> Result<Nodes, CertFault>
-    ensures ok { IfOk result (λ nodes. Passes inst.now (place.nodes lists (root_box inst.now ∷ [])) lines.old (map node_line nodes) (place.nodes lists []) lines.new) }
+    ensures ok { IfOk result (λ nodes. Passes inst.now (place.nodes lists (root_box inst.now ∷ [])) lines.old
+        (map node_line nodes) (place.nodes lists []) lines.new) }
     ensures err { IfErr result (Fails inst.now (place.nodes lists (root_box inst.now ∷ [])) lines.old) }
 {
     let mut path = BoxPath::root(alloc, inst)?;
@@ -61,7 +62,8 @@ fn read_node(
     requires each { length spans.now ≡ length inst.now.names }
     ensures ok { IfOk result (λ node. ReadsLine lines.old lines.new (node_line node)) }
     ensures in_range { IfOk result (λ node. IsNodeOf inst.now lists spans.now (node_line node) node) }
-    ensures err { (boxes : List (List Span)) → IfErr result (Fails inst.now (place.nodes lists (spans.now ∷ boxes)) lines.old) }
+    ensures err { (boxes : List (List Span))
+        → IfErr result (Fails inst.now (place.nodes lists (spans.now ∷ boxes)) lines.old) }
 {
     let line = lines.next_line(alloc)?;
     match node_of(inst, lists, spans, &line) {

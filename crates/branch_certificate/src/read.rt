@@ -1,4 +1,4 @@
-// A certificate is read from its text.
+//! A certificate is read from its text.
 ghost use Rattle.std.specs.Prelude.{◌≡◌, ◌≢◌, ◌⊎◌, Ok, Err, IfOk, IfErr};
 ghost use Rattle.branch_tree.specs.declared.certificate.Certificate.{Certificate};
 ghost use Rattle.certificate_text.specs.Grammar as place;
@@ -25,11 +25,14 @@ pub fn read_certificate(
 ) -> Result<Certificate, CertFault>
     // What is read is in range and spelled so, and what is spelled is read.
     ensures found { IfOk result (IsTextOf inst.now bytes.now) }
-    ensures complete { (cert : Certificate) → IsTextOf inst.now bytes.now cert → (result ≡ Ok cert) ⊎ (result ≡ Err Memory) }
+    ensures complete { (cert : Certificate) → IsTextOf inst.now bytes.now cert
+        → (result ≡ Ok cert) ⊎ (result ≡ Err Memory) }
 
-    // What is told is the text's fault, and a fault is told. A text has at most one, and that of a certificate has none.
+    // What is told is the text's fault, and a fault is told. A text has at most
+    // one, and that of a certificate has none.
     ensures fault { (fault : CertFault) → result ≡ Err fault → fault ≢ Memory → HasCertFault inst.now bytes.now fault }
-    ensures refused { (fault : CertFault) → HasCertFault inst.now bytes.now fault → (result ≡ Err fault) ⊎ (result ≡ Err Memory) }
+    ensures refused { (fault : CertFault) → HasCertFault inst.now bytes.now fault
+        → (result ≡ Err fault) ⊎ (result ≡ Err Memory) }
 {
     inst.fits();
     texts_tell();

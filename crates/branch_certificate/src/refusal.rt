@@ -1,4 +1,4 @@
-// Why a line is refused where it stands.
+//! Why a line is refused where it stands.
 
 /// Why a line is refused where it stands.
 #[derive(Clone, Copy, Debug, PartialEq, Eq)]

@@ -32,4 +32,5 @@ some_extreme side f (k ∷ ks) = Some (extreme_over side f (k ∷ ks))
 
 -- the sum of the loads of resource c in period t, over the allowed starts of each interval
 abbrev pub extreme_load : Tables → List Span → ℕ → ℕ → Side → ℤ
-extreme_load inst box c t side = sum_below (length inst.names) (λ i. extreme_over side (load_by_start inst c t i) (starts_in inst i (span_of box i)))
+extreme_load inst box c t side =
+    sum_below (length inst.names) (λ i. extreme_over side (load_by_start inst c t i) (starts_in inst i (span_of box i)))

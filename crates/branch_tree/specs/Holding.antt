@@ -1,5 +1,6 @@
 -- When a leaf holds on its box.
-use Rattle.std.specs.Prelude.{◌≡◌, ℕ, zero, suc, ◌<◌, ◌≤◌, ℤ, ◌<ℤ◌, ◌≤ℤ◌, List, length, map, Some, IsTrue, slice_index_or}
+use Rattle.std.specs.Prelude.{◌≡◌, ℕ, zero, suc, ◌<◌, ◌≤◌, ℤ, ◌<ℤ◌, ◌≤ℤ◌, List, length, map, Some, IsTrue}
+use Rattle.std.specs.Prelude.{slice_index_or}
 use Rattle.instance_model.specs.Tables.{Tables, in_run, upper_of, lower_of, in_season_of, exclusion_of}
 use Rattle.instance_model.specs.Rules.{IsFeasible}
 use Rattle.duration_calendar.specs.Calendar.{IsAllowedIn}
@@ -33,7 +34,8 @@ list_at inst lists zero = zero_list inst
 list_at inst lists (suc j) = slice_index_or lists j (zero_list inst)
 
 -- each interval has an allowed start, and the worth by list j is at least the bound
-pub record CostHolds (base : Bases) (inst : Tables) (bound : Bound) (lists : List PriceList) (box : List Span) (j : ℕ) : Type 0 where
+pub record CostHolds (base : Bases) (inst : Tables) (bound : Bound) (lists : List PriceList)
+    (box : List Span) (j : ℕ) : Type 0 where
   pub starts : HasStarts inst box
   pub worth : IsAtLeast bound (worth_of (base inst (list_at inst lists j)) inst (list_at inst lists j) box)
 
@@ -77,7 +79,9 @@ pub record RunsMeet (inst : Tables) (q i s j r t : ℕ) : Type 0 where
 -- each pair of allowed starts, one of each of the two interventions of exclusion e, meets in a period of its season
 abbrev pub ExclHolds : Tables → List Span → ℕ → Type 0
 ExclHolds inst box e =
-    (s r : ℕ) → IsStartIn inst box (exclusion_of inst e).first s → IsStartIn inst box (exclusion_of inst e).second r → (t : ℕ) × RunsMeet inst (exclusion_of inst e).season (exclusion_of inst e).first s (exclusion_of inst e).second r t
+    (s r : ℕ) → IsStartIn inst box (exclusion_of inst e).first s → IsStartIn inst box (exclusion_of inst e).second r
+    → (t : ℕ)
+    × RunsMeet inst (exclusion_of inst e).season (exclusion_of inst e).first s (exclusion_of inst e).second r t
 
 -- ---- empty
 

@@ -15,12 +15,14 @@ use Rattle.branch_tree.specs.Validity.{IsValid, BoundsPlans}
 
 -- a valid certificate in range bounds every feasible plan
 abbrev pub ValidBoundsPlans : Bases → PlanValue → Type 0
-ValidBoundsPlans base value = (inst : Tables) (cert : Certificate) → IsFitting inst → IsInRange inst cert → IsValid base value inst cert → BoundsPlans value inst cert.bound
+ValidBoundsPlans base value = (inst : Tables) (cert : Certificate) → IsFitting inst → IsInRange inst cert
+    → IsValid base value inst cert → BoundsPlans value inst cert.bound
 
 -- each plan of a box lies in one of the two parts of its split
 abbrev pub PartsHoldPlans : Type 0
 PartsHoldPlans =
-    (inst : Tables) (box : List Span) (i m : ℕ) (starts : List ℕ) → length box ≡ length inst.names → IsSplit box i m → IsPlanIn inst box starts → IsPlanIn inst (below box i m) starts ⊎ IsPlanIn inst (above box i m) starts
+    (inst : Tables) (box : List Span) (i m : ℕ) (starts : List ℕ) → length box ≡ length inst.names → IsSplit box i m
+    → IsPlanIn inst box starts → IsPlanIn inst (below box i m) starts ⊎ IsPlanIn inst (above box i m) starts
 
 -- each list of starts in a box lies in one of the two parts of its split, feasible or not
 abbrev pub PartsHoldStarts : Type 0
@@ -30,12 +32,14 @@ PartsHoldStarts =
 
 -- the two parts of a box of an instance are such boxes
 abbrev pub PartsAreBoxes : Type 0
-PartsAreBoxes = (inst : Tables) (box : List Span) (i m : ℕ) → IsBox inst box → IsSplit box i m → IsBox inst (below box i m) × IsBox inst (above box i m)
+PartsAreBoxes = (inst : Tables) (box : List Span) (i m : ℕ) → IsBox inst box → IsSplit box i m
+    → IsBox inst (below box i m) × IsBox inst (above box i m)
 
 -- the same nodes are those of one tree
 abbrev pub NodesAreOneTree : Type 0
 NodesAreOneTree =
-    (inst : Tables) (lists : ℕ) (box : List Span) (nodes : List Node) (t u : Tree) → AreNodesOf inst lists box t nodes → AreNodesOf inst lists box u nodes → t ≡ u
+    (inst : Tables) (lists : ℕ) (box : List Span) (nodes : List Node) (t u : Tree) → AreNodesOf inst lists box t nodes
+    → AreNodesOf inst lists box u nodes → t ≡ u
 
 -- ---- leaves
 
@@ -59,7 +63,8 @@ HasNoPlan inst box = (starts : List ℕ) → ¬ IsPlanIn inst box starts
 -- a box on which a `band` leaf holds has no feasible plan
 abbrev pub BandLeavesNoPlan : Type 0
 BandLeavesNoPlan =
-    (inst : Tables) (box : List Span) (c t : ℕ) (side : Side) → c < length inst.resource_names → 1 ≤ t → t ≤ inst.periods
+    (inst : Tables) (box : List Span) (c t : ℕ) (side : Side) → c < length inst.resource_names
+    → 1 ≤ t → t ≤ inst.periods
     → BandHolds inst box c t side → HasNoPlan inst box
 
 -- nor has one on which an `excl` leaf holds

@@ -19,8 +19,10 @@ load_by_start inst c t i s = load_at inst c t i (Some s)
 
 -- the sum of the least loads of resource c in period t over the allowed starts of each interval
 unfoldable pub least_load : Tables → List Span → ℕ → ℕ → ℤ
-least_load inst box c t = sum_below (length inst.names) (λ i. least_over (load_by_start inst c t i) (starts_in inst i (span_of box i)))
+least_load inst box c t =
+    sum_below (length inst.names) (λ i. least_over (load_by_start inst c t i) (starts_in inst i (span_of box i)))
 
 -- the sum of the greatest ones
 unfoldable pub greatest_load : Tables → List Span → ℕ → ℕ → ℤ
-greatest_load inst box c t = sum_below (length inst.names) (λ i. greatest_over (load_by_start inst c t i) (starts_in inst i (span_of box i)))
+greatest_load inst box c t =
+    sum_below (length inst.names) (λ i. greatest_over (load_by_start inst c t i) (starts_in inst i (span_of box i)))

@@ -15,6 +15,8 @@ MeetsAt inst q window i s = (t : ℕ) × IsMeeting inst q window (run_of inst i 
 abbrev pub MeetsEach : Tables → ℕ → Window → ℕ → Span → Type 0
 MeetsEach inst q window i span = (s : ℕ) → IsAllowedIn inst i span.from span.to s → MeetsAt inst q window i s
 
--- the run of the first intervention at each allowed start of an interval meets that of the second at each one of another
+-- the run of the first intervention at each allowed start of an interval
+-- meets that of the second at each one of another
 abbrev pub EachMeetsEach : Tables → Exclusion → Span → Span → Type 0
-EachMeetsEach inst x first second = (s : ℕ) → IsAllowedIn inst x.first first.from first.to s → MeetsEach inst x.season (run_of inst x.first s) x.second second
+EachMeetsEach inst x first second = (s : ℕ) → IsAllowedIn inst x.first first.from first.to s
+    → MeetsEach inst x.season (run_of inst x.first s) x.second second

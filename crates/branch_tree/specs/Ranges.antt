@@ -24,7 +24,8 @@ IsLeafInRange inst lists (Empty i) = i < length inst.names
 -- each split of the tree is inside an interval of its box, and the numbers of each leaf are in range
 abbrev pub IsTreeInRange : Tables → ℕ → List Span → Tree → Type 0
 IsTreeInRange inst lists box (leaf n) = IsLeafInRange inst lists n
-IsTreeInRange inst lists box (split i m l r) = IsSplit box i m × IsTreeInRange inst lists (below box i m) l × IsTreeInRange inst lists (above box i m) r
+IsTreeInRange inst lists box (split i m l r) =
+    IsSplit box i m × IsTreeInRange inst lists (below box i m) l × IsTreeInRange inst lists (above box i m) r
 
 -- the nodes are those of a tree in range over a box
 pub record AreNodesOf (inst : Tables) (lists : ℕ) (box : List Span) (t : Tree) (nodes : List Node) : Type 0 where

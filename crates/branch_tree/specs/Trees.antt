@@ -1,5 +1,5 @@
--- Trees of boxes. A split of intervention i after start m has a left part with the starts up to m, and a right part with those
--- from m + 1 on.
+-- Trees of boxes. A split of intervention i after start m has a left part with the starts up to m,
+-- and a right part with those from m + 1 on.
 use Rattle.std.specs.Prelude.{◌≡◌, ℕ, ◌+◌, ◌<◌, ◌≤◌, List, [], ◌∷◌, ◌++◌, length, map, slice_index, slice_set}
 use Rattle.std.specs.List.{range_with_len}
 use Rattle.instance_model.specs.Tables.{Tables, tmax}

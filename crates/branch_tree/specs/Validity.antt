@@ -35,4 +35,5 @@ pub record IsFirstFailing (base : Bases) (value : PlanValue) (inst : Tables) (ce
 -- every feasible plan has a value of at least the bound; where that is none, there is no feasible plan
 abbrev pub BoundsPlans : PlanValue → Tables → Bound → Type 0
 BoundsPlans value inst bound =
-    (starts : List ℕ) → length starts ≡ length inst.names → IsFeasible inst (map Some starts) → IsAtLeast bound (value inst starts)
+    (starts : List ℕ) → length starts ≡ length inst.names → IsFeasible inst (map Some starts)
+    → IsAtLeast bound (value inst starts)

@@ -1,5 +1,6 @@
--- The boxes that wait on a walk through a tree: the one at hand and those behind it, kept as intervals that were changed.
--- `first_box` and `other_boxes` are what contracts cite, `boxes_of` and `IsPath` how a walk is seen; the rest is no part of any promise.
+-- The boxes that wait on a walk through a tree: the one at hand and those behind it, kept as intervals that
+-- were changed. `first_box` and `other_boxes` are what contracts cite, `boxes_of` and `IsPath` how a walk
+-- is seen; the rest is no part of any promise.
 use Rattle.std.specs.Prelude.{ℕ, ◌+◌, ◌<◌, List, [], ◌∷◌, length, reverse, slice_set, cond, All}
 use Rattle.lagrange_bound.specs.declared.span.Span.{Span}
 use Rattle.branch_tree.specs.declared.box_path.Change.{Change}
@@ -28,7 +29,8 @@ right_of box c = slice_set box c.i (record { from = c.last + 1; to = c.to })
 -- the boxes that wait behind a box, the last change first
 abbrev pub waiting_after : List Span → List Change → List (List Span)
 waiting_after box [] = []
-waiting_after box (c ∷ cs) = cond c.waits (right_of box c ∷ waiting_after (undone box c) cs) (waiting_after (undone box c) cs)
+waiting_after box (c ∷ cs) =
+    cond c.waits (right_of box c ∷ waiting_after (undone box c) cs) (waiting_after (undone box c) cs)
 
 -- the boxes of a path
 abbrev pub boxes_of : Inside → List (List Span)

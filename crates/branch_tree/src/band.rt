@@ -83,8 +83,8 @@ fn extreme_load_of(inst: &Instance, spans: &[Span], c: u32, t: u32, side: Side) 
     Some(sum)
 }
 
-/// Whether each interval has an allowed start, and whatever they are, the load of resource `c` in period `t` leaves the limit of
-/// this side. An interval may end before it begins: it has no start then. Takes no memory.
+/// Whether each interval has an allowed start, and whatever they are, the load of resource `c` in period `t` leaves the
+/// limit of this side. An interval may end before it begins: it has no start then. Takes no memory.
 pub fn band_holds(inst: &Instance, spans: &[Span], c: u32, t: u32, side: Side) -> bool
     requires each { length spans.now ≡ length inst.now.names }
     requires ends { (i : ℕ) → i < length inst.now.names → (span_of spans.now i).to ≤ tmax inst.now i }

@@ -21,7 +21,8 @@ struct Change {
 
 /// A walk through a tree of boxes: the box at hand, and what is left of the walk.
 ///
-/// Seen as the list of the boxes that wait, the one at hand first. It is kept as one box and a change for each level above it.
+/// Seen as the list of the boxes that wait, the one at hand first. It is kept as one
+/// box and a change for each level above it.
 #[derive(Drop)]
 pub struct BoxPath {
     spans: Vec<Span>,
@@ -45,7 +46,9 @@ impl Model for BoxPath {
 /// Goes to the next box that waits, and says whether there was one.
 fn next_part(spans: &mut [Span], changes: &mut Vec<Change>) -> bool
     requires { All (IsChange (length spans.old)) changes.old.items }
-    ensures next { OnTrue result (waiting_after spans.old (reverse changes.old.items) ≡ spans.new ∷ waiting_after spans.new (reverse changes.new.items)) }
+    ensures next { OnTrue result
+        (waiting_after spans.old (reverse changes.old.items)
+        ≡ spans.new ∷ waiting_after spans.new (reverse changes.new.items)) }
     ensures none { OnFalse result (waiting_after spans.old (reverse changes.old.items) ≡ []) }
     ensures changes { All (IsChange (length spans.new)) changes.new.items }
 {
@@ -118,7 +121,8 @@ impl BoxPath {
     pub fn split(&mut self, i: u32, last: u32) -> Result<(), AllocError>
         requires some { 0 < length self.old }
         requires splits { IsSplit (first_box self.old) i last }
-        ensures done { OnOk result (self.new ≡ below (first_box self.old) i last ∷ above (first_box self.old) i last ∷ other_boxes self.old) }
+        ensures done { OnOk result
+            (self.new ≡ below (first_box self.old) i last ∷ above (first_box self.old) i last ∷ other_boxes self.old) }
         ensures kept { OnErr result (self.new ≡ self.old) }
     {
         let span = self.spans[i as usize];

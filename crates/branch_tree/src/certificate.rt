@@ -2,7 +2,8 @@
 use crate::{Nodes, PriceLists};
 use certificate_lines::{Bound, Version};
 
-/// A bound on the values of all feasible plans, or that there is no such plan, with price lists and a tree that prove it.
+/// A bound on the values of all feasible plans, or that there is no such plan,
+/// with price lists and a tree that prove it.
 #[derive(Drop)]
 pub struct Certificate {
     pub version: Version,

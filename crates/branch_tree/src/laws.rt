@@ -1,5 +1,7 @@
-// Laws of trees and certificates. The functions do nothing: the contract is the law.
-ghost use Rattle.branch_tree.specs.Laws.{PartsHoldPlans, PartsHoldStarts, PartsAreBoxes, NodesAreOneTree, LeavesHoldStarts, RootHoldsStarts, BandLeavesNoPlan, ExclLeavesNoPlan, EmptyLeavesNoPlan, ValidBoundsPlans};
+//! Laws of trees and certificates. The functions do nothing: the contract is the law.
+ghost use Rattle.branch_tree.specs.Laws.{PartsHoldPlans, PartsHoldStarts, PartsAreBoxes, NodesAreOneTree};
+ghost use Rattle.branch_tree.specs.Laws.{LeavesHoldStarts, RootHoldsStarts, BandLeavesNoPlan, ExclLeavesNoPlan};
+ghost use Rattle.branch_tree.specs.Laws.{EmptyLeavesNoPlan, ValidBoundsPlans};
 
 use lagrange_bound::{Goal, worth_bounds_plans};
 
@@ -37,8 +39,8 @@ pub fn leaves_refute_plans()
     ensures empty { EmptyLeavesNoPlan }
 {}
 
-/// A valid certificate in range bounds every feasible plan, whatever the goal is: each has a value of at least the bound, and
-/// where the bound is none, there is no feasible plan.
+/// A valid certificate in range bounds every feasible plan, whatever the goal is: each has a value of at least the
+/// bound, and where the bound is none, there is no feasible plan.
 pub fn valid_bounds_plans<G: Goal>(goal: &G)
     ensures { ValidBoundsPlans (G.base_gives goal.now) (G.value_gives goal.now) }
 {

@@ -1,9 +1,9 @@
-//! Certificates of a lower bound as trees of boxes: what a certificate is, when it is valid, and that a valid one bounds every
-//! feasible plan.
+//! Certificates of a lower bound as trees of boxes: what a certificate is, when it is valid, and
+//! that a valid one bounds every feasible plan.
 //!
-//! A box has an interval of starts for each intervention. A node is a split of one interval into two, or a leaf that says why
-//! no plan of its box is feasible with a value below the bound. Interventions, resources and exclusions count from 0; periods,
-//! starts, price lists and leaves count from 1, and price list 0 is the list of zeros.
+//! A box has an interval of starts for each intervention. A node is a split of one interval into two, or a leaf that
+//! says why no plan of its box is feasible with a value below the bound. Interventions, resources and exclusions count
+//! from 0; periods, starts, price lists and leaves count from 1, and price list 0 is the list of zeros.
 #![tactic(auto)]
 
 mod band;

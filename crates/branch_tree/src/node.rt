@@ -9,14 +9,16 @@ use std::marker::Model;
 pub enum Node {
     /// The left part has the starts of intervention `i` up to `last`, the right part those after it.
     Split { i: u32, last: u32 },
-    /// Each interval has an allowed start, the bound is a number, and the worth of the box by a price list is at least it.
+    /// Each interval has an allowed start, the bound is a number, and the worth of
+    /// the box by a price list is at least it.
     Cost { list: u32 },
     /// The box is a single plan, which isn't feasible or has a value of at least the bound.
     Point,
-    /// Each interval has an allowed start, and whatever they are, the load of resource `c` in period `t` leaves the limit of this
-    /// side.
+    /// Each interval has an allowed start, and whatever they are, the load of resource `c` in
+    /// period `t` leaves the limit of this side.
     Band { c: u32, t: u32, side: Side },
-    /// Each pair of allowed starts, one of each of the two interventions of exclusion `e`, meets in a period of its season.
+    /// Each pair of allowed starts, one of each of the two interventions of exclusion
+    /// `e`, meets in a period of its season.
     Excl { e: u32 },
     /// The interval of intervention `i` has no allowed start.
     Empty { i: u32 },

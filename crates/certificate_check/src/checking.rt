@@ -50,8 +50,8 @@ fn verdict_of<G: Goal>(
 
 /// Whether a certificate is valid for a goal.
 ///
-/// Takes memory for a table of each price list, for one box and a change for each level of the tree, and for the plan and the
-/// value of a point.
+/// Takes memory for a table of each price list, for one box and a change for each level of the tree,
+/// and for the plan and the value of a point.
 pub fn check_for<G: Goal>(
     alloc: Global,
     goal: &G,
@@ -66,7 +66,8 @@ pub fn check_for<G: Goal>(
         IsVerdict (G.base_gives goal.now) (G.value_gives goal.now) inst.now cert.now other → other ≡ verdict) }
 
     // Where the certificate is valid, no feasible plan has a value below its bound.
-    ensures bounds { IfOk result (λ verdict. verdict ≡ Valid → BoundsPlans (G.value_gives goal.now) inst.now cert.now.bound) }
+    ensures bounds { IfOk result
+        (λ verdict. verdict ≡ Valid → BoundsPlans (G.value_gives goal.now) inst.now cert.now.bound) }
 {
     inst.fits();
     nodes_are_one_tree();

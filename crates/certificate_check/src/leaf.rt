@@ -27,7 +27,8 @@ pub(crate) fn leaf_holds<G: Goal>(
     requires spans { IsBox inst.now spans.now }
     requires leaf { IsLeafInRange inst.now (length cert.now.lists) leaf }
     ensures { IfOk result (λ b. IsTrue b ↔
-        LeafHolds (G.base_gives goal.now) (G.value_gives goal.now) inst.now cert.now.bound cert.now.lists spans.now leaf) }
+        LeafHolds (G.base_gives goal.now) (G.value_gives goal.now) inst.now cert.now.bound cert.now.lists
+        spans.now leaf) }
 {
     match leaf {
         Node::Split { .. } => unreachable!(),

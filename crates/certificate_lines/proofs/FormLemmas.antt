@@ -58,35 +58,43 @@ operands_break (line.Excl e) = refl
 operands_break (line.Empty i) = refl
 
 -- a line of this keyword has this form
-pub only_title : (x : CertificateLine) → keyword_of x ≡ key.Title → (P : CertificateLine → Type 0) → ((version : Version) → P (line.Title version)) → P x
+pub only_title : (x : CertificateLine) → keyword_of x ≡ key.Title → (P : CertificateLine → Type 0)
+    → ((version : Version) → P (line.Title version)) → P x
 only_title (line.Title version) is P h = h version
 only_title x is P h = absurd (cc)
 
-pub only_bound : (x : CertificateLine) → keyword_of x ≡ key.Bound → (P : CertificateLine → Type 0) → ((bound : Bound) → P (line.Bound bound)) → P x
+pub only_bound : (x : CertificateLine) → keyword_of x ≡ key.Bound → (P : CertificateLine → Type 0)
+    → ((bound : Bound) → P (line.Bound bound)) → P x
 only_bound (line.Bound bound) is P h = h bound
 only_bound x is P h = absurd (cc)
 
-pub only_lists : (x : CertificateLine) → keyword_of x ≡ key.Lists → (P : CertificateLine → Type 0) → ((count : ℕ) → P (line.Lists count)) → P x
+pub only_lists : (x : CertificateLine) → keyword_of x ≡ key.Lists → (P : CertificateLine → Type 0)
+    → ((count : ℕ) → P (line.Lists count)) → P x
 only_lists (line.Lists count) is P h = h count
 only_lists x is P h = absurd (cc)
 
-pub only_prices : (x : CertificateLine) → keyword_of x ≡ key.Prices → (P : CertificateLine → Type 0) → P line.Prices → P x
+pub only_prices : (x : CertificateLine) → keyword_of x ≡ key.Prices
+    → (P : CertificateLine → Type 0) → P line.Prices → P x
 only_prices line.Prices is P h = h
 only_prices x is P h = absurd (cc)
 
-pub only_up : (x : CertificateLine) → keyword_of x ≡ key.Up → (P : CertificateLine → Type 0) → ((c : ℕ) (t : ℕ) (v : ℕ) → P (line.Up c t v)) → P x
+pub only_up : (x : CertificateLine) → keyword_of x ≡ key.Up → (P : CertificateLine → Type 0)
+    → ((c : ℕ) (t : ℕ) (v : ℕ) → P (line.Up c t v)) → P x
 only_up (line.Up c t v) is P h = h c t v
 only_up x is P h = absurd (cc)
 
-pub only_lo : (x : CertificateLine) → keyword_of x ≡ key.Lo → (P : CertificateLine → Type 0) → ((c : ℕ) (t : ℕ) (v : ℕ) → P (line.Lo c t v)) → P x
+pub only_lo : (x : CertificateLine) → keyword_of x ≡ key.Lo → (P : CertificateLine → Type 0)
+    → ((c : ℕ) (t : ℕ) (v : ℕ) → P (line.Lo c t v)) → P x
 only_lo (line.Lo c t v) is P h = h c t v
 only_lo x is P h = absurd (cc)
 
-pub only_tail : (x : CertificateLine) → keyword_of x ≡ key.Tail → (P : CertificateLine → Type 0) → ((t : ℕ) (weight : ℕ) (places : List ℕ) → P (line.Tail t weight places)) → P x
+pub only_tail : (x : CertificateLine) → keyword_of x ≡ key.Tail → (P : CertificateLine → Type 0)
+    → ((t : ℕ) (weight : ℕ) (places : List ℕ) → P (line.Tail t weight places)) → P x
 only_tail (line.Tail t weight places) is P h = h t weight places
 only_tail x is P h = absurd (cc)
 
-pub only_ex : (x : CertificateLine) → keyword_of x ≡ key.Ex → (P : CertificateLine → Type 0) → ((e : ℕ) (t : ℕ) (v : ℕ) → P (line.Ex e t v)) → P x
+pub only_ex : (x : CertificateLine) → keyword_of x ≡ key.Ex → (P : CertificateLine → Type 0)
+    → ((e : ℕ) (t : ℕ) (v : ℕ) → P (line.Ex e t v)) → P x
 only_ex (line.Ex e t v) is P h = h e t v
 only_ex x is P h = absurd (cc)
 
@@ -94,11 +102,13 @@ pub only_tree : (x : CertificateLine) → keyword_of x ≡ key.Tree → (P : Cer
 only_tree line.Tree is P h = h
 only_tree x is P h = absurd (cc)
 
-pub only_split : (x : CertificateLine) → keyword_of x ≡ key.Split → (P : CertificateLine → Type 0) → ((i : ℕ) (last : ℕ) → P (line.Split i last)) → P x
+pub only_split : (x : CertificateLine) → keyword_of x ≡ key.Split → (P : CertificateLine → Type 0)
+    → ((i : ℕ) (last : ℕ) → P (line.Split i last)) → P x
 only_split (line.Split i last) is P h = h i last
 only_split x is P h = absurd (cc)
 
-pub only_cost : (x : CertificateLine) → keyword_of x ≡ key.Cost → (P : CertificateLine → Type 0) → ((list : ℕ) → P (line.Cost list)) → P x
+pub only_cost : (x : CertificateLine) → keyword_of x ≡ key.Cost → (P : CertificateLine → Type 0)
+    → ((list : ℕ) → P (line.Cost list)) → P x
 only_cost (line.Cost list) is P h = h list
 only_cost x is P h = absurd (cc)
 
@@ -106,15 +116,18 @@ pub only_point : (x : CertificateLine) → keyword_of x ≡ key.Point → (P : C
 only_point line.Point is P h = h
 only_point x is P h = absurd (cc)
 
-pub only_band : (x : CertificateLine) → keyword_of x ≡ key.Band → (P : CertificateLine → Type 0) → ((c : ℕ) (t : ℕ) (side : Side) → P (line.Band c t side)) → P x
+pub only_band : (x : CertificateLine) → keyword_of x ≡ key.Band → (P : CertificateLine → Type 0)
+    → ((c : ℕ) (t : ℕ) (side : Side) → P (line.Band c t side)) → P x
 only_band (line.Band c t side) is P h = h c t side
 only_band x is P h = absurd (cc)
 
-pub only_excl : (x : CertificateLine) → keyword_of x ≡ key.Excl → (P : CertificateLine → Type 0) → ((e : ℕ) → P (line.Excl e)) → P x
+pub only_excl : (x : CertificateLine) → keyword_of x ≡ key.Excl → (P : CertificateLine → Type 0)
+    → ((e : ℕ) → P (line.Excl e)) → P x
 only_excl (line.Excl e) is P h = h e
 only_excl x is P h = absurd (cc)
 
-pub only_empty : (x : CertificateLine) → keyword_of x ≡ key.Empty → (P : CertificateLine → Type 0) → ((i : ℕ) → P (line.Empty i)) → P x
+pub only_empty : (x : CertificateLine) → keyword_of x ≡ key.Empty → (P : CertificateLine → Type 0)
+    → ((i : ℕ) → P (line.Empty i)) → P x
 only_empty (line.Empty i) is P h = h i
 only_empty x is P h = absurd (cc)
 
@@ -127,6 +140,8 @@ side_break Over = refl
 side_break Under = refl
 
 -- a text that spells a line is cut into its keyword and what follows it
-pub line_cut : (line : CertificateLine) (text first rest : List ℕ) → text ≡ first ++ rest → All (λ b. b ≢ 32) first → IsBreak rest → text ≡ spelling line → (first ≡ keyword_text (keyword_of line)) × (rest ≡ operands line)
+pub line_cut : (line : CertificateLine) (text first rest : List ℕ) → text ≡ first ++ rest → All (λ b. b ≢ 32) first
+    → IsBreak rest → text ≡ spelling line → (first ≡ keyword_text (keyword_of line)) × (rest ≡ operands line)
 line_cut line text first rest cut whole b e =
-    cut_behind first rest (keyword_text (keyword_of line)) (operands line) whole (keyword_whole (keyword_of line)) b (operands_break line) (sym cut ∙ e ∙ spelled line)
+    cut_behind first rest (keyword_text (keyword_of line)) (operands line) whole (keyword_whole (keyword_of line)) b
+    (operands_break line) (sym cut ∙ e ∙ spelled line)

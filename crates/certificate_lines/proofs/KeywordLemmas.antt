@@ -1,15 +1,18 @@
 -- The keywords.
-use Rattle.std.proofs.Common.{◌≡◌, ◌≢◌, ℕ, ◌<◌, ◌≤◌, cond, List, [], ◌∷◌, slice_index_or, refl, sym, ◌∙◌, ap, arith, rules}
+use Rattle.std.proofs.Common.{◌≡◌, ◌≢◌, ℕ, ◌<◌, ◌≤◌, cond, List, [], ◌∷◌, slice_index_or, refl, sym, ◌∙◌, ap, arith}
+use Rattle.std.proofs.Common.{rules}
 use Rattle.std.specs.List.{All}
 use Rattle.std.specs.Str.{bytes_eq}
 use Rattle.std.proofs.lemmas.List.Elements.{All-from_recursion, All-weaker}
 use Rattle.certificate_lines.specs.declared.keyword.Keyword.{Keyword}
-use Rattle.certificate_lines.specs.declared.keyword.Keyword.TheVariants.{Title, Bound, Lists, Prices, Up, Lo, Tail, Ex, Tree, Split, Cost, Point, Band, Excl, Empty}
+use Rattle.certificate_lines.specs.declared.keyword.Keyword.TheVariants.{Title, Bound, Lists, Prices, Up, Lo, Tail, Ex}
+use Rattle.certificate_lines.specs.declared.keyword.Keyword.TheVariants.{Tree, Split, Cost, Point, Band, Excl, Empty}
 use Rattle.certificate_lines.specs.Steps.{keyword_text}
 
 -- every keyword, in order
 abbrev pub all_keywords : List Keyword
-all_keywords = Title ∷ Bound ∷ Lists ∷ Prices ∷ Up ∷ Lo ∷ Tail ∷ Ex ∷ Tree ∷ Split ∷ Cost ∷ Point ∷ Band ∷ Excl ∷ Empty ∷ []
+all_keywords =
+    Title ∷ Bound ∷ Lists ∷ Prices ∷ Up ∷ Lo ∷ Tail ∷ Ex ∷ Tree ∷ Split ∷ Cost ∷ Point ∷ Band ∷ Excl ∷ Empty ∷ []
 
 -- its place among them
 abbrev pub place_of : Keyword → ℕ
@@ -29,7 +32,8 @@ place_of Band = 12
 place_of Excl = 13
 place_of Empty = 14
 
-pub at_place : (keyword : Keyword) → (place_of keyword < 15) × (slice_index_or all_keywords (place_of keyword) Title ≡ keyword)
+pub at_place : (keyword : Keyword) → (place_of keyword < 15)
+    × (slice_index_or all_keywords (place_of keyword) Title ≡ keyword)
 at_place Title = (omega arith, refl)
 at_place Bound = (omega arith, refl)
 at_place Lists = (omega arith, refl)
@@ -48,7 +52,19 @@ at_place Empty = (omega arith, refl)
 
 -- the keyword that has these bytes
 abbrev by_bytes : List ℕ → Keyword
-by_bytes bytes = cond (bytes_eq bytes (keyword_text Bound)) Bound (cond (bytes_eq bytes (keyword_text Lists)) Lists (cond (bytes_eq bytes (keyword_text Prices)) Prices (cond (bytes_eq bytes (keyword_text Up)) Up (cond (bytes_eq bytes (keyword_text Lo)) Lo (cond (bytes_eq bytes (keyword_text Tail)) Tail (cond (bytes_eq bytes (keyword_text Ex)) Ex (cond (bytes_eq bytes (keyword_text Tree)) Tree (cond (bytes_eq bytes (keyword_text Split)) Split (cond (bytes_eq bytes (keyword_text Cost)) Cost (cond (bytes_eq bytes (keyword_text Point)) Point (cond (bytes_eq bytes (keyword_text Band)) Band (cond (bytes_eq bytes (keyword_text Excl)) Excl (cond (bytes_eq bytes (keyword_text Empty)) Empty Title)))))))))))))
+by_bytes bytes = cond (bytes_eq bytes (keyword_text Bound)) Bound
+    (cond (bytes_eq bytes (keyword_text Lists)) Lists
+    (cond (bytes_eq bytes (keyword_text Prices)) Prices
+    (cond (bytes_eq bytes (keyword_text Up)) Up
+    (cond (bytes_eq bytes (keyword_text Lo)) Lo
+    (cond (bytes_eq bytes (keyword_text Tail)) Tail
+    (cond (bytes_eq bytes (keyword_text Ex)) Ex
+    (cond (bytes_eq bytes (keyword_text Tree)) Tree
+    (cond (bytes_eq bytes (keyword_text Split)) Split
+    (cond (bytes_eq bytes (keyword_text Cost)) Cost
+    (cond (bytes_eq bytes (keyword_text Point)) Point
+    (cond (bytes_eq bytes (keyword_text Band)) Band
+    (cond (bytes_eq bytes (keyword_text Excl)) Excl (cond (bytes_eq bytes (keyword_text Empty)) Empty Title)))))))))))))
 
 by_its_bytes : (keyword : Keyword) → by_bytes (keyword_text keyword) ≡ keyword
 by_its_bytes Title = refl
@@ -90,4 +106,5 @@ keyword_letters Excl = All-from_recursion (λ b. 97 ≤ b) (keyword_text Excl) (
 keyword_letters Empty = All-from_recursion (λ b. 97 ≤ b) (keyword_text Empty) (search rules)
 
 pub keyword_whole : (keyword : Keyword) → All (λ b. b ≢ 32) (keyword_text keyword)
-keyword_whole keyword = All-weaker (λ b. 97 ≤ b) (λ b. b ≢ 32) (λ b h e. omega (arith, h, e)) (keyword_text keyword) (keyword_letters keyword)
+keyword_whole keyword = All-weaker (λ b. 97 ≤ b) (λ b. b ≢ 32) (λ b h e. omega (arith, h, e)) (keyword_text keyword)
+    (keyword_letters keyword)

@@ -9,11 +9,13 @@ use Rattle.certificate_lines.specs.Steps.{keyword_text, keyword_of, operands}
 use Rattle.certificate_lines.proofs.FormLemmas.{spelled}
 
 -- two numbers and some more are written one after another
-pub pair_and_words : (t weight : ℕ) (places : List ℕ) → words (t ∷ weight ∷ places) ≡ words (t ∷ weight ∷ []) ++ words places
+pub pair_and_words : (t weight : ℕ) (places : List ℕ)
+    → words (t ∷ weight ∷ places) ≡ words (t ∷ weight ∷ []) ++ words places
 pair_and_words t weight places = flat_map-append word (t ∷ weight ∷ []) places
 
 -- a line with its line feed, piece by piece
-pub line_pieces : (line : CertificateLine) (keyword : Keyword) (front : List ℕ) → keyword ≡ keyword_of line → front ≡ keyword_text keyword → spelling line ++ 10 ∷ [] ≡ front ++ (operands line ++ 10 ∷ [])
+pub line_pieces : (line : CertificateLine) (keyword : Keyword) (front : List ℕ) → keyword ≡ keyword_of line
+    → front ≡ keyword_text keyword → spelling line ++ 10 ∷ [] ≡ front ++ (operands line ++ 10 ∷ [])
 line_pieces line keyword front e f =
     ap (λ xs. xs ++ 10 ∷ []) (spelled line)
     ∙ append_assoc (keyword_text (keyword_of line)) (operands line) (10 ∷ [])
@@ -21,7 +23,8 @@ line_pieces line keyword front e f =
     ∙ ap (λ xs. xs ++ (operands line ++ 10 ∷ [])) (sym f)
 
 -- the line of a tail with its line feed, piece by piece, where its numbers were made wide
-pub tail_pieces : (t weight u v : ℕ) (places front : List ℕ) → u ≡ t → v ≡ weight → front ≡ codes "tail" → spelling (Tail t weight places) ++ 10 ∷ [] ≡ front ++ (words (u ∷ v ∷ []) ++ (words places ++ 10 ∷ []))
+pub tail_pieces : (t weight u v : ℕ) (places front : List ℕ) → u ≡ t → v ≡ weight → front ≡ codes "tail"
+    → spelling (Tail t weight places) ++ 10 ∷ [] ≡ front ++ (words (u ∷ v ∷ []) ++ (words places ++ 10 ∷ []))
 tail_pieces t weight u v places front e f h =
     ap (λ xs. (codes "tail" ++ xs) ++ 10 ∷ []) (pair_and_words t weight places)
     ∙ append_assoc (codes "tail") (words (t ∷ weight ∷ []) ++ words places) (10 ∷ [])

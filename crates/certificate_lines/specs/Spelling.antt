@@ -1,4 +1,5 @@
--- How each line of a certificate is spelled, and which lines have a form. A line is spelled without its line feed. A blank is the byte 32.
+-- How each line of a certificate is spelled, and which lines have a form. A line is spelled
+-- without its line feed. A blank is the byte 32.
 use Rattle.std.specs.Prelude.{ℕ, ◌<◌, ◌^◌, ⊤, List, [], ◌∷◌, ◌++◌, All, codes, decimal, unsigned_abs}
 use Rattle.std.specs.Fmt.{signed_decimal}
 use Rattle.std.specs.List.{AllPairs, flat_map}
@@ -6,7 +7,9 @@ use Rattle.certificate_lines.specs.declared.line.Version.TheVariants.{One, Two}
 use Rattle.certificate_lines.specs.declared.line.Bound.TheVariants.{NoPlan, Least}
 use Rattle.certificate_lines.specs.declared.line.Side.TheVariants.{Over, Under}
 use Rattle.certificate_lines.specs.declared.line.CertificateLine.{CertificateLine}
-use Rattle.certificate_lines.specs.declared.line.CertificateLine.TheVariants.{Title, Bound, Lists, Prices, Up, Lo, Tail, Ex, Tree, Split, Cost, Point, Band, Excl, Empty}
+use Rattle.certificate_lines.specs.declared.line.CertificateLine.TheVariants.{Title, Bound, Lists, Prices, Up, Lo, Tail}
+use Rattle.certificate_lines.specs.declared.line.CertificateLine.TheVariants.{Ex, Tree, Split, Cost, Point, Band, Excl}
+use Rattle.certificate_lines.specs.declared.line.CertificateLine.TheVariants.{Empty}
 
 -- a number in decimal digits behind a blank
 abbrev pub word : ℕ → List ℕ

@@ -1,6 +1,5 @@
 -- What the steps of reading and writing a line say.
-use Rattle.std.specs.Prelude.{◌≡◌, ◌≢◌, ◌<◌, ◌≤◌, ℕ, ⊤, length, slice_index, All, List, [], ◌∷◌, ◌++◌, Option, Some, None, codes}
-use Rattle.std.specs.Char.{digit_value}
+use Rattle.std.specs.Prelude.{◌≡◌, ℕ, ⊤, List, [], ◌∷◌, ◌++◌, Option, Some, None, codes}
 use Rattle.std.specs.Fmt.{signed_decimal}
 use Rattle.certificate_lines.specs.declared.line.Version.{Version}
 use Rattle.certificate_lines.specs.declared.line.Bound.{Bound}
@@ -9,7 +8,9 @@ use Rattle.certificate_lines.specs.declared.line.Version.TheVariants.{One, Two}
 use Rattle.certificate_lines.specs.declared.line.Bound.TheVariants.{NoPlan, Least}
 use Rattle.certificate_lines.specs.declared.line.Side.TheVariants.{Over, Under}
 use Rattle.certificate_lines.specs.declared.line.CertificateLine.{CertificateLine}
-use Rattle.certificate_lines.specs.declared.line.CertificateLine.TheVariants.{Title, Lists, Prices, Up, Lo, Tail, Ex, Tree, Split, Cost, Point, Band, Excl, Empty}
+use Rattle.certificate_lines.specs.declared.line.CertificateLine.TheVariants.{Title, Lists, Prices, Up, Lo, Tail, Ex}
+use Rattle.certificate_lines.specs.declared.line.CertificateLine.TheVariants.{Tree, Split, Cost, Point, Band, Excl}
+use Rattle.certificate_lines.specs.declared.line.CertificateLine.TheVariants.{Empty}
 use Rattle.certificate_lines.specs.declared.line.CertificateLine.TheVariants as line
 use Rattle.certificate_lines.specs.declared.keyword.Keyword.{Keyword}
 use Rattle.certificate_lines.specs.declared.keyword.Keyword.TheVariants as key
@@ -97,10 +98,3 @@ pub record Follows (keyword : Keyword) (rest : List ℕ) (line : CertificateLine
 abbrev pub Reads : Keyword → List ℕ → Option CertificateLine → Type 0
 Reads keyword rest (Some line) = Follows keyword rest line
 Reads keyword rest None = (line : CertificateLine) → Follows keyword rest line → ⊥
-
--- the text has 1 to 37 digits, the first of them no needless zero
-pub record IsDigitText (text : List ℕ) : Type 0 where
-  pub some : 0 < length text
-  pub few : length text ≤ 37
-  pub front : 1 < length text → slice_index text 0 ≢ 48
-  pub digits : All (λ b. digit_value b < 10) text

@@ -1,11 +1,11 @@
-// The bound, whose number may have up to 37 digits.
-ghost use Rattle.std.specs.Prelude.{◌≡◌, ℕ, ℤ, ◌<◌, ◌≤◌, ◌^◌, ◌∷◌, ◌↔◌, length, IfSome, IfNone, IsTrue, decimal, unsigned_abs};
+//! The bound, whose number may have up to 37 digits.
+ghost use Rattle.std.specs.Prelude.{◌≡◌, ℕ, ℤ, ◌<◌, ◌^◌, ◌∷◌, IfSome, IfNone, decimal, unsigned_abs};
 ghost use Rattle.std.specs.Fmt.{signed_decimal};
-ghost use Rattle.std.specs.Str.Parse.{AllDigits, digits_value};
-ghost use Rattle.certificate_lines.specs.Steps.{Reads, IsDigitText};
+ghost use Rattle.certificate_lines.specs.Steps.{Reads};
 
 use crate::keyword::Keyword;
 use crate::{Bound, CertificateLine};
+use text_lines::wide_value_of_digits;
 
 /// The bound that follows its keyword.
 pub fn bound(rest: &[u8]) -> Option<CertificateLine>
@@ -60,34 +60,8 @@ fn wide_numeral(bytes: &[u8]) -> Option<u128>
     ensures small { IfSome result (λ n. n < 10 ^ 37) }
     ensures none { IfNone result ((n : ℕ) → n < 10 ^ 37 → bytes.now ≡ decimal n → ⊥) }
 {
-    if !is_digit_text(bytes) {
+    if bytes.len() > 1 && bytes[0] == b'0' {
         return None;
     }
-    Some(wide_value(bytes))
-}
-
-// Whether a text has 1 to 37 digits, and no needless zeros in front.
-fn is_digit_text(bytes: &[u8]) -> bool
-    ensures { IsTrue result ↔ IsDigitText bytes.now }
-{
-    if bytes.is_empty() || bytes.len() > 37 {
-        return false;
-    }
-    if bytes.len() > 1 && bytes[0] == b'0' {
-        return false;
-    }
-    bytes.iter().all(|byte| byte.is_ascii_digit())
-}
-
-// The number that some digits write.
-fn wide_value(digits: &[u8]) -> u128
-    requires few { length digits.now ≤ 37 }
-    requires digits { AllDigits 10 digits.now }
-    ensures { result ≡ digits_value 10 digits.now }
-{
-    let mut value = 0;
-    for digit in digits {
-        value = value * 10 + u128::from(*digit - b'0');
-    }
-    value
+    wide_value_of_digits(bytes, 37)
 }

@@ -1,4 +1,4 @@
-// The word that a line begins with.
+//! The word that a line begins with.
 ghost use Rattle.std.specs.Prelude.{◌≡◌, IfSome, IfNone};
 
 /// The keyword of a line.

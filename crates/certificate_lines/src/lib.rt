@@ -1,6 +1,7 @@
 //! The lines of a certificate: what one line may be, and its text, both ways.
 //!
-//! Contracts see a text as the list of its bytes. `spelling` says how each line is written, and `IsLine` which lines have a form.
+//! Contracts see a text as the list of its bytes. `spelling` says how each line is
+//! written, and `IsLine` which lines have a form.
 #![tactic(auto)]
 
 mod bound_number;

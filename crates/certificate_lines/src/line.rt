@@ -1,4 +1,4 @@
-// What a line of a certificate may be.
+//! What a line of a certificate may be.
 
 use crate::Numbers;
 
@@ -23,8 +23,8 @@ pub enum Side {
     Under,
 }
 
-/// A line of a certificate. Its numbers are those of the text, in which resources, interventions, exclusions, scenarios and
-/// periods count from 1.
+/// A line of a certificate. Its numbers are those of the text, in which resources, interventions,
+/// exclusions, scenarios and periods count from 1.
 #[derive(Debug, Drop)]
 pub enum CertificateLine {
     /// `mpcert 1` or `mpcert 2`.

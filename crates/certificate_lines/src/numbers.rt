@@ -1,4 +1,4 @@
-// The numbers of a line that has any number of them.
+//! The numbers of a line that has any number of them.
 ghost use Rattle.std.specs.Prelude.{◌≡◌};
 
 use std::marker::Model;

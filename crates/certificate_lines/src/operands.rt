@@ -1,4 +1,4 @@
-// What follows a keyword is read, where no memory is taken.
+//! What follows a keyword is read, where no memory is taken.
 ghost use Rattle.std.specs.Prelude.{◌≡◌, IfSome, IfNone};
 ghost use Rattle.certificate_lines.specs.Steps.{Reads, side_text};
 ghost use Rattle.certificate_lines.specs.declared.line.Side.{Side};

@@ -1,4 +1,4 @@
-// The places of a tail, which take memory.
+//! The places of a tail, which take memory.
 ghost use Rattle.std.specs.Prelude.{◌≡◌, ◌<◌, ℕ, List, All, IfOk, IfSome, IfNone, IsTrue, ◌↔◌};
 ghost use Rattle.std.specs.List.{AllPairs};
 ghost use Rattle.certificate_lines.specs.Spelling.{words, IsNumber};
@@ -32,7 +32,9 @@ fn places_of(alloc: Global, text: &[u8]) -> Result<Option<Vec<u64>>, AllocError>
     ensures found { IfOk result (λ read. IfSome read (λ places. text.now ≡ words places.items)) }
     ensures small { IfOk result (λ read. IfSome read (λ places. All IsNumber places.items)) }
     ensures ascending { IfOk result (λ read. IfSome read (λ places. AllPairs (λ k l. k < l) places.items)) }
-    ensures none { IfOk result (λ read. IfNone read ((places : List ℕ) → All IsNumber places → AllPairs (λ k l. k < l) places → text.now ≡ words places → ⊥)) }
+    ensures none { IfOk result
+        (λ read. IfNone read
+        ((places : List ℕ) → All IsNumber places → AllPairs (λ k l. k < l) places → text.now ≡ words places → ⊥)) }
 {
     let mut places = Vec::new(alloc);
     let mut rest = text;

@@ -1,4 +1,4 @@
-// A line is read from its text.
+//! A line is read from its text.
 ghost use Rattle.std.specs.Prelude.{◌≡◌, ℕ, List, ◌++◌, codes, IfOk, OnErr, IfSome, IfNone};
 ghost use Rattle.certificate_lines.specs.Spelling.{spelling, IsLine};
 ghost use Rattle.certificate_lines.specs.Steps.{Reads};
@@ -17,7 +17,8 @@ pub fn line_of(alloc: Global, text: &[u8]) -> Result<Option<CertificateLine>, Al
     ensures found { IfOk result (λ read. IfSome read (λ line. IsLine line × (text.now ≡ spelling line))) }
 
     // Where none is read, no line that has a form is spelled so.
-    ensures none { IfOk result (λ read. IfNone read ((line : CertificateLine) → IsLine line → text.now ≡ spelling line → ⊥)) }
+    ensures none { IfOk result
+        (λ read. IfNone read ((line : CertificateLine) → IsLine line → text.now ≡ spelling line → ⊥)) }
 
     // No other line is refused for memory.
     ensures memory { OnErr result ((rest : List ℕ) × (text.now ≡ codes "tail" ++ rest)) }

@@ -1,4 +1,4 @@
-// Lines read and written. Each text was written by hand.
+//! Lines read and written. Each text was written by hand.
 
 use crate::{Bound, CertificateLine, Side, Version, line_of, write_line, write_tail};
 use plan_desk::{Desk, Failed, MemDesk};

@@ -1,4 +1,4 @@
-// The words of a line, each behind one blank.
+//! The words of a line, each behind one blank.
 ghost use Rattle.std.specs.Prelude.{◌≡◌, ◌≢◌, ℕ, List, [], ◌∷◌, ◌++◌, All, IfSome, IfNone};
 ghost use Rattle.certificate_lines.specs.Spelling.{word, words, IsNumber};
 ghost use Rattle.certificate_lines.specs.Steps.{IsBreak};
@@ -58,7 +58,8 @@ pub fn two(text: &[u8]) -> Option<(u64, u64)>
 pub fn three(text: &[u8]) -> Option<(u64, u64, u64)>
     ensures found { IfSome result (λ all. text.now ≡ words (all.0 ∷ all.1 ∷ all.2 ∷ [])) }
     ensures small { IfSome result (λ all. IsNumber all.0 × IsNumber all.1 × IsNumber all.2) }
-    ensures none { IfNone result ((n m k : ℕ) → IsNumber n → IsNumber m → IsNumber k → text.now ≡ words (n ∷ m ∷ k ∷ []) → ⊥) }
+    ensures none { IfNone result
+        ((n m k : ℕ) → IsNumber n → IsNumber m → IsNumber k → text.now ≡ words (n ∷ m ∷ k ∷ []) → ⊥) }
 {
     let (n, rest) = next_number(text)?;
     let (m, k) = two(rest)?;

@@ -1,4 +1,4 @@
-// A line is written.
+//! A line is written.
 ghost use Rattle.std.specs.Prelude.{◌≡◌, [], ◌∷◌, ◌++◌, IsTrue};
 ghost use Rattle.plan_desk.specs.Written.{WritesText};
 ghost use Rattle.certificate_lines.specs.Spelling.{spelling, words};
@@ -23,7 +23,8 @@ pub fn write_line<D: Desk>(line: &CertificateLine, desk: &mut D) -> Result<(), F
 /// Writes the line of a tail with its line feed to the end of the file that is open. Takes no memory.
 pub fn write_tail<D: Desk>(t: u32, weight: u32, places: &[u32], desk: &mut D) -> Result<(), Failed>
     requires opened { IsTrue (D.shows desk.old).output.opened }
-    ensures { WritesText (spelling (CertificateLine.Tail t weight places.now) ++ 10 ∷ []) (D.shows desk.old) (D.shows desk.new) result }
+    ensures { WritesText (spelling (CertificateLine.Tail t weight places.now) ++ 10 ∷ []) (D.shows desk.old)
+        (D.shows desk.new) result }
 {
     write_all(desk, Keyword::Tail.text())?;
     write_words(&[u64::from(t), u64::from(weight)], desk)?;

@@ -63,7 +63,8 @@ column_within n k some = let e = mod_below k n some in omega (arith, e)
 -- a key of a resource and a period is that of their place
 pub key_of_place : (kind n c t : ℕ) → 1 ≤ t → t ≤ n → place_key kind n (c * n + (t - 1)) ≡ key kind (c + 1) t
 key_of_place kind n c t from to =
-    ap (λ q. key kind (q + 1) ((c * n + (t - 1)) % n + 1)) (place_row n c t from to) ∙ ap (key kind (c + 1)) (place_column n c t from to)
+    ap (λ q. key kind (q + 1) ((c * n + (t - 1)) % n + 1)) (place_row n c t from to)
+    ∙ ap (key kind (c + 1)) (place_column n c t from to)
 
 -- ---- numbers
 pub less_one : (n : ℕ) → n + 1 - 1 ≡ n

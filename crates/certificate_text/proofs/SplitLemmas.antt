@@ -8,7 +8,8 @@ BeginsOut In [] = Unit {0}
 BeginsOut In (x ∷ xs) = In x → ⊥
 
 -- such elements in front of others are cut off in one way
-pub split_one_way : {A : Type 0} (In : A → Type 0) (xs us ys vs : List A) → AllByRecursion In xs → AllByRecursion In us → BeginsOut In ys → BeginsOut In vs → xs ++ ys ≡ us ++ vs → (xs ≡ us) × (ys ≡ vs)
+pub split_one_way : {A : Type 0} (In : A → Type 0) (xs us ys vs : List A) → AllByRecursion In xs → AllByRecursion In us
+    → BeginsOut In ys → BeginsOut In vs → xs ++ ys ≡ us ++ vs → (xs ≡ us) × (ys ≡ vs)
 split_one_way In [] [] ys vs a b c d e = (refl, e)
 split_one_way {A = A} In [] (u ∷ us) [] vs a b c d e = absurd (let z : ⊥ = cc in z)
 split_one_way {A = A} In [] (u ∷ us) (y ∷ ys) vs a b c d e = absurd (let same : u ≡ y = cc in c (subst In same b.0))

@@ -10,8 +10,8 @@ use Rattle.certificate_lines.specs.declared.line.CertificateLine.TheVariants as 
 use Rattle.branch_tree.specs.Trees.{below, above, IsSplit, root_box}
 use Rattle.branch_tree.specs.Ranges.{IsBoundInRange}
 
--- What entries are ordered by: first the kind, counted from 1 as up, lo, tail, ex, then the first two numbers, of which a
--- tail has one.
+-- What entries are ordered by: first the kind, counted from 1 as up, lo, tail, ex, then the
+-- first two numbers, of which a tail has one.
 pub record EntryKey : Type 0 where
   pub kind : ℕ
   pub first : ℕ
@@ -36,7 +36,8 @@ before_entries = record { kind = 0; first = 0; second = 0 }
 
 -- a is below b
 abbrev pub KeyBelow : EntryKey → EntryKey → Type 0
-KeyBelow a b = (a.kind < b.kind) ⊎ ((a.kind ≡ b.kind) × ((a.first < b.first) ⊎ ((a.first ≡ b.first) × (a.second < b.second))))
+KeyBelow a b =
+    (a.kind < b.kind) ⊎ ((a.kind ≡ b.kind) × ((a.first < b.first) ⊎ ((a.first ≡ b.first) × (a.second < b.second))))
 
 -- a place of the text: what the lines before it have left to come
 pub data Place : Type 0 where
@@ -95,11 +96,14 @@ Fits inst (bound version) (line.Bound least) = IsBoundInRange least
 Fits inst (count version) (line.Lists m) = m ≤ 16
 Fits inst (lists version m left last) (line.Up c t v) = IsLimitPrice inst c t v
 Fits inst (lists version m left last) (line.Lo c t v) = IsLimitPrice inst c t v
-Fits inst (lists version m left last) (line.Tail t weight places) = (1 ≤ t) × (t ≤ inst.periods) × IsTail inst t (record { weight = weight; places = places })
-Fits inst (lists version m left last) (line.Ex e t v) = (1 ≤ e) × IsExPrice inst (record { exclusion = e - 1; period = t; value = v })
+Fits inst (lists version m left last) (line.Tail t weight places) =
+    (1 ≤ t) × (t ≤ inst.periods) × IsTail inst t (record { weight = weight; places = places })
+Fits inst (lists version m left last) (line.Ex e t v) =
+    (1 ≤ e) × IsExPrice inst (record { exclusion = e - 1; period = t; value = v })
 Fits inst (nodes m (box ∷ boxes)) (line.Split i last) = (1 ≤ i) × IsSplit box (i - 1) last
 Fits inst (nodes m (box ∷ boxes)) (line.Cost list) = list ≤ m
-Fits inst (nodes m (box ∷ boxes)) (line.Band c t side) = (1 ≤ c) × (c ≤ length inst.resource_names) × (1 ≤ t) × (t ≤ inst.periods)
+Fits inst (nodes m (box ∷ boxes)) (line.Band c t side) =
+    (1 ≤ c) × (c ≤ length inst.resource_names) × (1 ≤ t) × (t ≤ inst.periods)
 Fits inst (nodes m (box ∷ boxes)) (line.Excl e) = (1 ≤ e) × (e ≤ length inst.exclusion_names)
 Fits inst (nodes m (box ∷ boxes)) (line.Empty i) = (1 ≤ i) × (i ≤ length inst.names)
 Fits _ _ _ = ⊤
@@ -115,11 +119,13 @@ after inst (lists version m left last) (line.Up c t v) = lists version m left (S
 after inst (lists version m left last) (line.Lo c t v) = lists version m left (Some (lo_key c t))
 after inst (lists version m left last) (line.Tail t weight places) = lists version m left (Some (tail_key t))
 after inst (lists version m left last) (line.Ex e t v) = lists version m left (Some (ex_key e t))
-after inst (nodes m (box ∷ boxes)) (line.Split i last) = nodes m (below box (i - 1) last ∷ above box (i - 1) last ∷ boxes)
+after inst (nodes m (box ∷ boxes)) (line.Split i last) =
+    nodes m (below box (i - 1) last ∷ above box (i - 1) last ∷ boxes)
 after inst (nodes m (box ∷ boxes)) _ = nodes m boxes
 after inst place _ = place
 
 -- the lines lead from one place to another: each of them stands where it is, with its numbers in their ranges
 abbrev pub Leads : Tables → Place → List CertificateLine → Place → Type 0
 Leads inst place [] end = place ≡ end
-Leads inst place (line ∷ lines) end = Stands place line × Fits inst place line × Leads inst (after inst place line) lines end
+Leads inst place (line ∷ lines) end =
+    Stands place line × Fits inst place line × Leads inst (after inst place line) lines end

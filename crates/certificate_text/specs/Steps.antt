@@ -30,7 +30,8 @@ price_lines side c t v = if v == 0 then [] else limit_form side c t v ∷ []
 
 -- the lines of the prices of one resource
 abbrev pub row_lines : Tables → Side → PriceList → ℕ → List CertificateLine
-row_lines inst side prices c = limit_lines (limit_form side) inst.periods (c * inst.periods) (take inst.periods (drop (c * inst.periods) (limit_table side prices)))
+row_lines inst side prices c = limit_lines (limit_form side) inst.periods (c * inst.periods)
+    (take inst.periods (drop (c * inst.periods) (limit_table side prices)))
 
 -- the first three lines of a certificate
 abbrev pub header_lines : Certificate → List CertificateLine

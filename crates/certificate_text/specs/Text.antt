@@ -1,6 +1,7 @@
--- The one text of a certificate: its lines, in order. Interventions, resources and exclusions count from 0 in a certificate
--- and from 1 in its text.
-use Rattle.std.specs.Prelude.{ℕ, ◌+◌, ◌/◌, ◌%◌, ◌==◌, if◌then◌else◌, List, [], ◌∷◌, ◌++◌, length, map, Option, Some, None}
+-- The one text of a certificate: its lines, in order. Interventions, resources and exclusions count
+-- from 0 in a certificate and from 1 in its text.
+use Rattle.std.specs.Prelude.{ℕ, ◌+◌, ◌/◌, ◌%◌, ◌==◌, if◌then◌else◌, List, [], ◌∷◌, ◌++◌, length, map, Option, Some}
+use Rattle.std.specs.Prelude.{None}
 use Rattle.std.specs.List.{flat_map}
 use Rattle.instance_model.specs.Tables.{Tables}
 use Rattle.lagrange_bound.specs.declared.tail.Tail.{Tail}
@@ -17,7 +18,8 @@ use Rattle.branch_tree.specs.declared.certificate.Certificate.{Certificate}
 unfoldable pub limit_lines : (ℕ → ℕ → ℕ → CertificateLine) → (periods : ℕ) → (k : ℕ) → List ℕ → List CertificateLine
 limit_lines form periods k [] = []
 limit_lines form periods k (v ∷ vs) =
-    if v == 0 then limit_lines form periods (k + 1) vs else form (k / periods + 1) (k % periods + 1) v ∷ limit_lines form periods (k + 1) vs
+    if v == 0 then limit_lines form periods (k + 1) vs
+    else form (k / periods + 1) (k % periods + 1) v ∷ limit_lines form periods (k + 1) vs
 
 -- the lines of the tails from period t on, where there is one
 unfoldable pub tail_lines : (t : ℕ) → List (Option Tail) → List CertificateLine
@@ -32,7 +34,8 @@ ex_line x = line.Ex (x.exclusion + 1) x.period x.value
 -- the entries of a price list: all up, all lo, all tails, all prices of exclusions
 abbrev pub entry_lines : Tables → PriceList → List CertificateLine
 entry_lines inst prices =
-    limit_lines line.Up inst.periods 0 prices.up ++ (limit_lines line.Lo inst.periods 0 prices.lo ++ (tail_lines 1 prices.tails ++ map ex_line prices.ex))
+    limit_lines line.Up inst.periods 0 prices.up
+    ++ (limit_lines line.Lo inst.periods 0 prices.lo ++ (tail_lines 1 prices.tails ++ map ex_line prices.ex))
 
 -- the lines of a price list
 abbrev pub list_lines : Tables → PriceList → List CertificateLine
@@ -54,7 +57,8 @@ tree_lines nodes = line.Tree ∷ map node_line nodes
 -- the lines of a certificate
 abbrev pub certificate_lines : Tables → Certificate → List CertificateLine
 certificate_lines inst cert =
-    line.Title cert.version ∷ line.Bound cert.bound ∷ line.Lists (length cert.lists) ∷ (flat_map (list_lines inst) cert.lists ++ tree_lines cert.nodes)
+    line.Title cert.version ∷ line.Bound cert.bound ∷ line.Lists (length cert.lists)
+    ∷ (flat_map (list_lines inst) cert.lists ++ tree_lines cert.nodes)
 
 -- a line as it is written, with its line feed
 abbrev pub line_text : CertificateLine → List ℕ

@@ -1,4 +1,4 @@
-// The entries of a price list are written.
+//! The entries of a price list are written.
 ghost use Rattle.std.specs.Prelude.{◌≡◌, ◌+◌, ◌<◌, ◌≤◌, [], ◌∷◌, length, map, IsTrue};
 ghost use Rattle.plan_desk.specs.Written.{WritesText};
 ghost use Rattle.lagrange_bound.specs.Prices.{IsPriceList, tail_of};
@@ -15,7 +15,8 @@ use plan_desk::{Desk, Failed};
 pub fn write_entries<D: Desk>(inst: &Instance, prices: &Prices, desk: &mut D) -> Result<(), Failed>
     requires opened { IsTrue (D.shows desk.old).output.opened }
     requires in_range { IsPriceList inst.now prices.now }
-    ensures { WritesText (text_of_lines (entry_lines inst.now prices.now)) (D.shows desk.old) (D.shows desk.new) result }
+    ensures { WritesText (text_of_lines (entry_lines inst.now prices.now)) (D.shows desk.old)
+        (D.shows desk.new) result }
 {
     write_limits(inst, prices, Side::Over, desk)?;
     write_limits(inst, prices, Side::Under, desk)?;
@@ -32,7 +33,9 @@ fn write_limits<D: Desk>(
 ) -> Result<(), Failed>
     requires opened { IsTrue (D.shows desk.old).output.opened }
     requires in_range { IsPriceList inst.now prices.now }
-    ensures { WritesText (text_of_lines (limit_lines (limit_form side) inst.now.periods 0 (limit_table side prices.now))) (D.shows desk.old) (D.shows desk.new) result }
+    ensures { WritesText
+        (text_of_lines (limit_lines (limit_form side) inst.now.periods 0 (limit_table side prices.now)))
+        (D.shows desk.old) (D.shows desk.new) result }
 {
     for c in 0..inst.resources() {
         write_row(inst, prices, side, c, desk)?;
@@ -51,7 +54,8 @@ fn write_row<D: Desk>(
     requires opened { IsTrue (D.shows desk.old).output.opened }
     requires in_range { IsPriceList inst.now prices.now }
     requires resource { c < length inst.now.resource_names }
-    ensures { WritesText (text_of_lines (row_lines inst.now side prices.now c)) (D.shows desk.old) (D.shows desk.new) result }
+    ensures { WritesText (text_of_lines (row_lines inst.now side prices.now c)) (D.shows desk.old)
+        (D.shows desk.new) result }
 {
     for u in 0..inst.periods() {
         write_limit(inst, prices, side, c, u + 1, desk)?;
@@ -71,7 +75,8 @@ fn write_limit<D: Desk>(
     requires opened { IsTrue (D.shows desk.old).output.opened }
     requires in_range { IsPriceList inst.now prices.now }
     requires place { IsBandPlace inst.now c t }
-    ensures { WritesText (text_of_lines (price_lines side (c + 1) t (limit_of inst.now side prices.now c t))) (D.shows desk.old) (D.shows desk.new) result }
+    ensures { WritesText (text_of_lines (price_lines side (c + 1) t (limit_of inst.now side prices.now c t)))
+        (D.shows desk.old) (D.shows desk.new) result }
 {
     let v = limit_price(inst, prices, side, c, t);
     if v == 0 {
@@ -113,7 +118,8 @@ fn write_tail_of<D: Desk>(
     requires in_range { IsPriceList inst.now prices.now }
     requires from { 1 ≤ t }
     requires to { t ≤ inst.now.periods }
-    ensures { WritesText (text_of_lines (tail_lines t (tail_of prices.now t ∷ []))) (D.shows desk.old) (D.shows desk.new) result }
+    ensures { WritesText (text_of_lines (tail_lines t (tail_of prices.now t ∷ []))) (D.shows desk.old)
+        (D.shows desk.new) result }
 {
     match prices.tail(inst, t) {
         Some(tail) => write_tail(t, tail.weight, tail.places.as_slice(), desk),

@@ -1,5 +1,7 @@
-// Laws of the text.
-ghost use Rattle.certificate_text.specs.Laws.{TextsLead, LeadToCertificates, LinesHaveForms, LinesTell, TextsTell, TextsAreCutOneWay, TextsAreSpelledOneWay, ZeroHasNone, ZeroIsUpTo, UpGrows, LoGrows, TailGrows, ExGrows};
+//! Laws of the text.
+ghost use Rattle.certificate_text.specs.Laws.{TextsLead, LeadToCertificates, LinesHaveForms, LinesTell, TextsTell};
+ghost use Rattle.certificate_text.specs.Laws.{TextsAreCutOneWay, TextsAreSpelledOneWay, ZeroHasNone, ZeroIsUpTo};
+ghost use Rattle.certificate_text.specs.Laws.{UpGrows, LoGrows, TailGrows, ExGrows};
 
 use certificate_lines::lines_are_spelled_one_way;
 

@@ -1,7 +1,7 @@
 //! The text of a certificate: the one text that each certificate has, and which line may stand where in it.
 //!
-//! Contracts see a text as the list of its bytes. `certificate_text` is the text of a certificate, and `Leads` says which
-//! lines may follow each other.
+//! Contracts see a text as the list of its bytes. `certificate_text` is the text of a certificate, and
+//! `Leads` says which lines may follow each other.
 #![tactic(auto)]
 
 mod entries;

@@ -1,4 +1,4 @@
-// One line is written.
+//! One line is written.
 ghost use Rattle.std.specs.Prelude.{◌+◌, [], ◌∷◌, IsTrue, ◌≡◌};
 ghost use Rattle.plan_desk.specs.Written.{WritesText};
 ghost use Rattle.certificate_text.specs.Text.{text_of_lines, node_line, ex_line};

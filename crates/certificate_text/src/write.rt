@@ -1,4 +1,4 @@
-// A certificate is written.
+//! A certificate is written.
 ghost use Rattle.std.specs.Prelude.{[], ◌∷◌, ◌++◌, length, map, All, IsTrue};
 ghost use Rattle.std.specs.List.{flat_map};
 ghost use Rattle.plan_desk.specs.Written.{WritesText};
@@ -43,7 +43,8 @@ fn write_header<D: Desk>(cert: &Certificate, desk: &mut D) -> Result<(), Failed>
 fn write_lists<D: Desk>(inst: &Instance, lists: &[Prices], desk: &mut D) -> Result<(), Failed>
     requires opened { IsTrue (D.shows desk.old).output.opened }
     requires in_range { All (IsPriceList inst.now) lists.now }
-    ensures { WritesText (text_of_lines (flat_map (list_lines inst.now) lists.now)) (D.shows desk.old) (D.shows desk.new) result }
+    ensures { WritesText (text_of_lines (flat_map (list_lines inst.now) lists.now)) (D.shows desk.old)
+        (D.shows desk.new) result }
 {
     for prices in lists {
         write_list(inst, prices, desk)?;

@@ -1,6 +1,7 @@
 -- Numbers whose digits fit one word.
 use Rattle.std.specs.Prelude.{◌-◌, ◌*◌, ◌^◌}
-use Rattle.std.proofs.Common.{◌≡◌, ℕ, zero, suc, ◌+◌, ◌<◌, ◌≤◌, List, [], ◌++◌, length, Some, Bool, true, false, refl, sym, ◌∙◌, ap, subst, arith, pow-add}
+use Rattle.std.proofs.Common.{◌≡◌, ℕ, zero, suc, ◌+◌, ◌<◌, ◌≤◌, List, [], ◌++◌, length, Some, Bool, true, false, refl}
+use Rattle.std.proofs.Common.{sym, ◌∙◌, ap, subst, arith, pow-add}
 use Rattle.std.proofs.Math.Nat.{pow-suc, pow-le-pow_right, mul-le-mul_right, mul-lt-mul_of_pos_right}
 use Rattle.json_grammar.specs.Grammar.{Parts}
 use Rattle.decimal_numbers.specs.Decimal.{number, numerator, denominator, raised_by, lowered_by}
@@ -47,7 +48,8 @@ room_fits v k h = let f = ten_large (v + 1) k in omega arith
 -- the size fits
 pub size_small : (n i f places : ℕ) → n < 10 ^ (i + f) → f ≤ places → i + places ≤ 19 → n * 10 ^ (places - f) < 2 ^ 64
 size_small n i f places h l m =
-    let a : n * 10 ^ (places - f) < 10 ^ (i + f) * 10 ^ (places - f) = mul-lt-mul_of_pos_right h (ten_positive (places - f)) in
+    let a : n * 10 ^ (places - f) < 10 ^ (i + f) * 10 ^ (places - f) =
+    mul-lt-mul_of_pos_right h (ten_positive (places - f)) in
     let b : 10 ^ (i + f + (places - f)) ≡ 10 ^ (i + f) * 10 ^ (places - f) = pow-add 10 (i + f) (places - f) in
     let c = nineteen (i + f + (places - f)) (omega arith) in
     omega arith
@@ -60,7 +62,8 @@ lowered_nothing : (b : Bool) → lowered_by b [] ≡ 0
 lowered_nothing true = refl
 lowered_nothing false = refl
 
-plain_numerator : (p : Parts) (places : ℕ) → p.exponent ≡ [] → numerator p places ≡ number (p.whole ++ p.fraction) * 10 ^ places
+plain_numerator : (p : Parts) (places : ℕ) → p.exponent ≡ []
+    → numerator p places ≡ number (p.whole ++ p.fraction) * 10 ^ places
 plain_numerator p places e =
     let r : raised_by p.shrinks p.exponent ≡ 0 = ap (raised_by p.shrinks) e ∙ raised_nothing p.shrinks in
     let s : raised_by p.shrinks p.exponent + places ≡ places = omega arith in
@@ -73,10 +76,20 @@ plain_denominator p e =
     ap (λ z. 10 ^ z) s
 
 -- nothing is rounded
-pub short_rounds : (p : Parts) (places size : ℕ) → FitsOneWord p places → size ≡ number (p.whole ++ p.fraction) * 10 ^ (places - length p.fraction) → size < 10 ^ 20 → Rounds (numerator p places) (denominator p) (Some size) false
+pub short_rounds : (p : Parts) (places size : ℕ) → FitsOneWord p places
+    → size ≡ number (p.whole ++ p.fraction) * 10 ^ (places - length p.fraction) → size < 10 ^ 20
+    → Rounds (numerator p places) (denominator p) (Some size) false
 short_rounds p places size h e l =
     let q = 10 ^ length p.fraction in
-    let n : numerator p places ≡ size * q = plain_numerator p places h.plain ∙ whole_power (number (p.whole ++ p.fraction)) places (length p.fraction) h.exact ∙ ap (λ z. z * q) (sym e) in
+    let n : numerator p places ≡ size * q = plain_numerator p places h.plain
+    ∙ whole_power (number (p.whole ++ p.fraction)) places (length p.fraction) h.exact ∙ ap (λ z. z * q) (sym e) in
     let d : denominator p ≡ q = plain_denominator p h.plain in
-    let exact : Rounds (size * q) q (Some size) false = record { c = size; rounded = exact_rounds size q (ten_positive (length p.fraction)); size_is = (refl, l); differs_is = same_false (size * q) (size * q) refl } in
-    subst (λ a. Rounds a (denominator p) (Some size) false) (sym n) (subst (λ b. Rounds (size * q) b (Some size) false) (sym d) exact)
+    let exact : Rounds (size * q) q (Some size) false =
+    record {
+      c = size;
+      rounded = exact_rounds size q (ten_positive (length p.fraction));
+      size_is = (refl, l);
+      differs_is = same_false (size * q) (size * q) refl;
+    } in
+    subst (λ a. Rounds a (denominator p) (Some size) false) (sym n)
+    (subst (λ b. Rounds (size * q) b (Some size) false) (sym d) exact)

@@ -1,6 +1,7 @@
 -- The count nearest to a number, by its digits.
 use Rattle.std.specs.Prelude.{◌-◌, ◌*◌, ◌^◌}
-use Rattle.std.proofs.Common.{◌≡◌, ℕ, zero, suc, ◌+◌, ◌<◌, ◌≤◌, List, [], ◌∷◌, ◌++◌, length, refl, sym, ◌∙◌, ap, arith, drop, get_or, add-one}
+use Rattle.std.proofs.Common.{◌≡◌, ℕ, zero, suc, ◌+◌, ◌<◌, ◌≤◌, List, [], ◌∷◌, ◌++◌, length, refl, sym, ◌∙◌, ap, arith}
+use Rattle.std.proofs.Common.{drop, get_or, add-one}
 use Rattle.std.proofs.Math.Seq.{drop-cons}
 use Rattle.std.proofs.Math.Nat.{pow-suc, le-mul_of_pos_right, mul-le-mul_right, mul-lt-mul_of_pos_right}
 use Rattle.json_grammar.specs.Grammar.{AreDigits}
@@ -17,11 +18,14 @@ digit_first n d k = rw (pow-suc 10 k) (grind arith)
 pub from_is : (n : ℕ) (b : List ℕ) → number_from n b ≡ n * 10 ^ length b + number b
 from_is n [] = omega arith
 from_is n (d ∷ b) =
-    let f : number_from (n * 10 + (d - 48)) b ≡ (n * 10 + (d - 48)) * 10 ^ length b + number b = from_is (n * 10 + (d - 48)) b in
+    let f : number_from (n * 10 + (d - 48)) b ≡ (n * 10 + (d - 48)) * 10 ^ length b + number b =
+    from_is (n * 10 + (d - 48)) b in
     let g : number_from (0 + (d - 48)) b ≡ (0 + (d - 48)) * 10 ^ length b + number b = from_is (0 + (d - 48)) b in
-    let e : (n * 10 + (d - 48)) * 10 ^ length b ≡ n * 10 ^ suc (length b) + (d - 48) * 10 ^ length b = digit_first n (d - 48) (length b) in
+    let e : (n * 10 + (d - 48)) * 10 ^ length b ≡ n * 10 ^ suc (length b) + (d - 48) * 10 ^ length b =
+    digit_first n (d - 48) (length b) in
     let z : 0 + (d - 48) ≡ d - 48 = omega arith in
-    let g' : number_from (0 + (d - 48)) b ≡ (d - 48) * 10 ^ length b + number b = g ∙ ap (λ y. y * 10 ^ length b + number b) z in
+    let g' : number_from (0 + (d - 48)) b ≡ (d - 48) * 10 ^ length b + number b =
+    g ∙ ap (λ y. y * 10 ^ length b + number b) z in
     f ∙ ap (λ y. y + number b) e ∙ (omega arith)
 
 -- digits in front of digits
@@ -75,17 +79,21 @@ only a b c d n m =
 -- more digits make no smaller number
 pub grows : (n : ℕ) (ds : List ℕ) → n ≤ number_from n ds
 grows n [] = omega arith
-grows n (d ∷ ds) = let f : n * 10 + (d - 48) ≤ number_from (n * 10 + (d - 48)) ds = grows (n * 10 + (d - 48)) ds in omega arith
+grows n (d ∷ ds) = let f : n * 10 + (d - 48) ≤ number_from (n * 10 + (d - 48)) ds = grows (n * 10 + (d - 48)) ds in
+    omega arith
 
-pub one_digit : (n i : ℕ) (ds : List ℕ) → i < length ds → number_from n (drop i ds) ≡ number_from (n * 10 + (get_or ds i 0 - 48)) (drop (i + 1) ds)
-one_digit n i ds h = ap (number_from n) (drop-cons ds i 0 h) ∙ ap (λ z. number_from (n * 10 + (get_or ds i 0 - 48)) (drop z ds)) (sym (add-one i))
+pub one_digit : (n i : ℕ) (ds : List ℕ) → i < length ds
+    → number_from n (drop i ds) ≡ number_from (n * 10 + (get_or ds i 0 - 48)) (drop (i + 1) ds)
+one_digit n i ds h = ap (number_from n) (drop-cons ds i 0 h)
+    ∙ ap (λ z. number_from (n * 10 + (get_or ds i 0 - 48)) (drop z ds)) (sym (add-one i))
 
 regroup : (v t : ℕ) → v * (t * 10) ≡ v * 10 * t
 regroup v t = grind arith
 
 pub ten_more : (v k m : ℕ) → 0 < k → v * 10 ^ k ≡ m → v * 10 * 10 ^ (k - 1) ≡ m
 ten_more v zero m h e = absurd (omega arith)
-ten_more v (suc k) m h e = let s : suc k - 1 ≡ k = omega arith in rw s (sym (regroup v (10 ^ k)) ∙ ap (λ z. v * z) (sym (pow-suc 10 k)) ∙ e)
+ten_more v (suc k) m h e = let s : suc k - 1 ≡ k = omega arith in
+    rw s (sym (regroup v (10 ^ k)) ∙ ap (λ z. v * z) (sym (pow-suc 10 k)) ∙ e)
 
 pub ten_positive : (k : ℕ) → 0 < 10 ^ k
 ten_positive zero = omega arith

@@ -1,5 +1,6 @@
 -- The value of a number token, and the whole numbers that are read of it.
-use Rattle.std.specs.Prelude.{◌≡◌, ℕ, ◌+◌, ◌-◌, ◌*◌, ◌^◌, ◌≤◌, ℤ, pos, neg_ℤ, unsigned_abs, List, [], ◌∷◌, ◌++◌, length, Bool, true, false, not, ◌==◌}
+use Rattle.std.specs.Prelude.{◌≡◌, ℕ, ◌+◌, ◌-◌, ◌*◌, ◌^◌, ◌≤◌, ℤ, pos, neg_ℤ, unsigned_abs, List, [], ◌∷◌, ◌++◌, length}
+use Rattle.std.specs.Prelude.{Bool, true, false, not, ◌==◌}
 use Rattle.json_grammar.specs.Tree.{Node}
 use Rattle.json_grammar.specs.Grammar.{Parts, HasParts}
 
@@ -43,7 +44,8 @@ abbrev pub signed : Bool → ℕ → ℤ
 signed true size = neg_ℤ (pos size)
 signed false size = pos size
 
--- the count of 10^-12 that is nearest to the token's value, of two equally near the one farther from 0; and whether it differs from that value
+-- the count of 10^-12 that is nearest to the token's value, of two equally near the one farther
+-- from 0; and whether it differs from that value
 pub record IsFixedOf (token : List ℕ) (count : ℤ) (differs : Bool) : Type 0 where
   pub parts : Parts
   pub token_parts : HasParts token parts

@@ -1,6 +1,7 @@
 -- What is read of a number token, as functions for the definitions of crates above. The contracts of the calls say
 -- that they agree with the relations of `Decimal`.
-use Rattle.std.specs.Prelude.{ℕ, ◌+◌, ◌*◌, ◌/◌, ◌^◌, ℤ, List, Bool, cond, not, ◌==◌, ◌&&◌, ◌||◌, nat_lt, nat_le, Option, Some, None}
+use Rattle.std.specs.Prelude.{ℕ, ◌+◌, ◌*◌, ◌/◌, ◌^◌, ℤ, List, Bool, cond, not, ◌==◌, ◌&&◌, ◌||◌, nat_lt, nat_le, Option}
+use Rattle.std.specs.Prelude.{Some, None}
 use Rattle.json_grammar.specs.Tree.{Node}
 use Rattle.json_grammar.specs.Grammar.{Parts}
 use Rattle.decimal_numbers.specs.Decimal.{numerator, denominator, signed}
@@ -26,7 +27,8 @@ unfoldable pub fixed : List ℕ → Option (ℤ × Bool)
 fixed token = fixed_parts (parts_of token)
 
 abbrev pub exact_size : Parts → ℕ → ℕ → ℕ → Option ℕ
-exact_size p places most size = cond (is_exact p places size && (nat_le size most && (not p.negative || (size == 0)))) (Some size) None
+exact_size p places most size =
+    cond (is_exact p places size && (nat_le size most && (not p.negative || (size == 0)))) (Some size) None
 
 abbrev pub exact_parts : ℕ → ℕ → Option Parts → Option ℕ
 exact_parts places most None = None

@@ -1,5 +1,6 @@
 -- Rounding behind the last digit that is kept. Not part of any promise: only private functions cite it.
-use Rattle.std.specs.Prelude.{◌≡◌, ℕ, ◌+◌, ◌*◌, ◌^◌, ◌≤◌, ◌<◌, List, [], length, get_or, Bool, cond, not, ◌==◌, ◌&&◌, ◌||◌, nat_le, ℤ, Option, Some, None, MatchOption}
+use Rattle.std.specs.Prelude.{◌≡◌, ℕ, ◌+◌, ◌*◌, ◌^◌, ◌≤◌, ◌<◌, List, [], length, get_or, Bool, cond, not, ◌==◌, ◌&&◌}
+use Rattle.std.specs.Prelude.{◌||◌, nat_le, ℤ, Option, Some, None, MatchOption}
 use Rattle.decimal_numbers.specs.Decimal.{signed}
 use Rattle.json_grammar.specs.Grammar.{IsDigit, Parts}
 
@@ -42,4 +43,5 @@ counted_size negative (Some size) differs = Some (signed negative size, differs)
 -- a size that was not rounded, is at most the number and has no minus sign, unless it is 0
 abbrev pub unrounded_size : Bool → Option ℕ → Bool → ℕ → Option ℕ
 unrounded_size negative None differs most = None
-unrounded_size negative (Some size) differs most = cond (not differs && (nat_le size most && (not negative || (size == 0)))) (Some size) None
+unrounded_size negative (Some size) differs most =
+    cond (not differs && (nat_le size most && (not negative || (size == 0)))) (Some size) None

@@ -1,5 +1,6 @@
 //! What is read of number tokens: counts of 10^-12, whole numbers and millionths.
-ghost use Rattle.std.specs.Prelude.{◌≡◌, ◌≤◌, ◌<◌, ◌^◌, ℕ, ℤ, unsigned_abs, Bool, Some, None, IfSome, IfOk, OnErr, MatchResult};
+ghost use Rattle.std.specs.Prelude.{◌≡◌, ◌≤◌, ◌<◌, ◌^◌, ℕ, ℤ, unsigned_abs, Bool, Some, None, IfSome, IfOk, OnErr};
+ghost use Rattle.std.specs.Prelude.{MatchResult};
 ghost use Rattle.json_grammar.specs.Tree as json;
 ghost use Rattle.decimal_numbers.specs.Decimal.{IsFixedOf, IsTooLarge, IsExactly, IsWholeOf, IsMillionthsOf, signed};
 ghost use Rattle.decimal_numbers.specs.Exact.{fixed, exactly, whole, millionths};

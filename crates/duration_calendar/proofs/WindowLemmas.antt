@@ -14,11 +14,13 @@ unfolding in_window
 in_window_from w t h l = grind (arith, nat_tests)
 
 -- the window of a run holds the periods of the run
-pub in_window-run : (inst : Tables) (i s d t : ℕ) → d ≡ delta_of inst i s → in_window (record { from = s; past = s + d }) t ≡ in_run inst i s t
+pub in_window-run : (inst : Tables) (i s d t : ℕ) → d ≡ delta_of inst i s
+    → in_window (record { from = s; past = s + d }) t ≡ in_run inst i s t
 unfolding in_window in_run
 in_window-run inst i s d t e = rw e refl
 
-pub in_horizon : (inst : Tables) (w : Window) (t : ℕ) → IsInHorizon inst w → w.from ≤ t → t < w.past → (1 ≤ t) × (t ≤ inst.periods)
+pub in_horizon : (inst : Tables) (w : Window) (t : ℕ) → IsInHorizon inst w → w.from ≤ t → t < w.past
+    → (1 ≤ t) × (t ≤ inst.periods)
 unfolding IsInHorizon
 in_horizon inst w t h from past = h t (in_window_from w t from past)
 

@@ -1,5 +1,6 @@
 -- Quotients rounded down and up.
-use Rattle.std.proofs.Common.{◌*ℤ◌, ◌+ℤ◌, ◌≡◌, ℕ, zero, suc, ◌+◌, ◌*◌, ◌/◌, ◌<◌, ◌≤◌, arith, ℤ, pos, negsuc, neg_ℤ, ◌<ℤ◌, ◌≤ℤ◌, ap, sym, subst, unsigned_abs}
+use Rattle.std.proofs.Common.{◌*ℤ◌, ◌+ℤ◌, ◌≡◌, ℕ, zero, suc, ◌+◌, ◌*◌, ◌/◌, ◌<◌, ◌≤◌, arith, ℤ, pos, negsuc, neg_ℤ}
+use Rattle.std.proofs.Common.{◌<ℤ◌, ◌≤ℤ◌, ap, sym, subst, unsigned_abs}
 use Rattle.std.proofs.Math.Nat.{div-le_self}
 use borrow.Author.Differences.{up, down, same_in, at_most_in, sum_is_lem, neg_is, product_is, lt_out, le_out}
 use Rattle.fixed_num.specs.Floors.{floor_of, ceil_of, floor_quotient, ceil_quotient, IsFloor, IsCeil}
@@ -17,7 +18,8 @@ floor_of-greatest a q k h l =
     at_most_in q f (at_most_from_scaled (up q + down f) (up f + down q) k (omega (arith, p, m, o)))
 
 pub floor_of-le : (a : ℤ) (k : ℕ) → 0 < k → (floor_of a k *ℤ pos k) ≤ℤ a
-floor_of-le a k h = at_most_in (floor_of a k *ℤ pos k) a (omega (arith, int_div_euclid-parts a k h, product_is (floor_of a k) (pos k)))
+floor_of-le a k h =
+    at_most_in (floor_of a k *ℤ pos k) a (omega (arith, int_div_euclid-parts a k h, product_is (floor_of a k) (pos k)))
 
 pub floor_of_unique : (a q : ℤ) (k : ℕ) → 0 < k → (q *ℤ pos k) ≤ℤ a → a <ℤ (q *ℤ pos k +ℤ pos k) → q ≡ floor_of a k
 floor_of_unique a q k h l u =
@@ -27,8 +29,10 @@ floor_of_unique a q k h l u =
     let o = le_out (q *ℤ pos k) a l in
     let t = lt_out a (q *ℤ pos k +ℤ pos k) u in
     let s = sum_is_lem (q *ℤ pos k) (pos k) in
-    let one : up q + down f ≤ up f + down q = at_most_from_scaled (up q + down f) (up f + down q) k (omega (arith, p, m, o)) in
-    let two : up f + down q ≤ up q + down f = at_most_from_scaled (up f + down q) (up q + down f) k (omega (arith, p, m, t, s)) in
+    let one : up q + down f ≤ up f + down q =
+    at_most_from_scaled (up q + down f) (up f + down q) k (omega (arith, p, m, o)) in
+    let two : up f + down q ≤ up q + down f =
+    at_most_from_scaled (up f + down q) (up q + down f) k (omega (arith, p, m, t, s)) in
     same_in q f (omega arith)
 
 -- the floors of two numbers add up to at most the floor of their sum
@@ -42,7 +46,8 @@ floor_of-add a b k h =
     let r = int_div_euclid-parts (a +ℤ b) k h in
     let s = sum_is_lem a b in
     let t = sum_is_lem x y in
-    let l : up x + up y + down z ≤ up z + down x + down y = at_most_from_scaled (up x + up y + down z) (up z + down x + down y) k (omega (arith, p, q, r, s)) in
+    let l : up x + up y + down z ≤ up z + down x + down y =
+    at_most_from_scaled (up x + up y + down z) (up z + down x + down y) k (omega (arith, p, q, r, s)) in
     at_most_in (x +ℤ y) z (omega (arith, t, l))
 
 -- a greater number has no lesser floor
@@ -59,15 +64,19 @@ floor_of-zero : (k : ℕ) → floor_of (pos 0) k ≡ pos 0
 floor_of-zero k = ap pos (omega arith)
 
 -- the floors of the parts add up to at most the floor of the sum
-pub sum_below-floor_of : (n : ℕ) (f : ℕ → ℤ) (k : ℕ) → 0 < k → sum_below n (λ i. floor_of (f i) k) ≤ℤ floor_of (sum_below n f) k
-sum_below-floor_of zero f k h = rw (sum_below-zero (λ i. floor_of (f i) k), sum_below-zero f) (omega (arith, signed_arith))
+pub sum_below-floor_of : (n : ℕ) (f : ℕ → ℤ) (k : ℕ) → 0 < k
+    → sum_below n (λ i. floor_of (f i) k) ≤ℤ floor_of (sum_below n f) k
+sum_below-floor_of zero f k h =
+    rw (sum_below-zero (λ i. floor_of (f i) k), sum_below-zero f) (omega (arith, signed_arith))
 sum_below-floor_of (suc n) f k h =
     rw (sum_below-suc n (λ i. floor_of (f i) k), sum_below-suc n f) (
     let ih = le_out (sum_below n (λ i. floor_of (f i) k)) (floor_of (sum_below n f) k) (sum_below-floor_of n f k h) in
-    let st = le_out (floor_of (sum_below n f) k +ℤ floor_of (f n) k) (floor_of (sum_below n f +ℤ f n) k) (floor_of-add (sum_below n f) (f n) k h) in
+    let st = le_out (floor_of (sum_below n f) k +ℤ floor_of (f n) k) (floor_of (sum_below n f +ℤ f n) k)
+    (floor_of-add (sum_below n f) (f n) k h) in
     let s = sum_is_lem (sum_below n (λ i. floor_of (f i) k)) (floor_of (f n) k) in
     let t = sum_is_lem (floor_of (sum_below n f) k) (floor_of (f n) k) in
-    at_most_in (sum_below n (λ i. floor_of (f i) k) +ℤ floor_of (f n) k) (floor_of (sum_below n f +ℤ f n) k) (omega (arith, ih, st, s, t)))
+    at_most_in (sum_below n (λ i. floor_of (f i) k) +ℤ floor_of (f n) k) (floor_of (sum_below n f +ℤ f n) k)
+    (omega (arith, ih, st, s, t)))
 
 -- the floor of a / k is the greatest whole number q with k * q at most a
 pub IsFloor-floor_of : (a : ℤ) (k : ℕ) → 0 < k → IsFloor a (pos k) (floor_of a k)
@@ -76,7 +85,8 @@ IsFloor-floor_of a k h =
     let p = int_div_euclid-parts a k h in
     record {
       reached = at_most_in (pos k *ℤ f) a (omega (arith, p, product_is (pos k) f));
-      greatest = λ r l. at_most_in r f (at_most_from_scaled (up r + down f) (up f + down r) k (omega (arith, p, product_is (pos k) r, le_out (pos k *ℤ r) a l)));
+      greatest = λ r l. at_most_in r f (at_most_from_scaled (up r + down f) (up f + down r) k
+          (omega (arith, p, product_is (pos k) r, le_out (pos k *ℤ r) a l)));
     }
 
 -- the ceiling of a / k is the least whole number q with k * q at least a
@@ -92,17 +102,20 @@ IsCeil-ceil_of a k h =
       reached = at_most_in a (pos k *ℤ neg_ℤ f) (omega (arith, p, n, u, d, product_is (pos k) (neg_ℤ f)));
       least = λ r l.
           let o = le_out a (pos k *ℤ r) l in
-          let below : down r + down f ≤ up r + up f = at_most_from_scaled (down r + down f) (up r + up f) k (omega (arith, p, n, product_is (pos k) r, o)) in
+          let below : down r + down f ≤ up r + up f =
+          at_most_from_scaled (down r + down f) (up r + up f) k (omega (arith, p, n, product_is (pos k) r, o)) in
           at_most_in (neg_ℤ f) r (omega (arith, m, below));
     }
 
 -- the same, where the divisor is a whole number above 0
 pub IsFloor_from : (a b q : ℤ) → pos 0 <ℤ b → q ≡ floor_quotient a b → IsFloor a b q
-IsFloor_from a (pos k) q h e = subst (IsFloor a (pos k)) (sym e) (IsFloor-floor_of a k (omega (arith, lt_out (pos 0) (pos k) h)))
+IsFloor_from a (pos k) q h e =
+    subst (IsFloor a (pos k)) (sym e) (IsFloor-floor_of a k (omega (arith, lt_out (pos 0) (pos k) h)))
 IsFloor_from a (negsuc k) q h e = absurd (omega (arith, lt_out (pos 0) (negsuc k) h))
 
 pub IsCeil_from : (a b q : ℤ) → pos 0 <ℤ b → q ≡ ceil_quotient a b → IsCeil a b q
-IsCeil_from a (pos k) q h e = subst (IsCeil a (pos k)) (sym e) (IsCeil-ceil_of a k (omega (arith, lt_out (pos 0) (pos k) h)))
+IsCeil_from a (pos k) q h e =
+    subst (IsCeil a (pos k)) (sym e) (IsCeil-ceil_of a k (omega (arith, lt_out (pos 0) (pos k) h)))
 IsCeil_from a (negsuc k) q h e = absurd (omega (arith, lt_out (pos 0) (negsuc k) h))
 
 -- a quotient by a natural number above 0 is no larger in absolute value

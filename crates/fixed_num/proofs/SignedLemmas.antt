@@ -1,5 +1,6 @@
 -- Whole numbers for `omega`, which reads one as the difference of two natural numbers, `up z - down z`.
-use Rattle.std.proofs.Common.{◌*ℤ◌, ◌≡◌, ℕ, ◌+◌, ◌*◌, ◌^◌, ◌<◌, ◌≤◌, arith, ℤ, pos, negsuc, to_z, of_z, to_z-of_z, unsigned_abs}
+use Rattle.std.proofs.Common.{◌*ℤ◌, ◌≡◌, ℕ, ◌+◌, ◌*◌, ◌^◌, ◌<◌, ◌≤◌, arith, ℤ, pos, negsuc, to_z, of_z, to_z-of_z}
+use Rattle.std.proofs.Common.{unsigned_abs}
 use Rattle.std.specs.Int.{w128}
 use Rattle.std.proofs.lemmas.Int.{ints, clamps, fits_signed_from_abs, unsigned_abs-mul}
 use Rattle.std.proofs.lemmas.Nat.{mul-le}
@@ -13,7 +14,8 @@ unsigned_abs-parts (pos a) = omega arith
 unsigned_abs-parts (negsuc a) = omega arith
 
 -- the quotient q rounded down has q * k ≤ a < q * k + k
-pub int_div_euclid-parts : (a : ℤ) (k : ℕ) → 0 < k → (up (floor_of a k) * k + down a ≤ down (floor_of a k) * k + up a) × (down (floor_of a k) * k + up a < up (floor_of a k) * k + down a + k)
+pub int_div_euclid-parts : (a : ℤ) (k : ℕ) → 0 < k → (up (floor_of a k) * k + down a ≤ down (floor_of a k) * k + up a)
+    × (down (floor_of a k) * k + up a < up (floor_of a k) * k + down a + k)
 int_div_euclid-parts (pos a) k some = omega arith
 int_div_euclid-parts (negsuc a) k some = omega arith
 
@@ -31,5 +33,6 @@ back_from_abs z small = to_z-of_z (fits_signed_from_abs w128 z small)
 pub abs-product : (a b : ℤ) (m n : ℕ) → unsigned_abs a ≤ m → unsigned_abs b ≤ n → unsigned_abs (a *ℤ b) ≤ m * n
 abs-product a b m n left right = rw (unsigned_abs-mul a b) (mul-le (unsigned_abs a) (unsigned_abs b) m n left right)
 
--- for `omega (arith, signed_arith)`: order, sum, negation, difference, product, absolute value, the lesser and the greater of two, and the quotient rounded down
+-- for `omega (arith, signed_arith)`: order, sum, negation, difference, product, absolute value, the lesser and the
+-- greater of two, and the quotient rounded down
 pub ruleset signed_arith = (ints, clamps, unsigned_abs-parts, int_div_euclid-parts)

@@ -1,4 +1,5 @@
--- Quotients of whole numbers, rounded down and up. The lemmas IsFloor-floor_of and IsCeil-ceil_of say that they are the greatest and the least of their kind.
+-- Quotients of whole numbers, rounded down and up. The lemmas IsFloor-floor_of and IsCeil-ceil_of say that they
+-- are the greatest and the least of their kind.
 use Rattle.std.specs.Prelude.{ℕ, ℤ, pos, neg_ℤ, ◌*ℤ◌, ◌≤ℤ◌}
 use Rattle.std.specs.Int.{int_div_euclid}
 

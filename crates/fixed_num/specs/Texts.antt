@@ -1,5 +1,6 @@
 -- Decimal texts of counts.
-use Rattle.std.specs.Prelude.{ℕ, ◌-◌, ◌/◌, ◌%◌, ◌^◌, List, [], ◌++◌, length, replicate, codes, ℤ, pos, negsuc, unsigned_abs, decimal}
+use Rattle.std.specs.Prelude.{ℕ, ◌-◌, ◌/◌, ◌%◌, ◌^◌, List, [], ◌++◌, length, replicate, codes, ℤ, pos, negsuc}
+use Rattle.std.specs.Prelude.{unsigned_abs, decimal}
 
 -- n in at least k decimal digits, with zeros in front
 abbrev pub padded : ℕ → ℕ → List ℕ

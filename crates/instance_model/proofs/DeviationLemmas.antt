@@ -1,5 +1,6 @@
 -- How far a number, of which f make one count, is from a count.
-use Rattle.std.proofs.Common.{◌≡◌, ℕ, zero, suc, ◌+◌, ◌*◌, ◌<◌, ◌≤◌, sym, ◌∙◌, ap, arith, ℤ, pos, negsuc, ◌+ℤ◌, ◌-ℤ◌, ◌*ℤ◌, ◌≤ℤ◌, unsigned_abs}
+use Rattle.std.proofs.Common.{◌≡◌, ℕ, zero, suc, ◌+◌, ◌*◌, ◌<◌, ◌≤◌, sym, ◌∙◌, ap, arith, ℤ, pos, negsuc, ◌+ℤ◌, ◌-ℤ◌}
+use Rattle.std.proofs.Common.{◌*ℤ◌, ◌≤ℤ◌, unsigned_abs}
 use Rattle.std.specs.Int.{int_max}
 use Rattle.std.proofs.Math.Nat.{mul_comm, mul_left_comm, add-mul, mul-le-mul_left}
 use Rattle.std.proofs.lemmas.Int.{unsigned_abs-mul, by_lt_z}
@@ -24,7 +25,8 @@ off-add : (f : ℕ) (x y c d : ℤ) → off f (x +ℤ y) (c +ℤ d) ≡ off f x 
 off-add f x y c d = rw (*ℤ-+ℤ (pos f) c d) (regroup x y (pos f *ℤ c) (pos f *ℤ d))
 
 pub mul-add : (f d e : ℕ) → f * (d + e) ≡ f * d + f * e
-mul-add f d e = mul_comm f (d + e) ∙ add-mul d e f ∙ ap (λ (n : ℕ). n + e * f) (mul_comm d f) ∙ ap (λ (n : ℕ). f * d + n) (mul_comm e f)
+mul-add f d e = mul_comm f (d + e) ∙ add-mul d e f ∙ ap (λ (n : ℕ). n + e * f) (mul_comm d f)
+    ∙ ap (λ (n : ℕ). f * d + n) (mul_comm e f)
 
 pub Near-add : (f d e : ℕ) (x y c g : ℤ) → Near f d x c → Near f e y g → Near f (d + e) (x +ℤ y) (c +ℤ g)
 Near-add f d e x y c g h k =
@@ -40,10 +42,13 @@ off-zero f = same_in (off f (pos 0) (pos 0)) (pos 0) (omega (arith, signed_arith
 pub Near-zero : (f : ℕ) → Near f 0 (pos 0) (pos 0)
 Near-zero f = record { near = rw (off-zero f) (omega arith) }
 
-pub Near-sum : (f n : ℕ) (e : ℕ → ℕ) (x c : ℕ → ℤ) → ((k : ℕ) → k < n → Near f (e k) (x k) (c k)) → Near f (count_sum n e) (sum_below n x) (sum_below n c)
+pub Near-sum : (f n : ℕ) (e : ℕ → ℕ) (x c : ℕ → ℤ) → ((k : ℕ) → k < n → Near f (e k) (x k) (c k))
+    → Near f (count_sum n e) (sum_below n x) (sum_below n c)
 unfolding count_sum
 Near-sum f zero e x c h = rw (sum_below-zero x, sum_below-zero c) (Near-zero f)
-Near-sum f (suc n) e x c h = rw (sum_below-suc n x, sum_below-suc n c) (Near-add f (count_sum n e) (e n) (sum_below n x) (x n) (sum_below n c) (c n) (Near-sum f n e x c (λ k l. h k (omega arith))) (h n (omega arith)))
+Near-sum f (suc n) e x c h = rw (sum_below-suc n x, sum_below-suc n c)
+    (Near-add f (count_sum n e) (e n) (sum_below n x) (x n) (sum_below n c) (c n)
+    (Near-sum f n e x c (λ k l. h k (omega arith))) (h n (omega arith)))
 
 -- ---- a multiple
 swap_factor : (f n : ℕ) (c : ℤ) → pos n *ℤ (pos f *ℤ c) ≡ pos f *ℤ (pos n *ℤ c)
@@ -55,7 +60,17 @@ swap_factor f n c =
     let qu = ap (λ (t : ℕ). f * t) q.0 in
     let qd = ap (λ (t : ℕ). f * t) q.1 in
     same_in (pos n *ℤ (pos f *ℤ c)) (pos f *ℤ (pos n *ℤ c))
-    (omega (arith, product_is (pos n) (pos f *ℤ c), product_is (pos f) (pos n *ℤ c), pu, pd, qu, qd, mul_left_comm n f (up c), mul_left_comm n f (down c)))
+    (omega (
+      arith,
+      product_is (pos n) (pos f *ℤ c),
+      product_is (pos f) (pos n *ℤ c),
+      pu,
+      pd,
+      qu,
+      qd,
+      mul_left_comm n f (up c),
+      mul_left_comm n f (down c),
+    ))
 
 pub distribute : (n : ℕ) (a b : ℤ) → pos n *ℤ (a -ℤ b) ≡ (pos n *ℤ a) -ℤ (pos n *ℤ b)
 distribute n a b =
@@ -71,8 +86,10 @@ off-scale f n x c = ap (λ (z : ℤ). (pos n *ℤ x) -ℤ z) (sym (swap_factor f
 
 pub Near-scale : (f d n : ℕ) (x c : ℤ) → Near f d x c → Near f (n * d) (pos n *ℤ x) (pos n *ℤ c)
 Near-scale f d n x c h =
-    let e : unsigned_abs (off f (pos n *ℤ x) (pos n *ℤ c)) ≡ n * unsigned_abs (off f x c) = ap unsigned_abs (off-scale f n x c) ∙ unsigned_abs-mul (pos n) (off f x c) in
-    let two : 2 * (n * unsigned_abs (off f x c)) ≡ n * (2 * unsigned_abs (off f x c)) = mul_left_comm 2 n (unsigned_abs (off f x c)) in
+    let e : unsigned_abs (off f (pos n *ℤ x) (pos n *ℤ c)) ≡ n * unsigned_abs (off f x c) =
+    ap unsigned_abs (off-scale f n x c) ∙ unsigned_abs-mul (pos n) (off f x c) in
+    let two : 2 * (n * unsigned_abs (off f x c)) ≡ n * (2 * unsigned_abs (off f x c)) =
+    mul_left_comm 2 n (unsigned_abs (off f x c)) in
     let more : n * (2 * unsigned_abs (off f x c)) ≤ n * (f * d) = mul-le-mul_left n h.near in
     let m : n * (f * d) ≡ f * (n * d) = mul_left_comm n f d in
     record { near = rw e (omega (arith, two, more, m)) }
@@ -89,7 +106,8 @@ abs_in (pos n) b h k = omega (arith, h, k)
 abs_in (negsuc n) b h k = omega (arith, h, k)
 
 abs-less : (a b : ℤ) → unsigned_abs (a -ℤ b) ≤ unsigned_abs a + unsigned_abs b
-abs-less a b = abs_in (a -ℤ b) (unsigned_abs a + unsigned_abs b) (omega (arith, signed_arith)) (omega (arith, signed_arith))
+abs-less a b =
+    abs_in (a -ℤ b) (unsigned_abs a + unsigned_abs b) (omega (arith, signed_arith)) (omega (arith, signed_arith))
 
 pub Near-less : (f d e : ℕ) (x y c g : ℤ) → Near f d x c → Near f e y g → Near f (d + e) (x -ℤ y) (c -ℤ g)
 Near-less f d e x y c g h k =
@@ -102,7 +120,9 @@ Near-less f d e x y c g h k =
 pub scale_mono : (f : ℕ) (a b : ℤ) → a ≤ℤ b → (pos f *ℤ a) ≤ℤ (pos f *ℤ b)
 scale_mono f a b h =
     let l : f * (up a + down b) ≤ f * (up b + down a) = mul-le-mul_left f (le_out a b h) in
-    at_most_in (pos f *ℤ a) (pos f *ℤ b) (omega (arith, l, product_is (pos f) a, product_is (pos f) b, mul-add f (up a) (down b), mul-add f (up b) (down a)))
+    at_most_in (pos f *ℤ a) (pos f *ℤ b)
+    (omega
+    (arith, l, product_is (pos f) a, product_is (pos f) b, mul-add f (up a) (down b), mul-add f (up b) (down a)))
 
 scale-zero : (f : ℕ) → pos f *ℤ pos 0 ≡ pos 0
 scale-zero f = same_in (pos f *ℤ pos 0) (pos 0) (omega (arith, product_is (pos f) (pos 0)))
@@ -126,7 +146,8 @@ scale-max f d = by_lt_z d (pos 0)
     self_max x h = omega (arith, signed_arith, h)
 
 abs-max : (a b : ℤ) → unsigned_abs (int_max (pos 0) a -ℤ int_max (pos 0) b) ≤ unsigned_abs (a -ℤ b)
-abs-max a b = abs_in (int_max (pos 0) a -ℤ int_max (pos 0) b) (unsigned_abs (a -ℤ b)) (omega (arith, signed_arith)) (omega (arith, signed_arith))
+abs-max a b = abs_in (int_max (pos 0) a -ℤ int_max (pos 0) b) (unsigned_abs (a -ℤ b)) (omega (arith, signed_arith))
+    (omega (arith, signed_arith))
 
 pub Near-max : (f d : ℕ) (x c : ℤ) → Near f d x c → Near f d (int_max (pos 0) x) (int_max (pos 0) c)
 Near-max f d x c h =

@@ -1,5 +1,6 @@
 -- The conditions on the tables of an instance.
-use Rattle.std.specs.Prelude.{◌^◌, ◌≡◌, ℕ, ◌*◌, ◌<◌, ◌≤◌, List, [], ◌⊎◌, length, All, AllPairs, IsTrue, slice_index_or, unsigned_abs, ◌≢◌}
+use Rattle.std.specs.Prelude.{◌^◌, ◌≡◌, ℕ, ◌*◌, ◌<◌, ◌≤◌, List, [], ◌⊎◌, length, All, AllPairs, IsTrue, slice_index_or}
+use Rattle.std.specs.Prelude.{unsigned_abs, ◌≢◌}
 use Rattle.instance_model.specs.declared.parts.LoadCell.{LoadCell}
 use Rattle.instance_model.specs.Limits.{standard_limits}
 use Rattle.instance_model.specs.Naturals.{count_sum}
@@ -61,10 +62,12 @@ pub record IsFitting (inst : Tables) : Type 0 where
   pub delta_small : All (λ ds. All (λ d. d < 1_000_000_000) ds) inst.delta
   pub exclusions : AreNames standard_limits.exclusions inst.exclusion_names
   pub excluded_each : length inst.excluded ≡ length inst.exclusion_names
-  pub excluded : All (λ e. (e.first < length inst.names) × (e.second < length inst.names) × (e.season < length inst.season_names)) inst.excluded
+  pub excluded : All (λ e. (e.first < length inst.names) × (e.second < length inst.names)
+      × (e.season < length inst.season_names)) inst.excluded
   pub loads_each : length inst.loads ≡ length inst.names
   pub cells : (i : ℕ) → i < length inst.names → AreCells inst i (slice_index_or inst.loads i [])
-  pub loads_few : count_sum (length inst.names) (λ i. length (slice_index_or inst.loads i [])) ≤ standard_limits.workload_entries
+  pub loads_few : count_sum (length inst.names) (λ i. length (slice_index_or inst.loads i []))
+      ≤ standard_limits.workload_entries
   pub risks_each : length inst.risks ≡ all_entries inst (scenarios_before inst)
   pub risks_few : length inst.risks ≤ standard_limits.risk_cells
   pub risks_small : All (λ z. unsigned_abs z < 10 ^ 20) inst.risks

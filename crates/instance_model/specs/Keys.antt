@@ -1,5 +1,6 @@
 -- What a plan of allowed starts is measured by on the way to a feasible one, its neighbours, and the opening plan.
-use Rattle.std.specs.Prelude.{◌≡◌, ℕ, ◌+◌, ◌*◌, ◌<◌, ◌≤◌, ℤ, pos, ◌+ℤ◌, ◌-ℤ◌, ◌<ℤ◌, ◌⊎◌, List, length, map, Option, Some, IsTrue, is_some, if◌then◌else◌, slice_set, slice_index, ◌↔◌}
+use Rattle.std.specs.Prelude.{◌≡◌, ℕ, ◌+◌, ◌*◌, ◌<◌, ◌≤◌, ℤ, pos, ◌+ℤ◌, ◌-ℤ◌, ◌<ℤ◌, ◌⊎◌, List, length, map, Option}
+use Rattle.std.specs.Prelude.{Some, IsTrue, is_some, if◌then◌else◌, slice_set, slice_index, ◌↔◌}
 use Rattle.std.specs.List.{swap}
 use Rattle.std.specs.Int.{int_max}
 use Rattle.fixed_num.specs.Sums.{sum_below}
@@ -12,15 +13,18 @@ use Rattle.instance_model.specs.Rules.{clash_rule_at, IsFeasible}
 
 -- how far the load of resource c in period t is above its upper limit, and how far below its lower one, in counts
 unfoldable pub band_gap : Tables → List (Option ℕ) → ℕ → ℕ → ℤ
-band_gap inst plan c t = int_max (pos 0) (load_sum inst plan c t -ℤ upper_of inst c t) +ℤ int_max (pos 0) (lower_of inst c t -ℤ load_sum inst plan c t)
+band_gap inst plan c t = int_max (pos 0) (load_sum inst plan c t -ℤ upper_of inst c t)
+    +ℤ int_max (pos 0) (lower_of inst c t -ℤ load_sum inst plan c t)
 
 -- how far all loads are outside their limits, in counts
 unfoldable pub band_gaps : Tables → List (Option ℕ) → ℤ
-band_gaps inst plan = sum_below (length inst.resource_names) (λ c. sum_below inst.periods (λ u. band_gap inst plan c (u + 1)))
+band_gaps inst plan =
+    sum_below (length inst.resource_names) (λ c. sum_below inst.periods (λ u. band_gap inst plan c (u + 1)))
 
 -- how many exclusions are broken
 unfoldable pub clash_count : Tables → List (Option ℕ) → ℕ
-clash_count inst plan = count_sum (length inst.exclusion_names) (λ e. if is_some (clash_rule_at inst plan e) then 1 else 0)
+clash_count inst plan =
+    count_sum (length inst.exclusion_names) (λ e. if is_some (clash_rule_at inst plan e) then 1 else 0)
 
 -- how far all loads are outside their limits, and 10^12 for each broken exclusion
 unfoldable pub violation_of : Tables → List (Option ℕ) → ℤ
@@ -36,7 +40,8 @@ KeyBelow a b = (a.violation <ℤ b.violation) ⊎ ((a.violation ≡ b.violation)
 
 -- a plan of allowed starts has no violation exactly where it is feasible
 abbrev pub NoViolationMeansFeasible : Tables → Type 0
-NoViolationMeansFeasible inst = (starts : List ℕ) → AreAllowedStarts inst starts → (violation_of inst (map Some starts) ≡ pos 0) ↔ IsFeasible inst (map Some starts)
+NoViolationMeansFeasible inst = (starts : List ℕ) → AreAllowedStarts inst starts
+    → (violation_of inst (map Some starts) ≡ pos 0) ↔ IsFeasible inst (map Some starts)
 
 -- ---- neighbours
 

@@ -1,6 +1,7 @@
 -- Plans, what is in progress under one, and what it adds up. A plan gives each intervention, in file order, one start
 -- or none. Runs on board, where only some interventions have a start, are such a list too.
-use Rattle.std.specs.Prelude.{◌*◌, ◌^◌, ◌≡◌, ℕ, ◌+◌, ◌<◌, ◌≤◌, ℤ, pos, Bool, false, ◌&&◌, List, length, Option, Some, None, slice_index, slice_index_or, unsigned_abs, IfSome, IsTrue, if◌then◌else◌}
+use Rattle.std.specs.Prelude.{◌*◌, ◌^◌, ◌≡◌, ℕ, ◌+◌, ◌<◌, ◌≤◌, ℤ, pos, Bool, false, ◌&&◌, List, length, Option, Some}
+use Rattle.std.specs.Prelude.{None, slice_index, slice_index_or, unsigned_abs, IfSome, IsTrue, if◌then◌else◌}
 use Rattle.fixed_num.specs.Sums.{sum_below, list_of}
 use Rattle.instance_model.specs.Naturals.{count_sum}
 use Rattle.instance_model.specs.Tables.{Tables, is_allowed, scenarios_of, in_run, risk_of, soft_of, load_of}
@@ -61,7 +62,8 @@ scenario_sums inst plan t = list_of (scenarios_of inst t) (λ k. scenario_sum in
 
 -- the scenario sums of period t over the interventions before i
 unfoldable pub sums_before : Tables → List (Option ℕ) → ℕ → ℕ → List ℤ
-sums_before inst plan t i = list_of (scenarios_of inst t) (λ k. sum_below i (λ j. risk_at inst t (k + 1) j (start_of plan j)))
+sums_before inst plan t i =
+    list_of (scenarios_of inst t) (λ k. sum_below i (λ j. risk_at inst t (k + 1) j (start_of plan j)))
 
 -- a whole number is at most as large as a scenario sum of 1,024 risks can be
 pub record IsSmallSum (z : ℤ) : Type 0 where

@@ -1,6 +1,7 @@
 -- An instance as tables, and what is read from them. Periods, starts and scenarios count from 1; interventions,
 -- resources, seasons and exclusions from 0. Risks, loads and limits are counts of 10^-12.
-use Rattle.std.specs.Prelude.{ℕ, ◌+◌, ◌-◌, ◌*◌, ℤ, pos, Bool, false, ◌&&◌, List, [], sum, take, length, slice_index, slice_index_or, nat_le, nat_lt, ◌==◌, find, if◌then◌else◌, option_map, unwrap_or}
+use Rattle.std.specs.Prelude.{ℕ, ◌+◌, ◌-◌, ◌*◌, ℤ, pos, Bool, false, ◌&&◌, List, [], sum, take, length, slice_index}
+use Rattle.std.specs.Prelude.{slice_index_or, nat_le, nat_lt, ◌==◌, find, if◌then◌else◌, option_map, unwrap_or}
 use Rattle.instance_model.specs.declared.parts.LoadCell.{LoadCell}
 use Rattle.instance_model.specs.declared.parts.Exclusion.{Exclusion}
 use Rattle.instance_model.specs.Naturals.{count_sum, ceil_div_of}
@@ -75,7 +76,8 @@ all_entries inst before = count_sum (length inst.names) (entries_of inst before)
 
 -- how many entries stand before those of intervention i at start s
 unfoldable pub entries_before : Tables → (ℕ → ℕ) → ℕ → ℕ → ℕ
-entries_before inst before i s = count_sum i (entries_of inst before) + count_sum (s - 1) (λ k. entries_at inst before i (k + 1))
+entries_before inst before i s =
+    count_sum i (entries_of inst before) + count_sum (s - 1) (λ k. entries_at inst before i (k + 1))
 
 -- the place of the first entry of intervention i at start s in period t
 unfoldable pub entry_place : Tables → (ℕ → ℕ) → ℕ → ℕ → ℕ → ℕ
@@ -109,7 +111,8 @@ is_cell_of s t c cell = (cell.start == s) && (cell.period == t) && (cell.resourc
 
 -- the workload of resource c in period t of intervention i at start s: 0 where there is no cell
 unfoldable pub load_of : Tables → ℕ → ℕ → ℕ → ℕ → ℤ
-load_of inst i s c t = unwrap_or (option_map (λ cell. cell.load) (find (is_cell_of s t c) (slice_index_or inst.loads i []))) (pos 0)
+load_of inst i s c t =
+    unwrap_or (option_map (λ cell. cell.load) (find (is_cell_of s t c) (slice_index_or inst.loads i []))) (pos 0)
 
 -- the upper limit of resource c in period t
 unfoldable pub upper_of : Tables → ℕ → ℕ → ℤ

@@ -50,23 +50,30 @@ score_of inst plan = sum_of_floors inst (numerator_of inst plan)
 abbrev pub roof_of : Tables → List (Option ℕ) → ℤ
 roof_of inst plan = sum_of_ceils inst (numerator_of inst plan)
 
--- ---- printed values, in counts of 10^-12: each low value is at most what the numbers of the file give, each high one at least
+-- ---- printed values, in counts of 10^-12: each low value is at most what the
+-- numbers of the file give, each high one at least
 
--- how far the sum over the periods may be off by rounding, in 10^-18: half of (2 * 10^6 - alpha) for each soft start in progress, rounded up by period
+-- how far the sum over the periods may be off by rounding, in 10^-18: half of (2 * 10^6 - alpha) for each
+-- soft start in progress, rounded up by period
 unfoldable pub cost_slack : Tables → List (Option ℕ) → ℕ
-cost_slack inst plan = count_sum inst.periods (λ u. ceil_div_of (soft_count inst plan (u + 1) * (2_000_000 - inst.alpha)) 2)
+cost_slack inst plan =
+    count_sum inst.periods (λ u. ceil_div_of (soft_count inst plan (u + 1) * (2_000_000 - inst.alpha)) 2)
 
--- how far the sum of the means may be off by rounding: half a count for each soft start in progress, rounded up by period
+-- how far the sum of the means may be off by rounding: half a count for each
+-- soft start in progress, rounded up by period
 unfoldable pub mean_slack : Tables → List (Option ℕ) → ℕ
 mean_slack inst plan = count_sum inst.periods (λ u. ceil_div_of (soft_count inst plan (u + 1)) 2)
 
 -- the sum over the periods of the excess, rounded down, less a count for each soft start in progress, but not below 0
 unfoldable pub excess_floors : Tables → List (Option ℕ) → ℤ
-excess_floors inst plan = sum_below inst.periods (λ u. int_max (pos 0) (floor_of (excess_of inst plan (u + 1)) (scenarios_of inst (u + 1)) -ℤ pos (soft_count inst plan (u + 1))))
+excess_floors inst plan = sum_below inst.periods
+    (λ u. int_max (pos 0)
+    (floor_of (excess_of inst plan (u + 1)) (scenarios_of inst (u + 1)) -ℤ pos (soft_count inst plan (u + 1))))
 
 -- the sum over the periods of the excess, rounded up, and a count more for each soft start in progress
 unfoldable pub excess_ceils : Tables → List (Option ℕ) → ℤ
-excess_ceils inst plan = sum_below inst.periods (λ u. ceil_of (excess_of inst plan (u + 1)) (scenarios_of inst (u + 1)) +ℤ pos (soft_count inst plan (u + 1)))
+excess_ceils inst plan = sum_below inst.periods
+    (λ u. ceil_of (excess_of inst plan (u + 1)) (scenarios_of inst (u + 1)) +ℤ pos (soft_count inst plan (u + 1)))
 
 abbrev pub cost_low_of : Tables → List (Option ℕ) → ℤ
 cost_low_of inst plan = floor_of (score_of inst plan -ℤ pos (cost_slack inst plan)) (inst.periods * 1_000_000)

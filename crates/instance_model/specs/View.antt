@@ -1,5 +1,6 @@
 -- The tables that the fields of an instance stand for, and the columns that say where its entries stand.
-use Rattle.std.specs.Prelude.{◌≡◌, ℕ, ◌+◌, ◌-◌, ◌<◌, ◌≤◌, map, length, string_bytes, slice_index, slice_index_or, List, [], Vec, sum, take}
+use Rattle.std.specs.Prelude.{◌≡◌, ℕ, ◌+◌, ◌-◌, ◌<◌, ◌≤◌, map, length, string_bytes, slice_index, slice_index_or, List}
+use Rattle.std.specs.Prelude.{[], Vec, sum, take}
 use Rattle.std.specs.declared.alloc.Global.{Global}
 use Rattle.instance_model.specs.declared.parts.Parts.{Parts}
 use Rattle.instance_model.specs.declared.offsets.Offsets.{Offsets}
@@ -56,7 +57,8 @@ pub record AreRowPlaces (inst : Tables) (before : ℕ → ℕ) (i : ℕ) (row : 
 pub record AreOffsets (inst : Tables) (o : Offsets) : Type 0 where
   pub sound : IsColumn inst.periods o.before.items
   pub each : length o.places.items ≡ length inst.delta
-  pub rows : (i : ℕ) → i < length inst.delta → AreRowPlaces inst (column_at o.before.items) i (slice_index_or (rows_of o.places.items) i [])
+  pub rows : (i : ℕ) → i < length inst.delta
+      → AreRowPlaces inst (column_at o.before.items) i (slice_index_or (rows_of o.places.items) i [])
 
 -- how many of the counts stand before each one, and before the end
 pub record AreSums (counts sums : List ℕ) : Type 0 where

@@ -17,7 +17,8 @@ pub fn find_cell(cells: &[LoadCell], s: u32, t: u32, c: u32) -> Option<usize>
     requires { AllPairs CellBefore cells.now }
     ensures within { IfSome result (λ k. k < length cells.now) }
     ensures found { IfSome result (λ k. (d : LoadCell) → HasKey s t c (slice_index_or cells.now k d)) }
-    ensures none { IfNone result ((k : ℕ) (d : LoadCell) → k < length cells.now → HasKey s t c (slice_index_or cells.now k d) → ⊥) }
+    ensures none { IfNone result
+        ((k : ℕ) (d : LoadCell) → k < length cells.now → HasKey s t c (slice_index_or cells.now k d) → ⊥) }
 {
     let mut low = 0;
     let mut high = cells.len();

@@ -1,8 +1,10 @@
 //! The instance: contracts see it as the record `Tables`, and each call reads one function of those tables.
-ghost use Rattle.std.specs.Prelude.{◌^◌, ◌≡◌, ℕ, ◌+◌, ◌<◌, ◌≤◌, ◌*◌, length, IfOk, IfSome, IfNone, IsTrue, Contains, slice_index, slice_get, None, Some, position, bytes_eq, unsigned_abs};
+ghost use Rattle.std.specs.Prelude.{◌^◌, ◌≡◌, ℕ, ◌+◌, ◌<◌, ◌≤◌, ◌*◌, length, IfOk, IfSome, IfNone, IsTrue, Contains};
+ghost use Rattle.std.specs.Prelude.{slice_index, slice_get, None, Some, position, bytes_eq, unsigned_abs};
 ghost use Rattle.instance_model.specs.Fitting.{IsFitting};
 ghost use Rattle.instance_model.specs.View.{tables_of};
-ghost use Rattle.instance_model.specs.Tables.{scenarios_of, tmax, delta_of, is_allowed, in_run, risk_of, soft_of, load_of, rank_of, upper_of, lower_of, in_season_of, exclusion_of};
+ghost use Rattle.instance_model.specs.Tables.{scenarios_of, tmax, delta_of, is_allowed, in_run, risk_of, soft_of};
+ghost use Rattle.instance_model.specs.Tables.{load_of, rank_of, upper_of, lower_of, in_season_of, exclusion_of};
 
 use crate::cells::find_cell;
 use crate::offsets::{Offsets, is_allowed_in, numbers_to, start_count, sums_before};
@@ -203,7 +205,8 @@ impl Instance {
         self.parts.lower[c as usize * self.parts.periods as usize + (t as usize - 1)]
     }
 
-    /// The workload of resource `c` in period `t` of intervention `i` at start `s`. Searches the cells of `i` by bisection.
+    /// The workload of resource `c` in period `t` of intervention `i` at start `s`.
+    /// Searches the cells of `i` by bisection.
     pub fn load(&self, i: u32, s: u32, c: u32, t: u32) -> Fixed
         requires number { i < length self.now.names }
         requires allowed { IsTrue (is_allowed self.now i s) }

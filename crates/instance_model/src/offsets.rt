@@ -1,5 +1,6 @@
 //! Which starts are allowed, and where the entries of each start stand in a list over all of them.
-ghost use Rattle.std.specs.Prelude.{◌≡◌, ℕ, ◌+◌, ◌-◌, ◌*◌, ◌<◌, ◌≤◌, ◌^◌, length, IfOk, IsTrue, slice_index, slice_index_or, All, []};
+ghost use Rattle.std.specs.Prelude.{◌≡◌, ℕ, ◌+◌, ◌-◌, ◌*◌, ◌<◌, ◌≤◌, ◌^◌, length, IfOk, IsTrue, slice_index};
+ghost use Rattle.std.specs.Prelude.{slice_index_or, All, []};
 ghost use Rattle.instance_model.specs.Naturals.{count_sum};
 ghost use Rattle.instance_model.specs.Tables.{allowed_of, tmax, entries_at, entries_of};
 ghost use Rattle.instance_model.specs.Fitting.{IsFitting};
@@ -125,7 +126,8 @@ fn row_places(
     requires first { first ≡ count_sum i (entries_of (tables_of parts.now) (column_at before.now)) }
     requires small { first ≤ i * 268_435_456 }
     ensures row { IfOk result (λ r. AreRowPlaces (tables_of parts.now) (column_at before.now) i r.0.items) }
-    ensures next { IfOk result (λ r. r.1 ≡ count_sum (i + 1) (entries_of (tables_of parts.now) (column_at before.now))) }
+    ensures next { IfOk result
+        (λ r. r.1 ≡ count_sum (i + 1) (entries_of (tables_of parts.now) (column_at before.now))) }
     ensures small { IfOk result (λ r. r.1 ≤ (i + 1) * 268_435_456) }
 {
     let mut row = Vec::new(alloc);
@@ -165,8 +167,10 @@ impl Offsets {
         requires order { s ≤ t }
         requires ends { t ≤ length self.now.before.items }
         requires rises { slice_index self.now.before.items (s - 1) ≤ slice_index self.now.before.items (t - 1) }
-        requires small { slice_index (slice_index_or (rows_of self.now.places.items) i []) (s - 1) + (slice_index self.now.before.items (t - 1) - slice_index self.now.before.items (s - 1)) < 2 ^ 64 }
-        ensures { result ≡ slice_index (slice_index_or (rows_of self.now.places.items) i []) (s - 1) + (slice_index self.now.before.items (t - 1) - slice_index self.now.before.items (s - 1)) }
+        requires small { slice_index (slice_index_or (rows_of self.now.places.items) i []) (s - 1)
+            + (slice_index self.now.before.items (t - 1) - slice_index self.now.before.items (s - 1)) < 2 ^ 64 }
+        ensures { result ≡ slice_index (slice_index_or (rows_of self.now.places.items) i []) (s - 1)
+            + (slice_index self.now.before.items (t - 1) - slice_index self.now.before.items (s - 1)) }
     {
         let row = self.places[i as usize].as_slice();
         row[s as usize - 1] + entries_between(self.before.as_slice(), s, t)

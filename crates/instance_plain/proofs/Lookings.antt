@@ -1,5 +1,6 @@
 -- What is looked up in a value, as the code sees it.
-use Rattle.std.proofs.Common.{◌≡◌, ℕ, suc, ◌+◌, ◌<◌, Bool, true, false, cond, List, [], ◌∷◌, ◌++◌, map, length, take, drop, get_or, Some, refl, sym, ◌∙◌, ap, add-one}
+use Rattle.std.proofs.Common.{◌≡◌, ℕ, suc, ◌+◌, ◌<◌, Bool, true, false, cond, List, [], ◌∷◌, ◌++◌, map, length, take}
+use Rattle.std.proofs.Common.{drop, get_or, Some, refl, sym, ◌∙◌, ap, add-one}
 use Rattle.std.specs.Prelude.{Vec}
 use Rattle.std.specs.declared.alloc.Global.{Global}
 use Rattle.std.proofs.Math.Seq.{drop-cons}
@@ -22,14 +23,21 @@ entry_list-of : (ms : List Member_view) → entry_list (members_of ms) ≡ map e
 entry_list-of [] = refl
 entry_list-of (m ∷ ms) = ap (λ r. entry_of m ∷ r) (entry_list-of ms)
 
-pub elements-list : (t : Tree) (v : Vec Tree Global) → t.node ≡ Listed v → map tree_view v.items ≡ elements (tree_view t)
-elements-list t v e = sym (ap elements (tree_opened t ∙ ap (λ n. json.tree t.at t.end n) (ap node_view e ∙ list_opened v)) ∙ tree_list-of (map tree_view v.items))
+pub elements-list : (t : Tree) (v : Vec Tree Global) → t.node ≡ Listed v
+    → map tree_view v.items ≡ elements (tree_view t)
+elements-list t v e = sym
+    (ap elements (tree_opened t ∙ ap (λ n. json.tree t.at t.end n) (ap node_view e ∙ list_opened v))
+    ∙ tree_list-of (map tree_view v.items))
 
-pub entries-object : (t : Tree) (v : Vec Member Global) → t.node ≡ Object v → entries_view v.items ≡ entries (tree_view t)
-entries-object t v e = sym (ap entries (tree_opened t ∙ ap (λ n. json.tree t.at t.end n) (ap node_view e ∙ object_opened v)) ∙ entry_list-of (map member_view v.items))
+pub entries-object : (t : Tree) (v : Vec Member Global) → t.node ≡ Object v
+    → entries_view v.items ≡ entries (tree_view t)
+entries-object t v e = sym
+    (ap entries (tree_opened t ∙ ap (λ n. json.tree t.at t.end n) (ap node_view e ∙ object_opened v))
+    ∙ entry_list-of (map member_view v.items))
 
 pub first_step : (p : List ℕ → Bool) (ms : List Member) (i : ℕ) (x : Member) → i < length ms → x ≡ get_or ms i x
-    → first_value p (entries_view (drop i ms)) ≡ cond (p x.key) (Some (tree_view x.value)) (first_value p (entries_view (drop (i + 1) ms)))
+    → first_value p (entries_view (drop i ms))
+    ≡ cond (p x.key) (Some (tree_view x.value)) (first_value p (entries_view (drop (i + 1) ms)))
 first_step p ms i x h e =
     ap (λ q. first_value p (entries_view q)) (drop-cons ms i x h ∙ ap (λ y. y ∷ drop (suc i) ms) (sym e))
     ∙ ap (λ k. cond (p k) (Some (member_view x).value) (first_value p (entries_view (drop (suc i) ms)))) (key_opened x)
@@ -38,29 +46,49 @@ first_step p ms i x h e =
 
 -- the first value that passes is this turn's, or comes later
 pub first_here : (p : List ℕ → Bool) (ms : List Member) (i : ℕ) (x : Member) → i < length ms → x ≡ get_or ms i x
-    → first_value p (entries_view (drop i ms)) ≡ first_value p (entries_view ms) → p x.key ≡ true → Some (tree_view x.value) ≡ first_value p (entries_view ms)
-first_here p ms i x h e k t = sym (sym k ∙ first_step p ms i x h e ∙ ap (λ b. cond b (Some (tree_view x.value)) (first_value p (entries_view (drop (i + 1) ms)))) t)
+    → first_value p (entries_view (drop i ms)) ≡ first_value p (entries_view ms) → p x.key ≡ true
+    → Some (tree_view x.value) ≡ first_value p (entries_view ms)
+first_here p ms i x h e k t = sym
+    (sym k ∙ first_step p ms i x h e
+    ∙ ap (λ b. cond b (Some (tree_view x.value)) (first_value p (entries_view (drop (i + 1) ms)))) t)
 
 pub first_later : (p : List ℕ → Bool) (ms : List Member) (i : ℕ) (x : Member) → i < length ms → x ≡ get_or ms i x
-    → first_value p (entries_view (drop i ms)) ≡ first_value p (entries_view ms) → p x.key ≡ false → first_value p (entries_view (drop (i + 1) ms)) ≡ first_value p (entries_view ms)
-first_later p ms i x h e k t = sym (sym k ∙ first_step p ms i x h e ∙ ap (λ b. cond b (Some (tree_view x.value)) (first_value p (entries_view (drop (i + 1) ms)))) t)
+    → first_value p (entries_view (drop i ms)) ≡ first_value p (entries_view ms) → p x.key ≡ false
+    → first_value p (entries_view (drop (i + 1) ms)) ≡ first_value p (entries_view ms)
+first_later p ms i x h e k t = sym
+    (sym k ∙ first_step p ms i x h e
+    ∙ ap (λ b. cond b (Some (tree_view x.value)) (first_value p (entries_view (drop (i + 1) ms)))) t)
 
-pub entries-more : (ms : List Member) (i : ℕ) (x : Member) → i < length ms → x ≡ get_or ms i x → entries_view (take (i + 1) ms) ≡ entries_view (take i ms) ++ record { key = x.key; value = tree_view x.value } ∷ []
+pub entries-more : (ms : List Member) (i : ℕ) (x : Member) → i < length ms → x ≡ get_or ms i x
+    → entries_view (take (i + 1) ms) ≡ entries_view (take i ms) ++ record {
+      key = x.key;
+      value = tree_view x.value;
+    } ∷ []
 entries-more ms i x h e = ap entries_view (taken_more ms i x h e) ∙ by (take i ms)
   where
     seen : entry_of (member_view x) ≡ record { key = x.key; value = tree_view x.value }
-    seen = ap (λ k. let r : Entry = record { key = k; value = (member_view x).value } in r) (key_opened x) ∙ ap (λ v. let r : Entry = record { key = x.key; value = v } in r) (value_opened x)
+    seen = ap (λ k. let r : Entry = record { key = k; value = (member_view x).value } in r) (key_opened x)
+        ∙ ap (λ v. let r : Entry = record { key = x.key; value = v } in r) (value_opened x)
 
-    by : (xs : List Member) → entries_view (xs ++ x ∷ []) ≡ entries_view xs ++ record { key = x.key; value = tree_view x.value } ∷ []
+    by : (xs : List Member) → entries_view (xs ++ x ∷ []) ≡ entries_view xs ++ record {
+      key = x.key;
+      value = tree_view x.value;
+    } ∷ []
     by [] = ap (λ r. r ∷ []) seen
     by (y ∷ xs) = ap (λ r. entry_of (member_view y) ∷ r) (by xs)
 
 pub entry_seen : (x : Member) → entry_of (member_view x) ≡ record { key = x.key; value = tree_view x.value }
-entry_seen x = ap (λ k. let r : Entry = record { key = k; value = (member_view x).value } in r) (key_opened x) ∙ ap (λ v. let r : Entry = record { key = x.key; value = v } in r) (value_opened x)
+entry_seen x = ap (λ k. let r : Entry = record { key = k; value = (member_view x).value } in r) (key_opened x)
+    ∙ ap (λ v. let r : Entry = record { key = x.key; value = v } in r) (value_opened x)
 
-pub entries-parted : (ms : List Member) (i : ℕ) (x : Member) → i < length ms → x ≡ get_or ms i x → entries_view ms ≡ entries_view (take i ms) ++ (record { key = x.key; value = tree_view x.value } ∷ entries_view (drop (i + 1) ms))
+pub entries-parted : (ms : List Member) (i : ℕ) (x : Member) → i < length ms → x ≡ get_or ms i x
+    → entries_view ms ≡ entries_view (take i ms) ++ (record { key = x.key; value = tree_view x.value }
+    ∷ entries_view (drop (i + 1) ms))
 entries-parted ms i x h e = ap entries_view (parted ms i x h e) ∙ by (take i ms)
   where
-    by : (xs : List Member) → entries_view (xs ++ (x ∷ drop (i + 1) ms)) ≡ entries_view xs ++ (record { key = x.key; value = tree_view x.value } ∷ entries_view (drop (i + 1) ms))
+    by : (xs : List Member) → entries_view (xs ++ (x ∷ drop (i + 1) ms)) ≡ entries_view xs ++ (record {
+      key = x.key;
+      value = tree_view x.value;
+    } ∷ entries_view (drop (i + 1) ms))
     by [] = ap (λ r. r ∷ entries_view (drop (i + 1) ms)) (entry_seen x)
     by (y ∷ xs) = ap (λ r. entry_of (member_view y) ∷ r) (by xs)

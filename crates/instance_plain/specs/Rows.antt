@@ -1,5 +1,6 @@
 -- Defines tests that the rows of an intervention have no fault across the file.
-use Rattle.std.specs.Prelude.{ℕ, zero, suc, ◌+◌, ◌-◌, Bool, true, false, ◌&&◌, ◌==◌, cond, List, [], Option, Some, None, length, slice_index, nat_le}
+use Rattle.std.specs.Prelude.{ℕ, zero, suc, ◌+◌, ◌-◌, Bool, true, false, ◌&&◌, ◌==◌, cond, List, [], Option, Some, None}
+use Rattle.std.specs.Prelude.{length, slice_index, nat_le}
 use Rattle.json_grammar.specs.Tree.{Tree}
 use Rattle.instance_model.specs.Tables.{allowed_of}
 use Rattle.instance_shape.specs.declared.fault.Known.TheVariants as is
@@ -22,7 +23,8 @@ run_is_sound counts v s d = all_hold d (λ j. has_count (slice_index counts (s +
 
 -- the risks of an intervention with these durations have no fault
 abbrev pub runs_are_sound : ℕ → List ℕ → List ℕ → Tree → Bool
-runs_are_sound periods counts ds v = all_hold (length ds) (λ k. cond (allowed_of periods ds (k + 1)) (run_is_sound counts v (k + 1) (slice_index ds k)) true)
+runs_are_sound periods counts ds v = all_hold (length ds)
+    (λ k. cond (allowed_of periods ds (k + 1)) (run_is_sound counts v (k + 1) (slice_index ds k)) true)
 
 -- what a run gives, period by period
 abbrev pub run_rows : {A : Type 0} → (Tree → ℕ → ℕ → List A) → Tree → ℕ → ℕ → List A
@@ -30,10 +32,12 @@ run_rows f v s d = lists_below d (λ j. f v s (s + j))
 
 -- what the allowed runs give, start by start
 abbrev pub runs_rows : {A : Type 0} → (Tree → ℕ → ℕ → List A) → ℕ → List ℕ → Tree → List A
-runs_rows f periods ds v = lists_below (length ds) (λ k. cond (allowed_of periods ds (k + 1)) (run_rows f v (k + 1) (slice_index ds k)) [])
+runs_rows f periods ds v =
+    lists_below (length ds) (λ k. cond (allowed_of periods ds (k + 1)) (run_rows f v (k + 1) (slice_index ds k)) [])
 
 -- an intervention without workload has no fault across the file
 abbrev pub is_sound_intervention : ℕ → List ℕ → Tree → Bool
 is_sound_intervention periods counts v =
     (nat_le 1 (whole_at (known is.Tmax v)) && nat_le (whole_at (known is.Tmax v)) periods)
-    && (nat_le (whole_at (known is.Tmax v)) (length (elements (known is.Delta v))) && runs_are_sound periods counts (durations v) v)
+    && (nat_le (whole_at (known is.Tmax v)) (length (elements (known is.Delta v)))
+    && runs_are_sound periods counts (durations v) v)

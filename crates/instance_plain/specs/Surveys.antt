@@ -1,11 +1,13 @@
--- Defines what a survey of values tells: whether there is a fault of shape among them, and how many numbers of each sort they hold.
+-- Defines what a survey of values tells: whether there is a fault of shape among them,
+-- and how many numbers of each sort they hold.
 use Rattle.std.specs.Prelude.{◌≡◌, ℕ, ◌++◌, Bool, true, false, List, [], ◌∷◌, Option, Some, None, length}
 use Rattle.json_grammar.specs.Tree.{tree, Node, Members}
 use Rattle.instance_model.specs.declared.limits.Limits.{Limits}
 use Rattle.instance_shape.specs.declared.fault.Fault.{Fault}
 use Rattle.instance_shape.specs.declared.spot.Spot.{Spot}
 use Rattle.instance_shape.specs.Shape.{Placed, placed_node, kind_of, required}
-use Rattle.instance_shape.specs.ShapeFaults.{own_faults, inside_faults, values_faults, numbers_at, is_risk, is_workload, keys_faults, keys_of, missing}
+use Rattle.instance_shape.specs.ShapeFaults.{own_faults, inside_faults, values_faults, numbers_at, is_risk, is_workload}
+use Rattle.instance_shape.specs.ShapeFaults.{keys_faults, keys_of, missing}
 use Rattle.instance_shape.specs.FileTables.{rounded}
 use Rattle.instance_plain.specs.declared.survey.Survey.{Survey}
 
@@ -49,9 +51,11 @@ pub record IsInside (limits : Limits) (spot : Spot) (node : Node) (s : Survey) :
   pub values : IsSurvey limits (placed_node spot node) s
 
 abbrev pub InsideSurveys : Limits → Spot → Node → Option Survey → Type 0
-InsideSurveys limits spot node None = (last : ℕ) → inside_faults limits spot last node ++ values_faults limits (placed_node spot node) ≡ [] → ⊥
+InsideSurveys limits spot node None =
+    (last : ℕ) → inside_faults limits spot last node ++ values_faults limits (placed_node spot node) ≡ [] → ⊥
 InsideSurveys limits spot node (Some s) = IsInside limits spot node s
 
 -- the faults of the keys of an object, with that of a required key that is missing
 abbrev pub object_faults : Limits → Spot → Members → ℕ → List Fault
-object_faults limits spot ms last = keys_faults limits spot [] ms ++ missing (required spot) (keys_of (kind_of spot) ms) last
+object_faults limits spot ms last =
+    keys_faults limits spot [] ms ++ missing (required spot) (keys_of (kind_of spot) ms) last

@@ -1,4 +1,5 @@
--- Defines what the code knows of a text: that its values have the right shape, and whether there is a fault across the file.
+-- Defines what the code knows of a text: that its values have the right shape,
+-- and whether there is a fault across the file.
 use Rattle.std.specs.Prelude.{◌≡◌, ◌≤◌, Bool, true, false, [], Option, None, length}
 use Rattle.json_grammar.specs.Tree.{Tree}
 use Rattle.instance_model.specs.declared.limits.Limits.{Limits}

@@ -1,6 +1,7 @@
 //! The tables of the interventions, one by one.
 
-ghost use Rattle.std.specs.Prelude.{◌≡◌, ◌≢◌, ◌≤◌, ◌++◌, AllPairs, length, IfOk, IfSome, true, map, is_some, string_bytes};
+ghost use Rattle.std.specs.Prelude.{◌≡◌, ◌≢◌, ◌≤◌, ◌++◌, AllPairs, length, IfOk, IfSome, true, map, is_some};
+ghost use Rattle.std.specs.Prelude.{string_bytes};
 ghost use Rattle.json_grammar.specs.Trees.{tree_view};
 ghost use Rattle.instance_shape.specs.FileTables as tables;
 ghost use Rattle.instance_shape.specs.LookUp as look;
@@ -37,10 +38,17 @@ fn add_intervention(
 ) -> Result<Option<Vec<u32>>, AllocError>
     requires each { length counts.now ≡ periods }
     requires few { periods ≤ 512 }
-    ensures sound { IfOk result (λ r. is_some r ≡ is_sound_intervention periods counts.now (tree_view intervention.now)) }
+    ensures sound { IfOk result
+        (λ r. is_some r ≡ is_sound_intervention periods counts.now (tree_view intervention.now)) }
     ensures durations { IfOk result (λ r. IfSome r (λ ds. ds.items ≡ look.durations (tree_view intervention.now))) }
-    ensures risks { IfOk result (λ r. IfSome r (λ ds. rows.new.risks.items ≡ rows.old.risks.items ++ runs_rows tables.risks_at periods (look.durations (tree_view intervention.now)) (tree_view intervention.now))) }
-    ensures soft { IfOk result (λ r. IfSome r (λ ds. rows.new.soft.items ≡ rows.old.soft.items ++ runs_rows tables.soft_at periods (look.durations (tree_view intervention.now)) (tree_view intervention.now))) }
+    ensures risks { IfOk result
+        (λ r. IfSome r
+        (λ ds. rows.new.risks.items ≡ rows.old.risks.items ++ runs_rows tables.risks_at periods (look.durations
+        (tree_view intervention.now)) (tree_view intervention.now))) }
+    ensures soft { IfOk result
+        (λ r. IfSome r
+        (λ ds. rows.new.soft.items ≡ rows.old.soft.items ++ runs_rows tables.soft_at periods (look.durations
+        (tree_view intervention.now)) (tree_view intervention.now))) }
 {
     let tmax = whole_at(intervention, Known::Tmax);
     if tmax == 0 || tmax > periods {

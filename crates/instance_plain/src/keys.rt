@@ -48,8 +48,11 @@ fn take_text(
     key: String,
 ) -> Result<bool, AllocError>
     requires { counts_by_text (shape.kind_of spot) ≡ true }
-    ensures clear { IfOk result (λ b. (at : ℕ) → TellsClear (key_faults limits.now spot (texts_of seen.old.keys) at (string_bytes key)) b) }
-    ensures added { IfOk result (λ b. b ≡ true → texts_of seen.new.keys ≡ texts_of seen.old.keys ++ key_of (shape.kind_of spot) (string_bytes key)) }
+    ensures clear { IfOk result
+        (λ b. (at : ℕ) → TellsClear (key_faults limits.now spot (texts_of seen.old.keys) at (string_bytes key)) b) }
+    ensures added { IfOk result
+        (λ b. b ≡ true
+        → texts_of seen.new.keys ≡ texts_of seen.old.keys ++ key_of (shape.kind_of spot) (string_bytes key)) }
 {
     let may_stand = may_be_text(limits, spot, seen.len(), key.as_str());
     let new = add_text(seen, key)?;
@@ -64,8 +67,10 @@ fn take_number(
     key: &str,
 ) -> Result<bool, AllocError>
     requires { shape.kind_of spot ≡ kinds.Numbers }
-    ensures clear { IfOk result (λ b. (at : ℕ) → TellsClear (key_faults limits.now spot (numbers_of seen.old.keys) at key.now) b) }
-    ensures added { IfOk result (λ b. b ≡ true → numbers_of seen.new.keys ≡ numbers_of seen.old.keys ++ key_of (shape.kind_of spot) key.now) }
+    ensures clear { IfOk result
+        (λ b. (at : ℕ) → TellsClear (key_faults limits.now spot (numbers_of seen.old.keys) at key.now) b) }
+    ensures added { IfOk result
+        (λ b. b ≡ true → numbers_of seen.new.keys ≡ numbers_of seen.old.keys ++ key_of (shape.kind_of spot) key.now) }
 {
     let _ = limits;
     match number_of(key) {
@@ -82,7 +87,8 @@ fn has_clear_texts(
     members: &[Member],
 ) -> Result<bool, AllocError>
     requires { counts_by_text (shape.kind_of spot) ≡ true }
-    ensures { IfOk result (λ b. (last : ℕ) → TellsClear (object_faults limits.now spot (members_view members.now) last) b) }
+    ensures { IfOk result
+        (λ b. (last : ℕ) → TellsClear (object_faults limits.now spot (members_view members.now) last) b) }
 {
     let mut seen = IndexSet::new(alloc);
     for member in members {
@@ -102,7 +108,8 @@ fn has_clear_numbers(
     members: &[Member],
 ) -> Result<bool, AllocError>
     requires { shape.kind_of spot ≡ kinds.Numbers }
-    ensures { IfOk result (λ b. (last : ℕ) → TellsClear (object_faults limits.now spot (members_view members.now) last) b) }
+    ensures { IfOk result
+        (λ b. (last : ℕ) → TellsClear (object_faults limits.now spot (members_view members.now) last) b) }
 {
     let mut seen = IndexSet::new(alloc);
     for member in members {
@@ -121,7 +128,8 @@ pub fn has_clear_keys(
     members: &[Member],
 ) -> Result<bool, AllocError>
     requires { shape.has_shape (shape.kind_of spot) (json.Node.object (members_view members.now)) ≡ true }
-    ensures { IfOk result (λ b. (last : ℕ) → TellsClear (object_faults limits.now spot (members_view members.now) last) b) }
+    ensures { IfOk result
+        (λ b. (last : ℕ) → TellsClear (object_faults limits.now spot (members_view members.now) last) b) }
 {
     match kind_of(spot) {
         Kind::Record | Kind::Names => has_clear_texts(alloc, limits, spot, members),

@@ -33,7 +33,8 @@ pub fn entries(tree: &Tree) -> &[Member]
 
 /// The first value under a text.
 pub fn at_text<'a>(members: &'a [Member], key: &str) -> Option<&'a Tree>
-    ensures { option_map tree_view (option_copied result) ≡ look.first_value (bytes_eq key.now) (entries_view members.now) }
+    ensures { option_map tree_view (option_copied result)
+        ≡ look.first_value (bytes_eq key.now) (entries_view members.now) }
 {
     for member in members {
         if key == member.key.as_str() {
@@ -45,7 +46,8 @@ pub fn at_text<'a>(members: &'a [Member], key: &str) -> Option<&'a Tree>
 
 /// The first value under a period or start.
 pub fn at_number(members: &[Member], number: u32) -> Option<&Tree>
-    ensures { option_map tree_view (option_copied result) ≡ look.first_value (λ key. is_digits key && (number_written key == number)) (entries_view members.now) }
+    ensures { option_map tree_view (option_copied result)
+        ≡ look.first_value (λ key. is_digits key && (number_written key == number)) (entries_view members.now) }
 {
     for member in members {
         if number_of(member.key.as_str()) == Some(number) {
@@ -105,7 +107,8 @@ pub fn whole_at(tree: &Tree, known: Known) -> u32
 
 /// The risks of an intervention in a period at a start.
 pub fn risk_list(intervention: &Tree, period: u32, start: u32) -> Option<&[Tree]>
-    ensures { option_map (map tree_view) (option_copied result) ≡ look.risk_list (tree_view intervention.now) period start }
+    ensures { option_map (map tree_view) (option_copied result)
+        ≡ look.risk_list (tree_view intervention.now) period start }
 {
     let starts = at_number(entries_at(intervention, Known::Risk), period)?;
     let risks = at_number(entries(starts), start)?;

@@ -1,6 +1,7 @@
 //! Reading a text of the reduced form.
 
-ghost use Rattle.std.specs.Prelude.{◌≡◌, ◌<◌, ◌^◌, length, [], Err, None, IfOk, IfSome, IsTrue, pos, is_none, is_some, true, false, map, replicate};
+ghost use Rattle.std.specs.Prelude.{◌≡◌, ◌<◌, ◌^◌, length, [], Err, None, IfOk, IfSome, IsTrue, pos, is_none, is_some};
+ghost use Rattle.std.specs.Prelude.{true, false, map, replicate};
 ghost use Rattle.json_grammar.specs.Tree as json;
 ghost use Rattle.json_grammar.specs.Trees.{tree_view};
 ghost use Rattle.instance_model.specs.Limits.{standard_limits};
@@ -145,8 +146,11 @@ fn build(alloc: Global, root: &Tree, rounded: u64) -> Result<Option<Parts>, Allo
 /// The survey of a text, if it has no fault of shape and is of the reduced form.
 fn reduced_survey(alloc: Global, root: &Tree) -> Result<Option<Survey>, AllocError>
     requires room { length (placed spots.Root (tree_view root.now)) < 2 ^ 63 }
-    ensures none { IfOk result (λ r. r ≡ None → shape_faults standard_limits (tree_view root.now) ≡ [] → IsReduced (tree_view root.now) → ⊥) }
-    ensures some { IfOk result (λ r. IfSome r (λ s. (IsShaped standard_limits (tree_view root.now)) × (IsReduced (tree_view root.now)) × (s.rounded ≡ rounded_numbers (placed spots.Root (tree_view root.now))))) }
+    ensures none { IfOk result
+        (λ r. r ≡ None → shape_faults standard_limits (tree_view root.now) ≡ [] → IsReduced (tree_view root.now) → ⊥) }
+    ensures some { IfOk result
+        (λ r. IfSome r (λ s. (IsShaped standard_limits (tree_view root.now)) × (IsReduced (tree_view root.now))
+        × (s.rounded ≡ rounded_numbers (placed spots.Root (tree_view root.now))))) }
 {
     let limits = Limits::standard();
     let Some(survey) = survey_value(alloc, &limits, Spot::Root, root)? else {
@@ -203,119 +207,168 @@ mod tests {
     fn texts_of_the_reduced_form_and_others(rt: HostRuntime) {
         let table: [(&[u8], Result<(u32, u32, u64), PlainFault>); 25] = [
             (
-                b"{\"Resources\":{},\"Seasons\":{},\"Interventions\":{},\"Exclusions\":{},\"T\":1,\"Scenarios_number\":[1],\"Quantile\":1,\"Alpha\":1}",
+                b"{\"Resources\":{},\"Seasons\":{},\"Interventions\":{},\"Exclusions\":{},\"T\":1,\
+                    \"Scenarios_number\":[1],\"Quantile\":1,\"Alpha\":1}",
                 Ok((1, 0, 0)),
             ),
             (
-                b"{\"Resources\":{},\"Seasons\":{},\"Interventions\":{\"I1\":{\"tmax\":2,\"Delta\":[1,1],\"workload\":{},\"risk\":{\"1\":{\"1\":[1,3]},\"2\":{\"2\":[5,5]}}},\"I2\":{\"tmax\":2,\"Delta\":[1,1],\"workload\":{},\"risk\":{\"1\":{\"1\":[2,2]},\"2\":{\"2\":[4,0]}}}},\"Exclusions\":{},\"T\":2,\"Scenarios_number\":[2,2],\"Quantile\":0.5,\"Alpha\":0.5}",
+                b"{\"Resources\":{},\"Seasons\":{},\"Interventions\":{\"I1\":{\"tmax\":2,\"Delta\":[1,1],\
+                    \"workload\":{},\"risk\":{\"1\":{\"1\":[1,3]},\"2\":{\"2\":[5,5]}}},\"I2\":{\"tmax\":2,\
+                    \"Delta\":[1,1],\"workload\":{},\"risk\":{\"1\":{\"1\":[2,2]},\"2\":{\"2\":[4,0]}}}},\
+                    \"Exclusions\":{},\"T\":2,\"Scenarios_number\":[2,2],\"Quantile\":0.5,\"Alpha\":0.5}",
                 Ok((2, 2, 0)),
             ),
             (
-                b"{\"Resources\":{},\"Seasons\":{},\"Interventions\":{\"I1\":{\"tmax\":1,\"Delta\":[1],\"workload\":{},\"risk\":{\"1\":{\"1\":[1,3]}}}},\"Exclusions\":{},\"T\":1,\"Scenarios_number\":[2],\"Quantile\":0.95,\"Alpha\":0.5}",
+                b"{\"Resources\":{},\"Seasons\":{},\"Interventions\":{\"I1\":{\"tmax\":1,\"Delta\":[1],\
+                    \"workload\":{},\"risk\":{\"1\":{\"1\":[1,3]}}}},\"Exclusions\":{},\"T\":1,\
+                    \"Scenarios_number\":[2],\"Quantile\":0.95,\"Alpha\":0.5}",
                 Ok((1, 1, 0)),
             ),
             (
-                b"{\"Resources\":{},\"Seasons\":{},\"Interventions\":{\"I1\":{\"tmax\":1,\"Delta\":[1],\"workload\":{},\"risk\":{\"1\":{\"1\":[1,3.0000000000005]}}}},\"Exclusions\":{},\"T\":1,\"Scenarios_number\":[2],\"Quantile\":0.95,\"Alpha\":0.5}",
+                b"{\"Resources\":{},\"Seasons\":{},\"Interventions\":{\"I1\":{\"tmax\":1,\"Delta\":[1],\
+                    \"workload\":{},\"risk\":{\"1\":{\"1\":[1,3.0000000000005]}}}},\"Exclusions\":{},\"T\":1,\
+                    \"Scenarios_number\":[2],\"Quantile\":0.95,\"Alpha\":0.5}",
                 Ok((1, 1, 1)),
             ),
             (
-                b"{\"Resources\":{},\"Seasons\":{},\"Interventions\":{\"I1\":{\"tmax\":1,\"Delta\":[1],\"workload\":{},\"risk\":{\"1\":{\"1\":[1,3],\"7\":[0.0000000000004]}}}},\"Exclusions\":{},\"T\":1,\"Scenarios_number\":[2],\"Quantile\":0.95,\"Alpha\":0.5}",
+                b"{\"Resources\":{},\"Seasons\":{},\"Interventions\":{\"I1\":{\"tmax\":1,\"Delta\":[1],\
+                    \"workload\":{},\"risk\":{\"1\":{\"1\":[1,3],\"7\":[0.0000000000004]}}}},\"Exclusions\":{},\
+                    \"T\":1,\"Scenarios_number\":[2],\"Quantile\":0.95,\"Alpha\":0.5}",
                 Ok((1, 1, 1)),
             ),
             (
-                b"{\"Resources\":{},\"Seasons\":{},\"Interventions\":{\"I1\":{\"tmax\":\"1\",\"Delta\":[1.0,\"2\"],\"note\":{\"x\":1,\"x\":2},\"workload\":{},\"risk\":{\"1\":{\"1\":[1,3]}}}},\"Exclusions\":{},\"T\":1,\"Scenarios_number\":[2],\"Quantile\":0.95,\"Alpha\":0.5}",
+                b"{\"Resources\":{},\"Seasons\":{},\"Interventions\":{\"I1\":{\"tmax\":\"1\",\"Delta\":[1.0,\
+                    \"2\"],\"note\":{\"x\":1,\"x\":2},\"workload\":{},\"risk\":{\"1\":{\"1\":[1,3]}}}},\
+                    \"Exclusions\":{},\"T\":1,\"Scenarios_number\":[2],\"Quantile\":0.95,\"Alpha\":0.5}",
                 Ok((1, 1, 0)),
             ),
             // no object
             (b"[]", Err(PlainFault::NotBuilt)),
             // no JSON
             (
-                b"{\"Resources\":{},\"Seasons\":{},\"Interventions\":{\"I1\":{\"tmax\":1,\"Delta\":[1],\"workload\":{},\"risk\":{\"1\":{\"1\":[1,3]}}}},\"Exclusions\":{},\"T\":01,\"Scenarios_number\":[2],\"Quantile\":0.95,\"Alpha\":0.5}",
+                b"{\"Resources\":{},\"Seasons\":{},\"Interventions\":{\"I1\":{\"tmax\":1,\"Delta\":[1],\
+                    \"workload\":{},\"risk\":{\"1\":{\"1\":[1,3]}}}},\"Exclusions\":{},\"T\":01,\
+                    \"Scenarios_number\":[2],\"Quantile\":0.95,\"Alpha\":0.5}",
                 Err(PlainFault::NotBuilt),
             ),
             // double key
             (
-                b"{\"Resources\":{},\"Seasons\":{},\"Interventions\":{\"I1\":{\"tmax\":1,\"Delta\":[1],\"workload\":{},\"risk\":{\"1\":{\"1\":[1,3]}}}},\"Exclusions\":{},\"T\":1,\"T\":1,\"Scenarios_number\":[2],\"Quantile\":0.95,\"Alpha\":0.5}",
+                b"{\"Resources\":{},\"Seasons\":{},\"Interventions\":{\"I1\":{\"tmax\":1,\"Delta\":[1],\
+                    \"workload\":{},\"risk\":{\"1\":{\"1\":[1,3]}}}},\"Exclusions\":{},\"T\":1,\"T\":1,\
+                    \"Scenarios_number\":[2],\"Quantile\":0.95,\"Alpha\":0.5}",
                 Err(PlainFault::NotBuilt),
             ),
             // double start
             (
-                b"{\"Resources\":{},\"Seasons\":{},\"Interventions\":{\"I1\":{\"tmax\":1,\"Delta\":[1],\"workload\":{},\"risk\":{\"1\":{\"1\":[1,3],\"01\":[1,3]}}}},\"Exclusions\":{},\"T\":1,\"Scenarios_number\":[2],\"Quantile\":0.95,\"Alpha\":0.5}",
+                b"{\"Resources\":{},\"Seasons\":{},\"Interventions\":{\"I1\":{\"tmax\":1,\"Delta\":[1],\
+                    \"workload\":{},\"risk\":{\"1\":{\"1\":[1,3],\"01\":[1,3]}}}},\"Exclusions\":{},\"T\":1,\
+                    \"Scenarios_number\":[2],\"Quantile\":0.95,\"Alpha\":0.5}",
                 Err(PlainFault::NotBuilt),
             ),
             // blank in a name
             (
-                b"{\"Resources\":{},\"Seasons\":{},\"Interventions\":{\"I 1\":{\"tmax\":1,\"Delta\":[1],\"workload\":{},\"risk\":{\"1\":{\"1\":[1,3]}}}},\"Exclusions\":{},\"T\":1,\"Scenarios_number\":[2],\"Quantile\":0.95,\"Alpha\":0.5}",
+                b"{\"Resources\":{},\"Seasons\":{},\"Interventions\":{\"I 1\":{\"tmax\":1,\"Delta\":[1],\
+                    \"workload\":{},\"risk\":{\"1\":{\"1\":[1,3]}}}},\"Exclusions\":{},\"T\":1,\
+                    \"Scenarios_number\":[2],\"Quantile\":0.95,\"Alpha\":0.5}",
                 Err(PlainFault::NotBuilt),
             ),
             // missing
             (
-                b"{\"Resources\":{},\"Seasons\":{},\"Interventions\":{\"I1\":{\"tmax\":1,\"Delta\":[1],\"workload\":{},\"risk\":{\"1\":{\"1\":[1,3]}}}},\"Exclusions\":{},\"T\":1,\"Scenarios_number\":[2],\"Quantile\":0.95}",
+                b"{\"Resources\":{},\"Seasons\":{},\"Interventions\":{\"I1\":{\"tmax\":1,\"Delta\":[1],\
+                    \"workload\":{},\"risk\":{\"1\":{\"1\":[1,3]}}}},\"Exclusions\":{},\"T\":1,\
+                    \"Scenarios_number\":[2],\"Quantile\":0.95}",
                 Err(PlainFault::NotBuilt),
             ),
             // missing tmax
             (
-                b"{\"Resources\":{},\"Seasons\":{},\"Interventions\":{\"I1\":{\"Delta\":[1],\"workload\":{},\"risk\":{\"1\":{\"1\":[1,3]}}}},\"Exclusions\":{},\"T\":1,\"Scenarios_number\":[2],\"Quantile\":0.95,\"Alpha\":0.5}",
+                b"{\"Resources\":{},\"Seasons\":{},\"Interventions\":{\"I1\":{\"Delta\":[1],\"workload\":{},\
+                    \"risk\":{\"1\":{\"1\":[1,3]}}}},\"Exclusions\":{},\"T\":1,\"Scenarios_number\":[2],\
+                    \"Quantile\":0.95,\"Alpha\":0.5}",
                 Err(PlainFault::NotBuilt),
             ),
             // shape
             (
-                b"{\"Resources\":{},\"Seasons\":{},\"Interventions\":{\"I1\":{\"tmax\":1,\"Delta\":[true],\"workload\":{},\"risk\":{\"1\":{\"1\":[1,3]}}}},\"Exclusions\":{},\"T\":1,\"Scenarios_number\":[2],\"Quantile\":0.95,\"Alpha\":0.5}",
+                b"{\"Resources\":{},\"Seasons\":{},\"Interventions\":{\"I1\":{\"tmax\":1,\"Delta\":[true],\
+                    \"workload\":{},\"risk\":{\"1\":{\"1\":[1,3]}}}},\"Exclusions\":{},\"T\":1,\
+                    \"Scenarios_number\":[2],\"Quantile\":0.95,\"Alpha\":0.5}",
                 Err(PlainFault::NotBuilt),
             ),
             // too large
             (
-                b"{\"Resources\":{},\"Seasons\":{},\"Interventions\":{\"I1\":{\"tmax\":1,\"Delta\":[1],\"workload\":{},\"risk\":{\"1\":{\"1\":[1,1e8]}}}},\"Exclusions\":{},\"T\":1,\"Scenarios_number\":[2],\"Quantile\":0.95,\"Alpha\":0.5}",
+                b"{\"Resources\":{},\"Seasons\":{},\"Interventions\":{\"I1\":{\"tmax\":1,\"Delta\":[1],\
+                    \"workload\":{},\"risk\":{\"1\":{\"1\":[1,1e8]}}}},\"Exclusions\":{},\"T\":1,\
+                    \"Scenarios_number\":[2],\"Quantile\":0.95,\"Alpha\":0.5}",
                 Err(PlainFault::NotBuilt),
             ),
             // limit
             (
-                b"{\"Resources\":{},\"Seasons\":{},\"Interventions\":{\"I1\":{\"tmax\":1,\"Delta\":[1],\"workload\":{},\"risk\":{\"1\":{\"1\":[1,3]}}}},\"Exclusions\":{},\"T\":513,\"Scenarios_number\":[2],\"Quantile\":0.95,\"Alpha\":0.5}",
+                b"{\"Resources\":{},\"Seasons\":{},\"Interventions\":{\"I1\":{\"tmax\":1,\"Delta\":[1],\
+                    \"workload\":{},\"risk\":{\"1\":{\"1\":[1,3]}}}},\"Exclusions\":{},\"T\":513,\
+                    \"Scenarios_number\":[2],\"Quantile\":0.95,\"Alpha\":0.5}",
                 Err(PlainFault::NotBuilt),
             ),
             // limit scen
             (
-                b"{\"Resources\":{},\"Seasons\":{},\"Interventions\":{\"I1\":{\"tmax\":1,\"Delta\":[1],\"workload\":{},\"risk\":{\"1\":{\"1\":[1,3]}}}},\"Exclusions\":{},\"T\":1,\"Scenarios_number\":[1025],\"Quantile\":0.95,\"Alpha\":0.5}",
+                b"{\"Resources\":{},\"Seasons\":{},\"Interventions\":{\"I1\":{\"tmax\":1,\"Delta\":[1],\
+                    \"workload\":{},\"risk\":{\"1\":{\"1\":[1,3]}}}},\"Exclusions\":{},\"T\":1,\
+                    \"Scenarios_number\":[1025],\"Quantile\":0.95,\"Alpha\":0.5}",
                 Err(PlainFault::NotBuilt),
             ),
             // quantile 0
             (
-                b"{\"Resources\":{},\"Seasons\":{},\"Interventions\":{\"I1\":{\"tmax\":1,\"Delta\":[1],\"workload\":{},\"risk\":{\"1\":{\"1\":[1,3]}}}},\"Exclusions\":{},\"T\":1,\"Scenarios_number\":[2],\"Quantile\":0,\"Alpha\":0.5}",
+                b"{\"Resources\":{},\"Seasons\":{},\"Interventions\":{\"I1\":{\"tmax\":1,\"Delta\":[1],\
+                    \"workload\":{},\"risk\":{\"1\":{\"1\":[1,3]}}}},\"Exclusions\":{},\"T\":1,\
+                    \"Scenarios_number\":[2],\"Quantile\":0,\"Alpha\":0.5}",
                 Err(PlainFault::NotBuilt),
             ),
             // scenario list
             (
-                b"{\"Resources\":{},\"Seasons\":{},\"Interventions\":{\"I1\":{\"tmax\":1,\"Delta\":[1],\"workload\":{},\"risk\":{\"1\":{\"1\":[1,3]}}}},\"Exclusions\":{},\"T\":1,\"Scenarios_number\":[2,2],\"Quantile\":0.95,\"Alpha\":0.5}",
+                b"{\"Resources\":{},\"Seasons\":{},\"Interventions\":{\"I1\":{\"tmax\":1,\"Delta\":[1],\
+                    \"workload\":{},\"risk\":{\"1\":{\"1\":[1,3]}}}},\"Exclusions\":{},\"T\":1,\
+                    \"Scenarios_number\":[2,2],\"Quantile\":0.95,\"Alpha\":0.5}",
                 Err(PlainFault::NotBuilt),
             ),
             // tmax
             (
-                b"{\"Resources\":{},\"Seasons\":{},\"Interventions\":{\"I1\":{\"tmax\":2,\"Delta\":[1],\"workload\":{},\"risk\":{\"1\":{\"1\":[1,3]}}}},\"Exclusions\":{},\"T\":1,\"Scenarios_number\":[2],\"Quantile\":0.95,\"Alpha\":0.5}",
+                b"{\"Resources\":{},\"Seasons\":{},\"Interventions\":{\"I1\":{\"tmax\":2,\"Delta\":[1],\
+                    \"workload\":{},\"risk\":{\"1\":{\"1\":[1,3]}}}},\"Exclusions\":{},\"T\":1,\
+                    \"Scenarios_number\":[2],\"Quantile\":0.95,\"Alpha\":0.5}",
                 Err(PlainFault::NotBuilt),
             ),
             // no delta
             (
-                b"{\"Resources\":{},\"Seasons\":{},\"Interventions\":{\"I1\":{\"tmax\":1,\"Delta\":[],\"workload\":{},\"risk\":{\"1\":{\"1\":[1,3]}}}},\"Exclusions\":{},\"T\":1,\"Scenarios_number\":[2],\"Quantile\":0.95,\"Alpha\":0.5}",
+                b"{\"Resources\":{},\"Seasons\":{},\"Interventions\":{\"I1\":{\"tmax\":1,\"Delta\":[],\
+                    \"workload\":{},\"risk\":{\"1\":{\"1\":[1,3]}}}},\"Exclusions\":{},\"T\":1,\
+                    \"Scenarios_number\":[2],\"Quantile\":0.95,\"Alpha\":0.5}",
                 Err(PlainFault::NotBuilt),
             ),
             // no risk
             (
-                b"{\"Resources\":{},\"Seasons\":{},\"Interventions\":{\"I1\":{\"tmax\":1,\"Delta\":[1],\"workload\":{},\"risk\":{\"1\":{}}}},\"Exclusions\":{},\"T\":1,\"Scenarios_number\":[2],\"Quantile\":0.95,\"Alpha\":0.5}",
+                b"{\"Resources\":{},\"Seasons\":{},\"Interventions\":{\"I1\":{\"tmax\":1,\"Delta\":[1],\
+                    \"workload\":{},\"risk\":{\"1\":{}}}},\"Exclusions\":{},\"T\":1,\"Scenarios_number\":[2],\
+                    \"Quantile\":0.95,\"Alpha\":0.5}",
                 Err(PlainFault::NotBuilt),
             ),
             // scenario count
             (
-                b"{\"Resources\":{},\"Seasons\":{},\"Interventions\":{\"I1\":{\"tmax\":1,\"Delta\":[1],\"workload\":{},\"risk\":{\"1\":{\"1\":[1]}}}},\"Exclusions\":{},\"T\":1,\"Scenarios_number\":[2],\"Quantile\":0.95,\"Alpha\":0.5}",
+                b"{\"Resources\":{},\"Seasons\":{},\"Interventions\":{\"I1\":{\"tmax\":1,\"Delta\":[1],\
+                    \"workload\":{},\"risk\":{\"1\":{\"1\":[1]}}}},\"Exclusions\":{},\"T\":1,\
+                    \"Scenarios_number\":[2],\"Quantile\":0.95,\"Alpha\":0.5}",
                 Err(PlainFault::NotBuilt),
             ),
             // resource
             (
-                b"{\"Resources\":{\"c\":{\"max\":[1],\"min\":[0]}},\"Seasons\":{},\"Interventions\":{\"I1\":{\"tmax\":1,\"Delta\":[1],\"workload\":{},\"risk\":{\"1\":{\"1\":[1,3]}}}},\"Exclusions\":{},\"T\":1,\"Scenarios_number\":[2],\"Quantile\":0.95,\"Alpha\":0.5}",
+                b"{\"Resources\":{\"c\":{\"max\":[1],\"min\":[0]}},\"Seasons\":{},\
+                    \"Interventions\":{\"I1\":{\"tmax\":1,\"Delta\":[1],\"workload\":{},\
+                    \"risk\":{\"1\":{\"1\":[1,3]}}}},\"Exclusions\":{},\"T\":1,\"Scenarios_number\":[2],\
+                    \"Quantile\":0.95,\"Alpha\":0.5}",
                 Err(PlainFault::NotBuilt),
             ),
             // season
             (
-                b"{\"Resources\":{},\"Seasons\":{\"w\":[]},\"Interventions\":{\"I1\":{\"tmax\":1,\"Delta\":[1],\"workload\":{},\"risk\":{\"1\":{\"1\":[1,3]}}}},\"Exclusions\":{},\"T\":1,\"Scenarios_number\":[2],\"Quantile\":0.95,\"Alpha\":0.5}",
+                b"{\"Resources\":{},\"Seasons\":{\"w\":[]},\"Interventions\":{\"I1\":{\"tmax\":1,\
+                    \"Delta\":[1],\"workload\":{},\"risk\":{\"1\":{\"1\":[1,3]}}}},\"Exclusions\":{},\"T\":1,\
+                    \"Scenarios_number\":[2],\"Quantile\":0.95,\"Alpha\":0.5}",
                 Err(PlainFault::NotBuilt),
             ),
         ];

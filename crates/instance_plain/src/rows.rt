@@ -37,8 +37,10 @@ fn count_of(tree: &Tree) -> (Fixed, bool)
 
 /// Adds the risks of one list, and whether one of them was rounded.
 fn add_numbers(list: &[Tree], rows: &mut Rows) -> Result<(), AllocError>
-    ensures risks { OnOk result (rows.new.risks.items ≡ rows.old.risks.items ++ map look.count_at (map tree_view list.now)) }
-    ensures soft { OnOk result (rows.new.soft.items ≡ rows.old.soft.items ++ tables.some_differs (map tree_view list.now) ∷ []) }
+    ensures risks { OnOk result
+        (rows.new.risks.items ≡ rows.old.risks.items ++ map look.count_at (map tree_view list.now)) }
+    ensures soft { OnOk result
+        (rows.new.soft.items ≡ rows.old.soft.items ++ tables.some_differs (map tree_view list.now) ∷ []) }
 {
     let mut rounded = false;
     for item in list {
@@ -59,8 +61,12 @@ fn add_list(
     rows: &mut Rows,
 ) -> Result<bool, AllocError>
     ensures sound { IfOk result (λ b. b ≡ has_count count (look.risk_list (tree_view intervention.now) period start)) }
-    ensures risks { IfOk result (λ b. b ≡ true → rows.new.risks.items ≡ rows.old.risks.items ++ tables.risks_at (tree_view intervention.now) start period) }
-    ensures soft { IfOk result (λ b. b ≡ true → rows.new.soft.items ≡ rows.old.soft.items ++ tables.soft_at (tree_view intervention.now) start period) }
+    ensures risks { IfOk result
+        (λ b. b ≡ true
+        → rows.new.risks.items ≡ rows.old.risks.items ++ tables.risks_at (tree_view intervention.now) start period) }
+    ensures soft { IfOk result
+        (λ b. b ≡ true
+        → rows.new.soft.items ≡ rows.old.soft.items ++ tables.soft_at (tree_view intervention.now) start period) }
 {
     let Some(list) = risk_list(intervention, period, start) else {
         return Ok(false);
@@ -84,8 +90,12 @@ fn add_run(
     requires ends { start + duration ≤ length counts.now + 1 }
     requires few { length counts.now ≤ 512 }
     ensures sound { IfOk result (λ b. b ≡ run_is_sound counts.now (tree_view intervention.now) start duration) }
-    ensures risks { IfOk result (λ b. b ≡ true → rows.new.risks.items ≡ rows.old.risks.items ++ run_rows tables.risks_at (tree_view intervention.now) start duration) }
-    ensures soft { IfOk result (λ b. b ≡ true → rows.new.soft.items ≡ rows.old.soft.items ++ run_rows tables.soft_at (tree_view intervention.now) start duration) }
+    ensures risks { IfOk result
+        (λ b. b ≡ true → rows.new.risks.items ≡ rows.old.risks.items ++ run_rows tables.risks_at (tree_view
+        intervention.now) start duration) }
+    ensures soft { IfOk result
+        (λ b. b ≡ true → rows.new.soft.items ≡ rows.old.soft.items ++ run_rows tables.soft_at (tree_view
+        intervention.now) start duration) }
 {
     for j in 0..duration {
         let period = start + j;
@@ -102,7 +112,8 @@ fn add_run(
     Ok(true)
 }
 
-/// Adds the risks of all allowed runs of an intervention. False: one of them lacks a list with as many numbers as scenarios.
+/// Adds the risks of all allowed runs of an intervention. False: one of them lacks
+/// a list with as many numbers as scenarios.
 pub fn add_runs(
     intervention: &Tree,
     periods: u32,
@@ -113,9 +124,15 @@ pub fn add_runs(
     requires each { length counts.now ≡ periods }
     requires few { periods ≤ 512 }
     requires starts { length durations.now ≤ periods }
-    ensures sound { IfOk result (λ b. b ≡ runs_are_sound periods counts.now durations.now (tree_view intervention.now)) }
-    ensures risks { IfOk result (λ b. b ≡ true → rows.new.risks.items ≡ rows.old.risks.items ++ runs_rows tables.risks_at periods durations.now (tree_view intervention.now)) }
-    ensures soft { IfOk result (λ b. b ≡ true → rows.new.soft.items ≡ rows.old.soft.items ++ runs_rows tables.soft_at periods durations.now (tree_view intervention.now)) }
+    ensures sound { IfOk result
+        (λ b. b ≡ runs_are_sound periods counts.now durations.now (tree_view intervention.now)) }
+    ensures risks { IfOk result
+        (λ b. b ≡ true → rows.new.risks.items ≡ rows.old.risks.items ++ runs_rows tables.risks_at periods durations.now
+        (tree_view intervention.now)) }
+    ensures soft { IfOk result
+        (λ b. b ≡ true
+        → rows.new.soft.items ≡ rows.old.soft.items ++ runs_rows tables.soft_at periods durations.now
+        (tree_view intervention.now)) }
 {
     for k in 0..durations.len() {
         if !is_allowed_in(periods, durations, k as u32 + 1) {

@@ -34,7 +34,11 @@ impl Survey {
         requires risks { self.risks + other.risks < 2 ^ 64 }
         requires workloads { self.workloads + other.workloads < 2 ^ 64 }
         requires rounded { self.rounded + other.rounded < 2 ^ 64 }
-        ensures { result ≡ record { risks = self.risks + other.risks; workloads = self.workloads + other.workloads; rounded = self.rounded + other.rounded } }
+        ensures { result ≡ record {
+          risks = self.risks + other.risks;
+          workloads = self.workloads + other.workloads;
+          rounded = self.rounded + other.rounded;
+        } }
     {
         Survey {
             risks: self.risks + other.risks,

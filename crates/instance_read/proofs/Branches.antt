@@ -1,5 +1,6 @@
 -- The branches of the shape: below which key of the root a spot stands.
-use Rattle.std.proofs.Common.{◌≡◌, ℕ, ◌==◌, ◌&&◌, ◌||◌, Bool, true, false, not, cond, List, [], ◌∷◌, refl, ◌∙◌, ap, bytes_eq, nat_lt}
+use Rattle.std.proofs.Common.{◌≡◌, ℕ, ◌==◌, ◌&&◌, ◌||◌, Bool, true, false, not, cond, List, [], ◌∷◌, refl, ◌∙◌, ap}
+use Rattle.std.proofs.Common.{bytes_eq, nat_lt}
 use Rattle.std.proofs.lemmas.Bool.{and_parts}
 use Rattle.std.proofs.lemmas.Slice.Eq.{bytes_eq-Decides}
 use Rattle.instance_shape.specs.declared.fault.Known.{Known}
@@ -53,7 +54,8 @@ abbrev all_spots : (Spot → Bool) → List (Known × Spot) → Bool
 all_spots p [] = true
 all_spots p (r ∷ rs) = p r.1 && all_spots p rs
 
-among_all : (p : Spot → Bool) (rs : List (Known × Spot)) (k : List ℕ) → all_spots p rs ≡ true → p spot.Skipped ≡ true → p (among rs k) ≡ true
+among_all : (p : Spot → Bool) (rs : List (Known × Spot)) (k : List ℕ) → all_spots p rs ≡ true → p spot.Skipped ≡ true
+    → p (among rs k) ≡ true
 among_all p [] k h q = q
 among_all p (r ∷ rs) k h q =
     let both = and_parts (p r.1) (all_spots p rs) h in
@@ -69,19 +71,22 @@ are_others n key [] = true
 are_others n key (r ∷ rs) = (bytes_eq key (text_of r.0) || is_beside n r.1) && are_others n key rs
 
 -- under another key
-pub among_other : (n : ℕ) (key k : List ℕ) (rs : List (Known × Spot)) → are_others n key rs ≡ true → is_beside n spot.Skipped ≡ true → bytes_eq key k ≡ false → is_beside n (among rs k) ≡ true
+pub among_other : (n : ℕ) (key k : List ℕ) (rs : List (Known × Spot)) → are_others n key rs ≡ true
+    → is_beside n spot.Skipped ≡ true → bytes_eq key k ≡ false → is_beside n (among rs k) ≡ true
 among_other n key k [] h q d = q
 among_other n key k (r ∷ rs) h q d =
     let both = and_parts (bytes_eq key (text_of r.0) || is_beside n r.1) (are_others n key rs) h in
     by (bytes_eq k (text_of r.0)) refl both.0 (among_other n key k rs both.1 q d)
   where
-    here : (c : Bool) → bytes_eq key (text_of r.0) ≡ c → k ≡ text_of r.0 → c || is_beside n r.1 ≡ true → is_beside n r.1 ≡ true
+    here : (c : Bool) → bytes_eq key (text_of r.0) ≡ c → k ≡ text_of r.0 → c || is_beside n r.1 ≡ true
+        → is_beside n r.1 ≡ true
     here true e same h =
         let again : bytes_eq key k ≡ true = ap (bytes_eq key) same ∙ e in
         cc
     here false e same h = h
 
-    by : (b : Bool) → bytes_eq k (text_of r.0) ≡ b → bytes_eq key (text_of r.0) || is_beside n r.1 ≡ true → is_beside n (among rs k) ≡ true → is_beside n (cond b r.1 (among rs k)) ≡ true
+    by : (b : Bool) → bytes_eq k (text_of r.0) ≡ b → bytes_eq key (text_of r.0) || is_beside n r.1 ≡ true
+        → is_beside n (among rs k) ≡ true → is_beside n (cond b r.1 (among rs k)) ≡ true
     by true e h rest = here (bytes_eq key (text_of r.0)) refl ((bytes_eq-Decides k (text_of r.0)).0 e) h
     by false e h rest = rest
 
@@ -95,13 +100,16 @@ four : (x : Bool) → x ≡ true → x && (x && (x && (x && true))) ≡ true
 four true h = refl
 four false h = h
 
-pub beside_under : (n : ℕ) → is_beside n spot.Skipped ≡ true → (s : Spot) (k : List ℕ) → is_beside n s ≡ true → is_beside n (under s k) ≡ true
+pub beside_under : (n : ℕ) → is_beside n spot.Skipped ≡ true → (s : Spot) (k : List ℕ) → is_beside n s ≡ true
+    → is_beside n (under s k) ≡ true
 beside_under n q spot.Root k h = cc
 beside_under n q spot.Resources k h = h
-beside_under n q spot.Resource k h = among_all (is_beside n) (required spot.Resource) k (two (is_beside n spot.Resource) h) q
+beside_under n q spot.Resource k h =
+    among_all (is_beside n) (required spot.Resource) k (two (is_beside n spot.Resource) h) q
 beside_under n q spot.Seasons k h = h
 beside_under n q spot.Interventions k h = h
-beside_under n q spot.Intervention k h = among_all (is_beside n) (required spot.Intervention) k (four (is_beside n spot.Intervention) h) q
+beside_under n q spot.Intervention k h =
+    among_all (is_beside n) (required spot.Intervention) k (four (is_beside n spot.Intervention) h) q
 beside_under n q spot.Workload k h = h
 beside_under n q spot.WorkloadResource k h = h
 beside_under n q spot.WorkloadPeriod k h = h
@@ -110,7 +118,8 @@ beside_under n q spot.RiskPeriod k h = h
 beside_under n q spot.Exclusions k h = h
 beside_under n q _ k h = q
 
-pub beside_element : (n : ℕ) → is_beside n spot.Skipped ≡ true → (s : Spot) (m : ℕ) → is_beside n s ≡ true → is_beside n (element s m) ≡ true
+pub beside_element : (n : ℕ) → is_beside n spot.Skipped ≡ true → (s : Spot) (m : ℕ) → is_beside n s ≡ true
+    → is_beside n (element s m) ≡ true
 beside_element n q spot.Max m h = h
 beside_element n q spot.Min m h = h
 beside_element n q spot.Season m h = h

@@ -22,7 +22,8 @@ use Rattle.instance_read.specs.declared.keeper.Keeper.{Keeper}
 use Rattle.instance_read.proofs.KeepingLaw.{rows_kept-events}
 
 -- without a fault of shape the rows are those of the text
-pub rows_are : (limits : Limits) (bytes : List ℕ) (walk : Walk) (keeper : Keeper) (file_rows : FileRows) (h : HaveEnded limits walk keeper bytes) → AreStandard limits → walk.fault ≡ None → shape_faults limits h.root ≡ []
+pub rows_are : (limits : Limits) (bytes : List ℕ) (walk : Walk) (keeper : Keeper) (file_rows : FileRows)
+    (h : HaveEnded limits walk keeper bytes) → AreStandard limits → walk.fault ≡ None → shape_faults limits h.root ≡ []
     → rows_view file_rows ≡ rows_kept (kept_of keeper) → AreRowsOf limits h.root file_rows
 rows_are limits bytes walk keeper file_rows h standard none shaped same = record {
   shaped = shaped;
@@ -31,6 +32,9 @@ rows_are limits bytes walk keeper file_rows h standard none shaped same = record
 }
 
 -- a fault across the file is the file's
-pub tells_across : (limits : Limits) (bytes : List ℕ) (root : Tree) (f : RowsFault) → IsTreeOf bytes root → shape_faults limits root ≡ [] → rows.TellsFault (cross_fault root) f → IfSome (of_rows f) (HasFileFault limits bytes)
-tells_across limits bytes root (Across f) text shaped h = record { root = root; text = text; shaped = shaped; first = h }
+pub tells_across : (limits : Limits) (bytes : List ℕ) (root : Tree) (f : RowsFault) → IsTreeOf bytes root
+    → shape_faults limits root ≡ [] → rows.TellsFault (cross_fault root) f
+    → IfSome (of_rows f) (HasFileFault limits bytes)
+tells_across limits bytes root (Across f) text shaped h =
+    record { root = root; text = text; shaped = shaped; first = h }
 tells_across limits bytes root Memory text shaped h = tt

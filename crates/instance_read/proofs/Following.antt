@@ -1,5 +1,6 @@
 -- What is known of the events that are taken, with one event more.
-use Rattle.std.proofs.Common.{◌≡◌, ◌≢◌, ◌<◌, ℕ, ◌+◌, Bool, true, false, List, [], ◌∷◌, ◌++◌, length, take, Option, Some, None, refl, sym, ◌∙◌, ap, subst, arith, append-nil}
+use Rattle.std.proofs.Common.{◌≡◌, ◌≢◌, ◌<◌, ℕ, ◌+◌, Bool, true, false, List, [], ◌∷◌, ◌++◌, length, take, Option, Some}
+use Rattle.std.proofs.Common.{None, refl, sym, ◌∙◌, ap, subst, arith, append-nil}
 use Rattle.std.specs.Prelude.{ℤ, slice_get, Result, Ok, Err, IfOk, OnOk}
 use Rattle.std.specs.declared.alloc.AllocError.{AllocError}
 use Rattle.std.proofs.lemmas.List.{length_push, take_all}
@@ -21,11 +22,13 @@ use Rattle.shape_walk.specs.Kept.{kept, spot_after}
 use Rattle.shape_walk.proofs.Keeping.{kept_more}
 use Rattle.instance_read.specs.Keeping.{keep, nothing_kept}
 use Rattle.instance_read.specs.Keepers.{kept_of}
-use Rattle.instance_read.specs.Readers.{HaveTaken, IsFollowing, IsEnding, Follows, Ends, HaveFault, HaveLastFault, HaveEnded}
+use Rattle.instance_read.specs.Readers.{HaveTaken, IsFollowing, IsEnding, Follows, Ends, HaveFault, HaveLastFault}
+use Rattle.instance_read.specs.Readers.{HaveEnded}
 use Rattle.instance_read.specs.declared.keeper.Keeper.{Keeper}
 
 -- where there is no fault behind an event there was none before
-pub none_before : (old new : Walk) → ((f : Fault) → old.fault ≡ Some f → new ≡ old) → new.fault ≡ None → old.fault ≡ None
+pub none_before : (old new : Walk) → ((f : Fault) → old.fault ≡ Some f → new ≡ old)
+    → new.fault ≡ None → old.fault ≡ None
 none_before old new keeps none = by old.fault refl
   where
     by : (o : Option Fault) → old.fault ≡ o → o ≡ None
@@ -34,15 +37,18 @@ none_before old new keeps none = by old.fault refl
         let same : new.fault ≡ old.fault = ap (λ (w : Walk). w.fault) (keeps f e) in
         cc
 
-pub taken_more : (limits : Limits) (old new : Walk) (before behind : Keeper) (es : List Event) (e : Event) (s : Spot) → HaveTaken limits old before es → StandsAfter limits new (es ++ e ∷ []) → old.fault ≡ None → s ≡ spot_after es e
+pub taken_more : (limits : Limits) (old new : Walk) (before behind : Keeper) (es : List Event) (e : Event) (s : Spot)
+    → HaveTaken limits old before es → StandsAfter limits new (es ++ e ∷ []) → old.fault ≡ None → s ≡ spot_after es e
     → kept_of behind ≡ keep s e (kept_of before) → HaveTaken limits new behind (es ++ e ∷ [])
 taken_more limits old new before behind es e s h stands none spot k = record {
   stands = stands;
-  kept = λ _. k ∙ ap (keep s e) (h.kept none) ∙ ap (λ q. keep q e (kept keep es nothing_kept)) spot ∙ sym (kept_more keep es e nothing_kept);
+  kept = λ _. k ∙ ap (keep s e) (h.kept none) ∙ ap (λ q. keep q e (kept keep es nothing_kept)) spot
+      ∙ sym (kept_more keep es e nothing_kept);
 }
 
 -- a text that begins with some events, and has one behind them, begins with one more
-pub one_more : {A : Type 0} (xs es : List A) (e : A) → take (length es) xs ≡ es → slice_get xs (length es) ≡ Some e → take (length (es ++ e ∷ [])) xs ≡ es ++ e ∷ []
+pub one_more : {A : Type 0} (xs es : List A) (e : A) → take (length es) xs ≡ es → slice_get xs (length es) ≡ Some e
+    → take (length (es ++ e ∷ [])) xs ≡ es ++ e ∷ []
 one_more [] [] e h i = cc
 one_more (x ∷ xs) [] e h i = cc
 one_more [] (y ∷ es) e h i = cc
@@ -51,58 +57,74 @@ one_more (x ∷ xs) (y ∷ es) e h i =
     let rest : take (length es) xs ≡ es = cc in
     ap (λ z. z ∷ take (length (es ++ e ∷ [])) xs) first ∙ ap (λ zs. y ∷ zs) (one_more xs es e rest i)
 
-pub follow_more : (limits : Limits) (old new : PullView) (walk walk' : Walk) (keeper keeper' : Keeper) (bytes : List ℕ) (e : Event)
+pub follow_more : (limits : Limits) (old new : PullView) (walk walk' : Walk) (keeper keeper' : Keeper)
+    (bytes : List ℕ) (e : Event)
     → ((given : ℕ) → Stands old bytes given false → Stands new bytes (given + 1) false)
     → ((given : ℕ) → Stands old bytes given false → IsNextOfEach bytes given e)
     → ((es : List Event) → HaveTaken limits walk keeper es → HaveTaken limits walk' keeper' (es ++ e ∷ []))
     → IsFollowing limits old walk keeper bytes → IsFollowing limits new walk' keeper' bytes
 follow_more limits old new walk walk' keeper keeper' bytes e stands next taken h = record {
   events = h.events ++ e ∷ [];
-  pulled = subst (λ (n : ℕ). Stands new bytes n false) (sym (length_push h.events e)) (stands (length h.events) h.pulled);
+  pulled =
+      subst (λ (n : ℕ). Stands new bytes n false) (sym (length_push h.events e)) (stands (length h.events) h.pulled);
   taken = taken h.events h.taken;
-  first = λ rest root t. one_more (events_of root) h.events e (h.first rest root t) (next (length h.events) h.pulled rest root t);
+  first = λ rest root t. one_more (events_of root) h.events e (h.first rest root t)
+      (next (length h.events) h.pulled rest root t);
 }
 
 -- the same of a number of which the value alone is told
-pub follow_count : (limits : Limits) (old new : PullView) (walk walk' : Walk) (keeper keeper' : Keeper) (bytes : List ℕ) (at : ℕ) (count : ℤ) (s : Spot) → walk.fault ≡ None
+pub follow_count : (limits : Limits) (old new : PullView) (walk walk' : Walk) (keeper keeper' : Keeper) (bytes : List ℕ)
+    (at : ℕ) (count : ℤ) (s : Spot) → walk.fault ≡ None
     → ((given : ℕ) → Stands old bytes given false → Stands new bytes (given + 1) false)
     → ((given : ℕ) → Stands old bytes given false → IsNextCount bytes given at count)
-    → ((es : List Event) (token : List ℕ) → fixed token ≡ Some (count, false) → StandsAfter limits walk es → StandsAfter limits walk' (es ++ Event.number at token ∷ []))
+    → ((es : List Event) (token : List ℕ) → fixed token ≡ Some (count, false) → StandsAfter limits walk es
+    → StandsAfter limits walk' (es ++ Event.number at token ∷ []))
     → ((es : List Event) (token : List ℕ) → StandsAfter limits walk es → s ≡ spot_after es (Event.number at token))
-    → ((token : List ℕ) → fixed token ≡ Some (count, false) → kept_of keeper' ≡ keep s (Event.number at token) (kept_of keeper))
+    → ((token : List ℕ) → fixed token ≡ Some (count, false)
+    → kept_of keeper' ≡ keep s (Event.number at token) (kept_of keeper))
     → IsFollowing limits old walk keeper bytes → IsFollowing limits new walk' keeper' bytes
 follow_count limits old new walk walk' keeper keeper' bytes at count s none stands next walks spot keeps h =
     let number = next (length h.events) h.pulled in
     let e = Event.number at number.token in
     record {
       events = h.events ++ e ∷ [];
-      pulled = subst (λ (n : ℕ). Stands new bytes n false) (sym (length_push h.events e)) (stands (length h.events) h.pulled);
-      taken = taken_more limits walk walk' keeper keeper' h.events e s h.taken (walks h.events number.token number.exact h.taken.stands) none (spot h.events number.token h.taken.stands) (keeps number.token number.exact);
+      pulled =
+          subst (λ (n : ℕ). Stands new bytes n false) (sym (length_push h.events e))
+          (stands (length h.events) h.pulled);
+      taken = taken_more limits walk walk' keeper keeper' h.events e s h.taken
+          (walks h.events number.token number.exact h.taken.stands) none (spot h.events number.token h.taken.stands)
+          (keeps number.token number.exact);
       first = λ rest root t. one_more (events_of root) h.events e (h.first rest root t) (number.next rest root t);
     }
 
 -- ---- faults
 
-pub stays : (bytes : List ℕ) (fault : TextFault) → fault ≢ Memory → ((at : ℕ) → fault ≡ Syntax at → IsSyntaxFault bytes at × (at < length bytes)) → ((at : ℕ) → fault ≡ Syntax at → IsShallow bytes at)
+pub stays : (bytes : List ℕ) (fault : TextFault) → fault ≢ Memory
+    → ((at : ℕ) → fault ≡ Syntax at → IsSyntaxFault bytes at × (at < length bytes))
+    → ((at : ℕ) → fault ≡ Syntax at → IsShallow bytes at)
     → ((at : ℕ) → fault ≡ TooDeep at → IsDepthFault bytes at) → HaveFault bytes fault
 stays bytes (Syntax at) m s f d = ((s at refl).0, f at refl, (s at refl).1)
 stays bytes (TooDeep at) m s f d = d at refl
 stays bytes Memory m s f d = absurd (m refl)
 
-pub stays_last : (bytes : List ℕ) (fault : TextFault) → fault ≢ Memory → ((at : ℕ) → fault ≡ Syntax at → IsSyntaxFault bytes at) → ((at : ℕ) → fault ≡ Syntax at → IsShallow bytes at)
+pub stays_last : (bytes : List ℕ) (fault : TextFault) → fault ≢ Memory
+    → ((at : ℕ) → fault ≡ Syntax at → IsSyntaxFault bytes at) → ((at : ℕ) → fault ≡ Syntax at → IsShallow bytes at)
     → ((at : ℕ) → fault ≡ TooDeep at → IsDepthFault bytes at) → HaveLastFault bytes fault
 stays_last bytes (Syntax at) m s f d = (s at refl, f at refl)
 stays_last bytes (TooDeep at) m s f d = d at refl
 stays_last bytes Memory m s f d = absurd (m refl)
 
-pub told_follows : (r : Result (Option TextFault) AllocError) (fault : TextFault) (limits : Limits) (pull : PullView) (walk : Walk) (keeper : Keeper) (bytes : List ℕ) → IfOk r (λ t. t ≡ Some fault) → OnOk r (fault ≢ Memory)
+pub told_follows : (r : Result (Option TextFault) AllocError) (fault : TextFault) (limits : Limits) (pull : PullView)
+    (walk : Walk) (keeper : Keeper) (bytes : List ℕ) → IfOk r (λ t. t ≡ Some fault) → OnOk r (fault ≢ Memory)
     → (fault ≢ Memory → HaveFault bytes fault) → IfOk r (λ t. Follows t limits pull walk keeper bytes)
-told_follows (Ok t) fault limits pull walk keeper bytes e m f = subst (λ o. Follows o limits pull walk keeper bytes) (sym e) (f m)
+told_follows (Ok t) fault limits pull walk keeper bytes e m f =
+    subst (λ o. Follows o limits pull walk keeper bytes) (sym e) (f m)
 told_follows (Err x) fault limits pull walk keeper bytes e m f = tt
 
 -- ---- the end of the bytes
 
-pub ending : (limits : Limits) (pull : PullView) (walk : Walk) (keeper : Keeper) (bytes : List ℕ) → IsFollowing limits pull walk keeper bytes → IsEnding limits pull walk keeper bytes
+pub ending : (limits : Limits) (pull : PullView) (walk : Walk) (keeper : Keeper) (bytes : List ℕ)
+    → IsFollowing limits pull walk keeper bytes → IsEnding limits pull walk keeper bytes
 ending limits pull walk keeper bytes h = record {
   events = h.events;
   finished = false;
@@ -111,29 +133,38 @@ ending limits pull walk keeper bytes h = record {
   first = λ root t. h.first [] root (subst (λ (z : List ℕ). IsText z root) (sym (append-nil bytes)) t);
 }
 
-pub end_more : (limits : Limits) (old new : PullView) (walk walk' : Walk) (keeper keeper' : Keeper) (bytes : List ℕ) (e : Event)
+pub end_more : (limits : Limits) (old new : PullView) (walk walk' : Walk) (keeper keeper' : Keeper)
+    (bytes : List ℕ) (e : Event)
     → ((given : ℕ) (finished : Bool) → Stands old bytes given finished → Stands new bytes (given + 1) true)
-    → ((given : ℕ) (finished : Bool) (root : Tree) → Stands old bytes given finished → IsText bytes root → slice_get (events_of root) given ≡ Some e)
+    → ((given : ℕ) (finished : Bool) (root : Tree) → Stands old bytes given finished → IsText bytes root
+    → slice_get (events_of root) given ≡ Some e)
     → ((es : List Event) → HaveTaken limits walk keeper es → HaveTaken limits walk' keeper' (es ++ e ∷ []))
     → IsEnding limits old walk keeper bytes → IsEnding limits new walk' keeper' bytes
 end_more limits old new walk walk' keeper keeper' bytes e stands next taken h = record {
   events = h.events ++ e ∷ [];
   finished = true;
-  pulled = subst (λ (n : ℕ). Stands new bytes n true) (sym (length_push h.events e)) (stands (length h.events) h.finished h.pulled);
+  pulled = subst (λ (n : ℕ). Stands new bytes n true) (sym (length_push h.events e))
+      (stands (length h.events) h.finished h.pulled);
   taken = taken h.events h.taken;
-  first = λ root t. one_more (events_of root) h.events e (h.first root t) (next (length h.events) h.finished root h.pulled t);
+  first =
+      λ root t. one_more (events_of root) h.events e (h.first root t)
+      (next (length h.events) h.finished root h.pulled t);
 }
 
-pub ended : (limits : Limits) (pull : PullView) (walk : Walk) (keeper : Keeper) (bytes : List ℕ) → (h : IsEnding limits pull walk keeper bytes) → IsGivenText bytes (length h.events) → HaveEnded limits walk keeper bytes
+pub ended : (limits : Limits) (pull : PullView) (walk : Walk) (keeper : Keeper) (bytes : List ℕ)
+    → (h : IsEnding limits pull walk keeper bytes) → IsGivenText bytes (length h.events)
+    → HaveEnded limits walk keeper bytes
 ended limits pull walk keeper bytes h g =
-    let all : h.events ≡ events_of g.tree = sym (h.first g.tree g.text) ∙ ap (λ n. take n (events_of g.tree)) g.count ∙ take_all (length (events_of g.tree)) (events_of g.tree) (omega arith) in
+    let all : h.events ≡ events_of g.tree = sym (h.first g.tree g.text) ∙ ap (λ n. take n (events_of g.tree)) g.count
+    ∙ take_all (length (events_of g.tree)) (events_of g.tree) (omega arith) in
     record {
       root = g.tree;
       text = record { text = g.text; shallow = g.shallow };
       taken = subst (λ (es : List Event). HaveTaken limits walk keeper es) all h.taken;
     }
 
-pub told_ends : (r : Result (Option TextFault) AllocError) (fault : TextFault) (limits : Limits) (walk : Walk) (keeper : Keeper) (bytes : List ℕ) → IfOk r (λ t. t ≡ Some fault) → OnOk r (fault ≢ Memory)
+pub told_ends : (r : Result (Option TextFault) AllocError) (fault : TextFault) (limits : Limits) (walk : Walk)
+    (keeper : Keeper) (bytes : List ℕ) → IfOk r (λ t. t ≡ Some fault) → OnOk r (fault ≢ Memory)
     → (fault ≢ Memory → HaveLastFault bytes fault) → IfOk r (λ t. Ends t limits walk keeper bytes)
 told_ends (Ok t) fault limits walk keeper bytes e m f = subst (λ o. Ends o limits walk keeper bytes) (sym e) (f m)
 told_ends (Err x) fault limits walk keeper bytes e m f = tt

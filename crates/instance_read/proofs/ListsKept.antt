@@ -33,19 +33,27 @@ seasons_idle spot.SeasonPeriod e l h = cc
 seasons_idle spot.Season e l h = cc
 seasons_idle _ e l h = refl
 
-season_kept : (limits : Limits) (t : Tree) (closed : List (List ℕ)) → IsClear limits spot.Season t → keep_value seasons_keep spot.Season t (opened closed []) ≡ opened (closed ++ map whole_at (elements t) ∷ []) []
+season_kept : (limits : Limits) (t : Tree) (closed : List (List ℕ)) → IsClear limits spot.Season t
+    → keep_value seasons_keep spot.Season t (opened closed []) ≡ opened (closed ++ map whole_at (elements t) ∷ []) []
 season_kept limits t closed c =
-    list_kept limits seasons_keep spot.Season (opened closed) (λ t ns. ns ++ whole_at t ∷ []) (λ m t ns c. whole_kept seasons_keep spot.SeasonPeriod add refl (λ e l. refl) limits t (opened closed ns) c)
+    list_kept limits seasons_keep spot.Season (opened closed) (λ t ns. ns ++ whole_at t ∷ [])
+    (λ m t ns c. whole_kept seasons_keep spot.SeasonPeriod add refl (λ e l. refl) limits t (opened closed ns) c)
     (λ ns. opened (closed ++ ns ∷ []) []) (λ n. refl) (λ at ns. refl) (λ at ns. refl) t [] c
     ∙ ap (λ ns. opened (closed ++ ns ∷ []) []) (each_added whole_at (elements t) [])
 
-pub season_periods_kept : (limits : Limits) (root : Tree) → IsClear limits spot.Root root → (keep_value seasons_keep spot.Root root no_lists).closed ≡ each_value (λ q. map whole_at (elements q)) (known is.Seasons root)
+pub season_periods_kept : (limits : Limits) (root : Tree) → IsClear limits spot.Root root
+    → (keep_value seasons_keep spot.Root root no_lists).closed
+    ≡ each_value (λ q. map whole_at (elements q)) (known is.Seasons root)
 season_periods_kept limits root h =
-    let part : HasPart limits is.Seasons spot.Seasons root = root_part limits root 1 is.Seasons spot.Seasons h (omega arith) refl refl in
+    let part : HasPart limits is.Seasons spot.Seasons root =
+    root_part limits root 1 is.Seasons spot.Seasons h (omega arith) refl refl in
     ap (λ l. l.closed) (
-    root_kept seasons_keep 2 is.Seasons spot.Seasons refl refl refl seasons_idle (λ e l. refl) limits root part.value no_lists h part.found
-    ∙ object_kept limits seasons_keep spot.Seasons (λ closed. opened closed []) (λ k t rows. rows ++ map whole_at (elements t) ∷ []) (λ at end k t rows i c. season_kept limits t rows c)
-    (λ closed. opened closed []) (λ n. refl) (λ at closed. refl) (λ at closed. refl) (known is.Seasons root) [] part.clear
+    root_kept seasons_keep 2 is.Seasons spot.Seasons refl refl refl seasons_idle (λ e l. refl) limits root
+    part.value no_lists h part.found
+    ∙ object_kept limits seasons_keep spot.Seasons (λ closed. opened closed [])
+    (λ k t rows. rows ++ map whole_at (elements t) ∷ []) (λ at end k t rows i c. season_kept limits t rows c)
+    (λ closed. opened closed []) (λ n. refl) (λ at closed. refl) (λ at closed. refl)
+    (known is.Seasons root) [] part.clear
     )
     ∙ each_entry_added (λ e. map whole_at (elements e.value)) (entries (known is.Seasons root)) []
 
@@ -56,10 +64,12 @@ words_idle spot.Word e l h = cc
 words_idle spot.Exclusion e l h = cc
 words_idle _ e l h = refl
 
-word_kept : (limits : Limits) (t : Tree) (l : Lists (List ℕ)) → IsClear limits spot.Word t → keep_value keep_words spot.Word t l ≡ add (text_at t) l
+word_kept : (limits : Limits) (t : Tree) (l : Lists (List ℕ)) → IsClear limits spot.Word t
+    → keep_value keep_words spot.Word t l ≡ add (text_at t) l
 word_kept limits (tree at end n) l c = by n (shaped limits spot.Word kind.Name at end n refl c)
   where
-    by : (n : Node) → has_shape kind.Name n ≡ true → keep_value keep_words spot.Word (tree at end n) l ≡ add (text_at (tree at end n)) l
+    by : (n : Node) → has_shape kind.Name n ≡ true → keep_value keep_words spot.Word (tree at end n) l
+        ≡ add (text_at (tree at end n)) l
     by (Node.text x) i = refl
     by Node.null i = cc
     by (Node.boolean b) i = cc
@@ -73,25 +83,35 @@ none_beyond limits (tree at end n) c =
     let no : false ≡ true = shaped limits spot.Beyond kind.Nothing at end n refl c in
     cc
 
-element_kept : (limits : Limits) (m : ℕ) (t : Tree) (l : Lists (List ℕ)) → IsClear limits (element spot.Exclusion m) t → keep_value keep_words (element spot.Exclusion m) t l ≡ add (text_at t) l
+element_kept : (limits : Limits) (m : ℕ) (t : Tree) (l : Lists (List ℕ)) → IsClear limits (element spot.Exclusion m) t
+    → keep_value keep_words (element spot.Exclusion m) t l ≡ add (text_at t) l
 element_kept limits m t l = by (nat_lt m 3)
   where
-    by : (b : Bool) → IsClear limits (cond b spot.Word spot.Beyond) t → keep_value keep_words (cond b spot.Word spot.Beyond) t l ≡ add (text_at t) l
+    by : (b : Bool) → IsClear limits (cond b spot.Word spot.Beyond) t
+        → keep_value keep_words (cond b spot.Word spot.Beyond) t l ≡ add (text_at t) l
     by true c = word_kept limits t l c
     by false c = absurd (none_beyond limits t c)
 
-exclusion_kept : (limits : Limits) (t : Tree) (closed : List (List (List ℕ))) → IsClear limits spot.Exclusion t → keep_value keep_words spot.Exclusion t (opened closed []) ≡ opened (closed ++ map text_at (elements t) ∷ []) []
+exclusion_kept : (limits : Limits) (t : Tree) (closed : List (List (List ℕ))) → IsClear limits spot.Exclusion t
+    → keep_value keep_words spot.Exclusion t (opened closed []) ≡ opened (closed ++ map text_at (elements t) ∷ []) []
 exclusion_kept limits t closed c =
-    list_kept limits keep_words spot.Exclusion (opened closed) (λ t ns. ns ++ text_at t ∷ []) (λ m t ns c. element_kept limits m t (opened closed ns) c)
+    list_kept limits keep_words spot.Exclusion (opened closed) (λ t ns. ns ++ text_at t ∷ [])
+    (λ m t ns c. element_kept limits m t (opened closed ns) c)
     (λ ns. opened (closed ++ ns ∷ []) []) (λ n. refl) (λ at ns. refl) (λ at ns. refl) t [] c
     ∙ ap (λ ns. opened (closed ++ ns ∷ []) []) (each_added text_at (elements t) [])
 
-pub words_kept : (limits : Limits) (root : Tree) → IsClear limits spot.Root root → (keep_value keep_words spot.Root root no_lists).closed ≡ each_value (λ e. map text_at (elements e)) (known is.Exclusions root)
+pub words_kept : (limits : Limits) (root : Tree) → IsClear limits spot.Root root
+    → (keep_value keep_words spot.Root root no_lists).closed
+    ≡ each_value (λ e. map text_at (elements e)) (known is.Exclusions root)
 words_kept limits root h =
-    let part : HasPart limits is.Exclusions spot.Exclusions root = root_part limits root 3 is.Exclusions spot.Exclusions h (omega arith) refl refl in
+    let part : HasPart limits is.Exclusions spot.Exclusions root =
+    root_part limits root 3 is.Exclusions spot.Exclusions h (omega arith) refl refl in
     ap (λ l. l.closed) (
-    root_kept keep_words 4 is.Exclusions spot.Exclusions refl refl refl words_idle (λ e l. refl) limits root part.value no_lists h part.found
-    ∙ object_kept limits keep_words spot.Exclusions (λ closed. opened closed []) (λ k t rows. rows ++ map text_at (elements t) ∷ []) (λ at end k t rows i c. exclusion_kept limits t rows c)
-    (λ closed. opened closed []) (λ n. refl) (λ at closed. refl) (λ at closed. refl) (known is.Exclusions root) [] part.clear
+    root_kept keep_words 4 is.Exclusions spot.Exclusions refl refl refl words_idle (λ e l. refl) limits root
+    part.value no_lists h part.found
+    ∙ object_kept limits keep_words spot.Exclusions (λ closed. opened closed [])
+    (λ k t rows. rows ++ map text_at (elements t) ∷ []) (λ at end k t rows i c. exclusion_kept limits t rows c)
+    (λ closed. opened closed []) (λ n. refl) (λ at closed. refl) (λ at closed. refl)
+    (known is.Exclusions root) [] part.clear
     )
     ∙ each_entry_added (λ e. map text_at (elements e.value)) (entries (known is.Exclusions root)) []

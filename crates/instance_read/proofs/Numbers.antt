@@ -24,7 +24,8 @@ periods_idle : (q : Spot) (e : Event) (n : ℕ) → is_beside 5 q ≡ true → p
 periods_idle spot.T e n h = cc
 periods_idle _ e n h = refl
 
-pub periods_kept : (limits : Limits) (root : Tree) → IsClear limits spot.Root root → keep_value periods_keep spot.Root root 0 ≡ periods root
+pub periods_kept : (limits : Limits) (root : Tree) → IsClear limits spot.Root root
+    → keep_value periods_keep spot.Root root 0 ≡ periods root
 periods_kept limits root h =
     let part : HasPart limits is.T spot.T root = root_part limits root 4 is.T spot.T h (omega arith) refl refl in
     root_kept periods_keep 5 is.T spot.T refl refl refl periods_idle (λ e n. refl) limits root part.value 0 h part.found
@@ -39,11 +40,15 @@ alpha_idle : (q : Spot) (e : Event) (n : ℕ) → is_beside 8 q ≡ true → alp
 alpha_idle spot.Alpha e n h = cc
 alpha_idle _ e n h = refl
 
-pub alpha_kept : (limits : Limits) (root : Tree) → IsClear limits spot.Root root → keep_value alpha_keep spot.Root root 0 ≡ part_at (known is.Alpha root)
+pub alpha_kept : (limits : Limits) (root : Tree) → IsClear limits spot.Root root
+    → keep_value alpha_keep spot.Root root 0 ≡ part_at (known is.Alpha root)
 alpha_kept limits root h =
-    let part : HasPart limits is.Alpha spot.Alpha root = root_part limits root 7 is.Alpha spot.Alpha h (omega arith) refl refl in
-    root_kept alpha_keep 8 is.Alpha spot.Alpha refl refl refl alpha_idle (λ e n. refl) limits root part.value 0 h part.found
-    ∙ part_kept alpha_keep spot.Alpha put 0 (λ n. refl) (λ x. refl) (λ e n. refl) limits (known is.Alpha root) 0 part.clear
+    let part : HasPart limits is.Alpha spot.Alpha root =
+    root_part limits root 7 is.Alpha spot.Alpha h (omega arith) refl refl in
+    root_kept alpha_keep 8 is.Alpha spot.Alpha refl refl refl alpha_idle (λ e n. refl) limits root
+    part.value 0 h part.found
+    ∙ part_kept alpha_keep spot.Alpha put 0 (λ n. refl) (λ x. refl) (λ e n. refl) limits
+    (known is.Alpha root) 0 part.clear
 
 abbrev pub quantile_keep : Spot → Event → ℕ → ℕ
 quantile_keep s e n = keep_quantile s e (read_of s e) n
@@ -52,11 +57,15 @@ quantile_idle : (q : Spot) (e : Event) (n : ℕ) → is_beside 7 q ≡ true → 
 quantile_idle spot.Quantile e n h = cc
 quantile_idle _ e n h = refl
 
-pub quantile_kept : (limits : Limits) (root : Tree) → IsClear limits spot.Root root → keep_value quantile_keep spot.Root root 0 ≡ part_at (known is.Quantile root)
+pub quantile_kept : (limits : Limits) (root : Tree) → IsClear limits spot.Root root
+    → keep_value quantile_keep spot.Root root 0 ≡ part_at (known is.Quantile root)
 quantile_kept limits root h =
-    let part : HasPart limits is.Quantile spot.Quantile root = root_part limits root 6 is.Quantile spot.Quantile h (omega arith) refl refl in
-    root_kept quantile_keep 7 is.Quantile spot.Quantile refl refl refl quantile_idle (λ e n. refl) limits root part.value 0 h part.found
-    ∙ part_kept quantile_keep spot.Quantile put 1 (λ n. refl) (λ x. refl) (λ e n. refl) limits (known is.Quantile root) 0 part.clear
+    let part : HasPart limits is.Quantile spot.Quantile root =
+    root_part limits root 6 is.Quantile spot.Quantile h (omega arith) refl refl in
+    root_kept quantile_keep 7 is.Quantile spot.Quantile refl refl refl quantile_idle (λ e n. refl) limits root
+    part.value 0 h part.found
+    ∙ part_kept quantile_keep spot.Quantile put 1 (λ n. refl) (λ x. refl) (λ e n. refl) limits
+    (known is.Quantile root) 0 part.clear
 
 -- ---- scenarios
 
@@ -67,10 +76,14 @@ scenarios_idle : (q : Spot) (e : Event) (ns : List ℕ) → is_beside 6 q ≡ tr
 scenarios_idle spot.Scenario e ns h = cc
 scenarios_idle _ e ns h = refl
 
-pub scenarios_kept : (limits : Limits) (root : Tree) → IsClear limits spot.Root root → keep_value scenarios_keep spot.Root root [] ≡ scenarios root
+pub scenarios_kept : (limits : Limits) (root : Tree) → IsClear limits spot.Root root
+    → keep_value scenarios_keep spot.Root root [] ≡ scenarios root
 scenarios_kept limits root h =
-    let part : HasPart limits is.ScenariosNumber spot.ScenariosNumber root = root_part limits root 5 is.ScenariosNumber spot.ScenariosNumber h (omega arith) refl refl in
-    root_kept scenarios_keep 6 is.ScenariosNumber spot.ScenariosNumber refl refl refl scenarios_idle (λ e ns. refl) limits root part.value [] h part.found
-    ∙ list_kept limits scenarios_keep spot.ScenariosNumber (λ ns. ns) (λ t ns. ns ++ whole_at t ∷ []) (λ m t ns c. whole_kept scenarios_keep spot.Scenario (λ n ns. ns ++ n ∷ []) refl (λ e ns. refl) limits t ns c)
+    let part : HasPart limits is.ScenariosNumber spot.ScenariosNumber root =
+    root_part limits root 5 is.ScenariosNumber spot.ScenariosNumber h (omega arith) refl refl in
+    root_kept scenarios_keep 6 is.ScenariosNumber spot.ScenariosNumber refl refl refl scenarios_idle (λ e ns. refl)
+    limits root part.value [] h part.found
+    ∙ list_kept limits scenarios_keep spot.ScenariosNumber (λ ns. ns) (λ t ns. ns ++ whole_at t ∷ [])
+    (λ m t ns c. whole_kept scenarios_keep spot.Scenario (λ n ns. ns ++ n ∷ []) refl (λ e ns. refl) limits t ns c)
     (λ ns. ns) (λ n. refl) (λ at ns. refl) (λ at ns. refl) (known is.ScenariosNumber root) [] part.clear
     ∙ each_added whole_at (elements (known is.ScenariosNumber root)) []

@@ -15,7 +15,8 @@ abbrev pub IsNoneOf : List (Known × Spot) → List ℕ → Type 0
 IsNoneOf [] k = Unit {0}
 IsNoneOf (r ∷ rs) k = (bytes_eq (text_of r.0) k ≡ false) × IsNoneOf rs k
 
-pub by_key : (P : List ℕ → Type 0) (rs : List (Known × Spot)) (k : List ℕ) → HoldsOfEach P rs → (IsNoneOf rs k → P k) → P k
+pub by_key : (P : List ℕ → Type 0) (rs : List (Known × Spot)) (k : List ℕ) → HoldsOfEach P rs
+    → (IsNoneOf rs k → P k) → P k
 by_key P [] k each none = none tt
 by_key P (r ∷ rs) k each none = by (bytes_eq (text_of r.0) k) refl (by_key P rs k each.1)
   where
@@ -30,7 +31,8 @@ among_none (r ∷ rs) k n = by (bytes_eq k (text_of r.0)) refl (among_none rs k 
   where
     by : (b : Bool) → bytes_eq k (text_of r.0) ≡ b → among rs k ≡ spot.Skipped → cond b r.1 (among rs k) ≡ spot.Skipped
     by true e rest =
-        let same : bytes_eq (text_of r.0) k ≡ true = (bytes_eq-Decides (text_of r.0) k).1 (sym ((bytes_eq-Decides k (text_of r.0)).0 e)) in
+        let same : bytes_eq (text_of r.0) k ≡ true =
+        (bytes_eq-Decides (text_of r.0) k).1 (sym ((bytes_eq-Decides k (text_of r.0)).0 e)) in
         let other : bytes_eq (text_of r.0) k ≡ false = n.0 in
         cc
     by false e rest = rest

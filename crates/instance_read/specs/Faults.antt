@@ -4,7 +4,10 @@ use Rattle.instance_shape.specs.declared.fault.Flaw.TheVariants as flaw
 use Rattle.instance_shape.specs.FileFaults.{FileFault, syntax, too_deep, shape, across}
 use Rattle.instance_shape.specs.CrossFaults as cross
 use Rattle.instance_read.specs.declared.fault.InstanceFault.{InstanceFault}
-use Rattle.instance_read.specs.declared.fault.InstanceFault.TheVariants.{Syntax, TooDeep, Double, BadName, Missing, Shape, TooLarge, Limit, ScenarioList, BandLength, BadTmax, NoDelta, Unknown, NoRisk, ScenarioCount, Memory}
+use Rattle.instance_read.specs.declared.fault.InstanceFault.TheVariants.{Syntax, TooDeep, Double, BadName, Missing}
+use Rattle.instance_read.specs.declared.fault.InstanceFault.TheVariants.{Shape, TooLarge, Limit, ScenarioList}
+use Rattle.instance_read.specs.declared.fault.InstanceFault.TheVariants.{BandLength, BadTmax, NoDelta, Unknown, NoRisk}
+use Rattle.instance_read.specs.declared.fault.InstanceFault.TheVariants.{ScenarioCount, Memory}
 
 -- none where memory ran out
 abbrev pub fault_of : InstanceFault → Option FileFault

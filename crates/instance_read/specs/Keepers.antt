@@ -15,8 +15,17 @@ kept_of k = record {
   seasons = map string_bytes k.rows.seasons.keys;
   season_periods = record { closed = map (λ v. v.items) k.rows.season_periods.items; begun = k.season.items };
   interventions = map string_bytes k.rows.interventions.keys;
-  works = record { closed = map work_view k.rows.works.items; begun = work_view k.work; workload = workload_view k.workload; period = k.period; start = k.start };
+  works = record {
+    closed = map work_view k.rows.works.items;
+    begun = work_view k.work;
+    workload = workload_view k.workload;
+    period = k.period;
+    start = k.start;
+  };
   exclusions = map string_bytes k.rows.exclusions.keys;
-  exclusion_words = record { closed = map (λ v. map string_bytes v.items) k.rows.exclusion_words.items; begun = map string_bytes k.words.items };
+  exclusion_words = record {
+    closed = map (λ v. map string_bytes v.items) k.rows.exclusion_words.items;
+    begun = map string_bytes k.words.items;
+  };
   rounded = k.rows.rounded;
 }

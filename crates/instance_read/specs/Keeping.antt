@@ -1,5 +1,5 @@
--- Defines what is kept of the events of a text, each with its spot and what was read of it: the rows that are filled, and
--- what of them is open. A part that is open is put among those that are closed at its closing bracket or brace.
+-- Defines what is kept of the events of a text, each with its spot and what was read of it: the rows that are filled,
+-- and what of them is open. A part that is open is put among those that are closed at its closing bracket or brace.
 use Rattle.std.specs.Prelude.{ℕ, ◌+◌, ℤ, Bool, true, false, List, [], ◌∷◌, ◌++◌, cond, bytes_eq}
 use Rattle.std.specs.List.{list_any}
 use Rattle.json_grammar.specs.Tree.{Event, finish, key}
@@ -128,7 +128,8 @@ keep_bands _ e r b = b
 
 -- ---- interventions
 
--- the interventions, the one that is open, its workload that is open, and the period and the start whose keys came last; 0 outside
+-- the interventions, the one that is open, its workload that is open, and the period
+-- and the start whose keys came last; 0 outside
 pub record Works : Type 0 where
   pub closed : List WorkRow
   pub begun : WorkRow
@@ -143,21 +144,39 @@ abbrev pub no_works : Works
 no_works = record { closed = []; begun = no_work; workload = no_workload; period = 0; start = 0 }
 
 abbrev pub add_load : ℤ → Works → Works
-add_load z w = record w { workload = record w.workload { loads = w.workload.loads ++ record { period = w.period; start = w.start; load = z } ∷ [] } }
+add_load z w = record w {
+  workload =
+      record w.workload { loads = w.workload.loads ++ record { period = w.period; start = w.start; load = z } ∷ [] };
+}
 
 abbrev pub close_workload : Works → Works
-close_workload w = record w { begun = record w.begun { workloads = w.begun.workloads ++ w.workload ∷ [] }; workload = no_workload; period = 0; start = 0 }
+close_workload w = record w {
+  begun = record w.begun { workloads = w.begun.workloads ++ w.workload ∷ [] };
+  workload = no_workload;
+  period = 0;
+  start = 0;
+}
 
 -- a list of risks begins, in the period whose key came last
 abbrev pub open_risks : ℕ → Works → Works
-open_risks start w = record w { begun = record w.begun { risks = w.begun.risks ++ record { period = w.period; start = start; values = []; soft = false } ∷ [] } }
+open_risks start w = record w {
+  begun = record w.begun {
+    risks = w.begun.risks ++ record {
+      period = w.period;
+      start = start;
+      values = [];
+      soft = false;
+    } ∷ [];
+  };
+}
 
 abbrev pub add_risk : ℤ → Bool → Works → Works
 add_risk z rounded w = record w { begun = record w.begun { risks = add_to_last z rounded w.begun.risks } }
 
 abbrev pub keep_works : Spot → Event → Read → Works → Works
 keep_works spot.Tmax e r w = with_whole (λ n w. record w { begun = record w.begun { tmax = n } }) r w
-keep_works spot.Duration e r w = with_whole (λ n w. record w { begun = record w.begun { durations = w.begun.durations ++ n ∷ [] } }) r w
+keep_works spot.Duration e r w =
+    with_whole (λ n w. record w { begun = record w.begun { durations = w.begun.durations ++ n ∷ [] } }) r w
 keep_works spot.Workload (key at end k) r w = record w { workload = record w.workload { resource = k } }
 keep_works spot.WorkloadResource (key at end k) r w = with_whole (λ n w. record w { period = n }) r w
 keep_works spot.WorkloadPeriod (key at end k) r w = with_whole (λ n w. record w { start = n }) r w

@@ -1,4 +1,5 @@
--- The fault of a file that a fault of a part of the reading is. Not part of any promise: only private functions cite it.
+-- The fault of a file that a fault of a part of the reading is. Not part of
+-- any promise: only private functions cite it.
 use Rattle.std.specs.Prelude.{◌≡◌, ◌≢◌, Option, Some, None}
 use Rattle.json_grammar.specs.declared.fault.TextFault.{TextFault}
 use Rattle.json_grammar.specs.declared.fault.TextFault.TheVariants as text

@@ -25,8 +25,10 @@ pub record HaveTaken (limits : Limits) (walk : Walk) (keeper : Keeper) (es : Lis
 abbrev pub IsStartOf : List Event → Tree → Type 0
 IsStartOf es root = take (length es) (events_of root) ≡ es
 
--- the events that the bytes tell were taken, and those that were taken are the first of each text that begins with the bytes
-pub record IsFollowing (limits : Limits) (pull : PullView) (walk : Walk) (keeper : Keeper) (bytes : List ℕ) : Type 0 where
+-- the events that the bytes tell were taken, and those that were taken are the
+-- first of each text that begins with the bytes
+pub record IsFollowing (limits : Limits) (pull : PullView) (walk : Walk) (keeper : Keeper)
+    (bytes : List ℕ) : Type 0 where
   pub events : List Event
   pub pulled : Stands pull bytes (length events) false
   pub taken : HaveTaken limits walk keeper events

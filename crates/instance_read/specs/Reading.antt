@@ -21,15 +21,18 @@ pub record ReadsFile (name : List ℕ) (limit : ℕ) (old : Shown) (P : List ℕ
   pub such : P bytes
   pub held : WhereToldHolds old name (λ held. held ≡ bytes)
 
--- what a reading without an instance leaves: the file was not taken in, or so many first bytes of it were read, past the limit by no more
--- than one piece of 2 ^ 16 bytes; or it was read to its end
+-- what a reading without an instance leaves: the file was not taken in, or so many first bytes of it were read, past
+-- the limit by no more than one piece of 2 ^ 16 bytes; or it was read to its end
 abbrev pub LeavesFile : List ℕ → (limit : ℕ) → (old new : Shown) → Type 0
 LeavesFile name limit old new = ShowsSame new (after_failed_take_in old)
-    ⊎ (((bytes : List ℕ) × ((count : ℕ) × ((count ≤ limit + 2 ^ 16) × (HoldsBytes old name bytes × ShowsSame new (after_take_in name (drop count bytes) old)))))
+    ⊎ (((bytes : List ℕ)
+    × ((count : ℕ)
+    × ((count ≤ limit + 2 ^ 16)
+    × (HoldsBytes old name bytes × ShowsSame new (after_take_in name (drop count bytes) old)))))
     ⊎ ShowsSame new (after_take_in name [] old))
 
--- how many bytes of a file were read where there is no instance: no more than the limit; where the file is too long, past
--- the limit by no more than one piece, of at most 2 ^ 16 bytes
+-- how many bytes of a file were read where there is no instance: no more than the limit; where the file is too long,
+-- past the limit by no more than one piece, of at most 2 ^ 16 bytes
 abbrev pub IsCountAt : (limit : ℕ) → StreamFault → ℕ → Type 0
 IsCountAt limit stream.TooLong count = (limit < count) × (count ≤ limit + 2 ^ 16)
 IsCountAt limit stream.Failed count = count ≤ limit
@@ -39,7 +42,10 @@ IsCountAt limit stream.Memory count = count ≤ limit
 -- where such a reading stops: its file was not taken in, or so many first bytes of it were read
 abbrev pub StopsAt : List ℕ → (limit : ℕ) → (old new : Shown) → StreamFault → Type 0
 StopsAt name limit old new fault = ((fault ≡ stream.Failed) × ShowsSame new (after_failed_take_in old))
-    ⊎ ((bytes : List ℕ) × ((count : ℕ) × (IsCountAt limit fault count × (HoldsBytes old name bytes × ShowsSame new (after_take_in name (drop count bytes) old)))))
+    ⊎ ((bytes : List ℕ)
+    × ((count : ℕ)
+    × (IsCountAt limit fault count
+    × (HoldsBytes old name bytes × ShowsSame new (after_take_in name (drop count bytes) old)))))
 
 -- `Failed` comes only where faults rose, and the last fault, where told, is then such a one; no other answer changes it
 abbrev pub CountsStreamFault : {T : Type 0} → (old new : Shown) (Own : Fault → Type 0) → Result T StreamFault → Type 0

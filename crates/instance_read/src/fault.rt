@@ -11,9 +11,9 @@ use thiserror::Error;
 
 /// Why bytes are no instance. Offsets count bytes from 0.
 ///
-/// A fault of the text (`Syntax`, `TooDeep`) wins over one of the shape (`Double` to `Limit`), and that over one across the file. Of two
-/// faults of the shape the one of lesser place counts, at one place the one that stands earlier here; across the file the first in the
-/// order of the format.
+/// A fault of the text (`Syntax`, `TooDeep`) wins over one of the shape (`Double` to `Limit`), and that over one across
+/// the file. Of two faults of the shape the one of lesser place counts, at one place the one that stands earlier here;
+/// across the file the first in the order of the format.
 #[derive(Debug, Drop, Error)]
 pub enum InstanceFault {
     /// The bytes are no JSON text; their longest beginning that begins one has the length `at`.

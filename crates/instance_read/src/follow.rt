@@ -25,8 +25,8 @@ pub fn take_event(walk: &mut ShapeWalk, keeper: &mut Keeper, event: Event) -> Re
     keeper.take(taken.spot, event, &taken.read)
 }
 
-/// Takes the numbers that come next, as long as they are told by their counts and stand where counts are awaited: the way
-/// of most of the numbers of a file, without an event.
+/// Takes the numbers that come next, as long as they are told by their counts and stand where counts are awaited: the
+/// way of most of the numbers of a file, without an event.
 fn take_counts(pull: &mut Pull, walk: &mut ShapeWalk, keeper: &mut Keeper) -> Result<(), AllocError>
     requires { IsUnfinished pull.old }
     ensures follows { (limits : Sizes) (bytes : List ℕ) → IsFollowing limits pull.old walk.old keeper.old bytes

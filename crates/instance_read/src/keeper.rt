@@ -100,7 +100,9 @@ impl Keeper {
 
     /// Counts a number that is rounded.
     fn count_rounded(&mut self, rounded: bool) -> Result<(), AllocError>
-        ensures { OnOk result (kept_of self.new ≡ record (kept_of self.old) { rounded = cond rounded ((kept_of self.old).rounded + 1) (kept_of self.old).rounded }) }
+        ensures { OnOk result (kept_of self.new ≡ record (kept_of self.old) {
+          rounded = cond rounded ((kept_of self.old).rounded + 1) (kept_of self.old).rounded;
+        }) }
     {
         if !rounded {
             return Ok(());
@@ -116,7 +118,10 @@ impl Keeper {
 
     /// Keeps a count.
     fn add_count(&mut self, spot: Spot, count: Fixed, rounded: bool) -> Result<(), AllocError>
-        ensures { (at : ℕ) (x : List ℕ) → OnOk result (kept_of self.new ≡ spec.keep_rows spot (json.Event.number at x) (reads.Count count rounded) (kept_of self.old)) }
+        ensures { (at : ℕ) (x : List ℕ)
+            → OnOk result
+            (kept_of self.new
+            ≡ spec.keep_rows spot (json.Event.number at x) (reads.Count count rounded) (kept_of self.old)) }
     {
         match spot {
             Spot::RiskNumber => self.work.risks.add(count, rounded),
@@ -138,7 +143,9 @@ impl Keeper {
 
     /// Keeps a whole number.
     fn add_whole(&mut self, spot: Spot, number: u32) -> Result<(), AllocError>
-        ensures { (at : ℕ) (x : List ℕ) → OnOk result (kept_of self.new ≡ spec.keep_rows spot (json.Event.number at x) (reads.Whole number) (kept_of self.old)) }
+        ensures { (at : ℕ) (x : List ℕ)
+            → OnOk result
+            (kept_of self.new ≡ spec.keep_rows spot (json.Event.number at x) (reads.Whole number) (kept_of self.old)) }
     {
         match spot {
             Spot::T => {
@@ -167,7 +174,8 @@ impl Keeper {
 
     /// Keeps a number of 10^-6.
     fn put_millionths(&mut self, spot: Spot, number: u32)
-        ensures { (at : ℕ) (x : List ℕ) → kept_of self.new ≡ spec.keep_rows spot (json.Event.number at x) (reads.Millionths number) (kept_of self.old) }
+        ensures { (at : ℕ) (x : List ℕ) → kept_of self.new ≡ spec.keep_rows spot (json.Event.number at
+            x) (reads.Millionths number) (kept_of self.old) }
     {
         match spot {
             Spot::Alpha => self.rows.alpha = number,
@@ -178,7 +186,9 @@ impl Keeper {
 
     /// Keeps what was read of a number, or of a text that is none of an exclusion's.
     fn take_number(&mut self, spot: Spot, read: &Read) -> Result<(), AllocError>
-        ensures { (at : ℕ) (x : List ℕ) → OnOk result (kept_of self.new ≡ spec.keep_read spot (json.Event.number at x) read.now (kept_of self.old)) }
+        ensures { (at : ℕ) (x : List ℕ)
+            → OnOk result
+            (kept_of self.new ≡ spec.keep_read spot (json.Event.number at x) read.now (kept_of self.old)) }
     {
         match read {
             Read::Count { count, rounded } => {
@@ -197,7 +207,9 @@ impl Keeper {
     /// Keeps a text that is no key.
     fn take_text(&mut self, spot: Spot, text: Text, read: &Read) -> Result<(), AllocError>
         requires { read.now ≡ read_of_text (kind_of spot) text }
-        ensures { (at end : ℕ) → OnOk result (kept_of self.new ≡ spec.keep_read spot (json.Event.text at end text) read.now (kept_of self.old)) }
+        ensures { (at end : ℕ)
+            → OnOk result
+            (kept_of self.new ≡ spec.keep_read spot (json.Event.text at end text) read.now (kept_of self.old)) }
     {
         match spot {
             Spot::Word => {
@@ -210,7 +222,9 @@ impl Keeper {
 
     /// Begins a list of risks in the period whose key came last.
     fn open_risks(&mut self, read: &Read) -> Result<(), AllocError>
-        ensures { (at end : ℕ) (k : List ℕ) → OnOk result (kept_of self.new ≡ spec.keep_rows spots.RiskPeriod (json.key at end k) read.now (kept_of self.old)) }
+        ensures { (at end : ℕ) (k : List ℕ)
+            → OnOk result
+            (kept_of self.new ≡ spec.keep_rows spots.RiskPeriod (json.key at end k) read.now (kept_of self.old)) }
     {
         match read {
             Read::Whole(start) => self.work.risks.open(self.period, *start),
@@ -221,7 +235,8 @@ impl Keeper {
     /// Keeps a key.
     fn take_key(&mut self, spot: Spot, text: Text, read: &Read) -> Result<(), AllocError>
         requires { read.now ≡ read_of_key (kind_of spot) text }
-        ensures { (at end : ℕ) → OnOk result (kept_of self.new ≡ spec.keep_rows spot (json.key at end text) read.now (kept_of self.old)) }
+        ensures { (at end : ℕ)
+            → OnOk result (kept_of self.new ≡ spec.keep_rows spot (json.key at end text) read.now (kept_of self.old)) }
     {
         match spot {
             Spot::Resources => add_name(&mut self.rows.resources, text.into_string()),
@@ -247,7 +262,10 @@ impl Keeper {
 
     /// Puts the workload that is open among those of its intervention.
     fn close_workload(&mut self) -> Result<(), AllocError>
-        ensures { (at : ℕ) → OnOk result (kept_of self.new ≡ spec.keep_rows spots.WorkloadResource (json.finish at) reads.Nothing (kept_of self.old)) }
+        ensures { (at : ℕ)
+            → OnOk result
+            (kept_of self.new
+            ≡ spec.keep_rows spots.WorkloadResource (json.finish at) reads.Nothing (kept_of self.old)) }
     {
         let workload = mem::replace(&mut self.workload, no_workload(self.alloc));
         self.work.workloads.push(workload)?;
@@ -258,7 +276,8 @@ impl Keeper {
 
     /// Keeps a closing bracket or brace: what was open is put among what is closed.
     fn take_finish(&mut self, spot: Spot) -> Result<(), AllocError>
-        ensures { (at : ℕ) → OnOk result (kept_of self.new ≡ spec.keep_rows spot (json.finish at) reads.Nothing (kept_of self.old)) }
+        ensures { (at : ℕ)
+            → OnOk result (kept_of self.new ≡ spec.keep_rows spot (json.finish at) reads.Nothing (kept_of self.old)) }
     {
         match spot {
             Spot::Max => {
@@ -301,7 +320,8 @@ impl Keeper {
 
 /// Adds a name, if it is none of those that are there.
 fn add_name(names: &mut IndexSet<String>, name: String) -> Result<(), AllocError>
-    ensures { OnOk result (map string_bytes names.new.keys ≡ spec.with_name (string_bytes name) (map string_bytes names.old.keys)) }
+    ensures { OnOk result
+        (map string_bytes names.new.keys ≡ spec.with_name (string_bytes name) (map string_bytes names.old.keys)) }
 {
     names.insert_full(name)?;
     Ok(())

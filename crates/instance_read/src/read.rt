@@ -1,5 +1,6 @@
 //! The two calls.
-ghost use Rattle.std.specs.Prelude.{◌≡◌, ◌≢◌, ◌<◌, ◌≤◌, ℕ, List, [], length, None, Some, Err, IfOk, OnOk, OnErr, IfErr, IfSome, IsErrOf, MatchResult};
+ghost use Rattle.std.specs.Prelude.{◌≡◌, ◌≢◌, ◌<◌, ◌≤◌, ℕ, List, [], length, None, Some, Err, IfOk, OnOk, OnErr, IfErr};
+ghost use Rattle.std.specs.Prelude.{IfSome, IsErrOf, MatchResult};
 ghost use Rattle.plan_desk.specs.Desk.{ShowsSame, after_take_in};
 ghost use Rattle.plan_desk.specs.Faults.{IsReadFaultOf};
 ghost use Rattle.plan_desk.specs.Contents.{WhereToldHolds};
@@ -22,8 +23,8 @@ use instance_model::{Instance, Limits};
 use plan_desk::Desk;
 use std::alloc::Global;
 
-/// The instance of a file's bytes: each upper limit of a band is raised by the slack, and each lower one lowered. The slack is from 0 to
-/// 10^9 counts of 10^-12, and no limit is above the standard one.
+/// The instance of a file's bytes: each upper limit of a band is raised by the slack, and each lower one lowered. The
+/// slack is from 0 to 10^9 counts of 10^-12, and no limit is above the standard one.
 ///
 /// # Errors
 ///
@@ -40,8 +41,10 @@ pub fn read_instance(
     ensures fault { IfErr result (TellsFault limits.now bytes.now) }
 
     // Each instance is read, and each fault is told, unless memory ran out.
-    ensures each_instance { (inst : Tables) → Defines limits.now slack bytes.now inst → MatchResult result (λ read. read ≡ inst) (λ fault. fault_of fault ≡ None) }
-    ensures each_fault { (first : FileFault) → HasFileFault limits.now bytes.now first → MatchResult result (λ read. ⊥) (λ fault. IfSome (fault_of fault) (λ told. told ≡ first)) }
+    ensures each_instance { (inst : Tables) → Defines limits.now slack bytes.now inst
+        → MatchResult result (λ read. read ≡ inst) (λ fault. fault_of fault ≡ None) }
+    ensures each_fault { (first : FileFault) → HasFileFault limits.now bytes.now first
+        → MatchResult result (λ read. ⊥) (λ fault. IfSome (fault_of fault) (λ told. told ≡ first)) }
 {
     let mut reader = Reader::make(alloc, limits)?;
     let answer = read_bytes(alloc, &mut reader, slack, bytes);
@@ -59,8 +62,10 @@ fn read_bytes(
     requires unfinished { IsUnfinished reader.old.pull }
     requires unfed { IsUnfed reader.old }
     requires slack { IsSlack slack }
-    ensures built { (sizes : Sizes) → AreStandard sizes → HasRead sizes reader.old [] → IfOk result (λ inst. Defines sizes slack bytes.now inst) }
-    ensures fault { (sizes : Sizes) → AreStandard sizes → HasRead sizes reader.old [] → IfErr result (TellsFault sizes bytes.now) }
+    ensures built { (sizes : Sizes) → AreStandard sizes → HasRead sizes reader.old []
+        → IfOk result (λ inst. Defines sizes slack bytes.now inst) }
+    ensures fault { (sizes : Sizes) → AreStandard sizes → HasRead sizes reader.old []
+        → IfErr result (TellsFault sizes bytes.now) }
 {
     feed_all(reader, bytes)?;
     reader.conclude(alloc, slack)
@@ -68,8 +73,8 @@ fn read_bytes(
 
 /// Reads the instance of the file of this name, piece by piece.
 ///
-/// The answer is that of `read_all` followed by `read_instance`: after a fault of the text the file is read on to its end, or past its
-/// limit, so `Failed` and `TooLong` win. No further read is made once the limit is passed.
+/// The answer is that of `read_all` followed by `read_instance`: after a fault of the text the file is read on to its
+/// end, or past its limit, so `Failed` and `TooLong` win. No further read is made once the limit is passed.
 pub fn read_instance_from<D: Desk>(
     alloc: Global,
     limits: &Limits,
@@ -79,11 +84,16 @@ pub fn read_instance_from<D: Desk>(
 ) -> Result<Instance, StreamFault>
     requires limits { AreStandard limits.now }
     requires slack { IsSlack slack }
-    ensures built { IfOk result (λ inst. ReadsFile name.now limits.now.instance_bytes (D.shows desk.old) (λ bytes. Defines limits.now slack bytes inst)) }
-    ensures fault { (fault : InstanceFault) → result ≡ Err (StreamFault.Text fault) → ReadsFile name.now limits.now.instance_bytes (D.shows desk.old) (λ bytes. (told : FileFault) × (fault_of fault ≡ Some told) × HasFileFault limits.now bytes told) }
-    ensures too_long { IsErrOf result StreamFault.TooLong → WhereToldHolds (D.shows desk.old) name.now (λ held. limits.now.instance_bytes < length held) }
+    ensures built { IfOk result (λ inst. ReadsFile name.now limits.now.instance_bytes (D.shows desk.old)
+        (λ bytes. Defines limits.now slack bytes inst)) }
+    ensures fault { (fault : InstanceFault) → result ≡ Err (StreamFault.Text fault)
+        → ReadsFile name.now limits.now.instance_bytes (D.shows desk.old)
+        (λ bytes. (told : FileFault) × (fault_of fault ≡ Some told) × HasFileFault limits.now bytes told) }
+    ensures too_long { IsErrOf result StreamFault.TooLong
+        → WhereToldHolds (D.shows desk.old) name.now (λ held. limits.now.instance_bytes < length held) }
 
-    // An instance was read to the end of its file. A failure changes no file and says nothing, and no read was made once the limit was passed.
+    // An instance was read to the end of its file. A failure changes no file and says nothing, and no
+    // read was made once the limit was passed.
     ensures ok { OnOk result (ShowsSame (D.shows desk.new) (after_take_in name.now [] (D.shows desk.old))) }
     ensures err { OnErr result (LeavesFile name.now limits.now.instance_bytes (D.shows desk.old) (D.shows desk.new)) }
     // no more than the limit was read, unless the file is too long

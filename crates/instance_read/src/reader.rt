@@ -12,8 +12,8 @@ use json_grammar::TextFault;
 use shape_walk::ShapeWalk;
 use std::alloc::{AllocError, Global};
 
-/// A reader of an instance that is fed its text in pieces. After a fault of the text further pieces are dropped; after a fault of the
-/// shape nothing is kept any more.
+/// A reader of an instance that is fed its text in pieces. After a fault of the text further pieces are dropped; after
+/// a fault of the shape nothing is kept any more.
 #[derive(Drop)]
 pub struct Reader {
     pull: Pull,

@@ -1,6 +1,7 @@
 //! Reading an instance from a device.
 
-ghost use Rattle.std.specs.Prelude.{◌≡◌, ◌<◌, ◌≤◌, ℕ, List, [], length, Some, Err, IfOk, OnOk, OnErr, IfSome, IsErrOf, IsTrue, MatchResult};
+ghost use Rattle.std.specs.Prelude.{◌≡◌, ◌<◌, ◌≤◌, ℕ, List, [], length, Some, Err, IfOk, OnOk, OnErr, IfSome, IsErrOf};
+ghost use Rattle.std.specs.Prelude.{IsTrue, MatchResult};
 ghost use Rattle.json_events.specs.Pulls.{IsUnfinished};
 ghost use Rattle.plan_desk.specs.Desk.{ShowsSame, after_read, all_read};
 ghost use Rattle.plan_desk.specs.Contents.{IsCountAt};
@@ -27,12 +28,17 @@ use std::alloc::Global;
 fn feed_rest<D: Desk>(desk: &mut D, reader: &mut Reader, limit: u64) -> Result<(), ReadFault>
     requires taken { IsTrue (D.shows desk.old).input.taken }
     requires unfinished { IsUnfinished reader.old.pull }
-    ensures read { OnOk result (HasRest (D.shows desk.old).input.unread limit (λ bytes. (sizes : Sizes) → HasRead sizes reader.old [] → HasRead sizes reader.new bytes)) }
-    ensures too_long { IsErrOf result ReadFault.TooLong → IfSome (D.shows desk.old).input.unread (λ rest. limit < length rest) }
+    ensures read { OnOk result
+        (HasRest (D.shows desk.old).input.unread limit
+        (λ bytes. (sizes : Sizes) → HasRead sizes reader.old [] → HasRead sizes reader.new bytes)) }
+    ensures too_long { IsErrOf result ReadFault.TooLong
+        → IfSome (D.shows desk.old).input.unread (λ rest. limit < length rest) }
     ensures end { OnOk result (ShowsSame (D.shows desk.new) (all_read (D.shows desk.old))) }
-    ensures some_read { (n : ℕ) × MatchResult result (λ _. n ≤ limit) (λ fault. IsCountAt limit fault n) × ShowsSame (D.shows desk.new) (after_read n (D.shows desk.old)) }
+    ensures some_read { (n : ℕ) × MatchResult result (λ _. n ≤ limit) (λ fault. IsCountAt limit fault n)
+        × ShowsSame (D.shows desk.new) (after_read n (D.shows desk.old)) }
     ensures later { (D.shows desk.old).faults ≤ (D.shows desk.new).faults }
-    ensures faults { CountsReadFault (D.shows desk.old) (D.shows desk.new) (IsFaultOf DeskCall.Read (D.shows desk.old).input.name) result }
+    ensures faults { CountsReadFault (D.shows desk.old) (D.shows desk.new)
+        (IsFaultOf DeskCall.Read (D.shows desk.old).input.name) result }
 {
     let mut buf = [0u8; PIECE];
     let mut count: u64 = 0;
@@ -62,15 +68,20 @@ pub fn read_rest<D: Desk>(
     requires unfed { IsUnfed reader.old }
     requires slack { IsSlack slack }
     ensures built { (sizes : Sizes) → AreStandard sizes → HasRead sizes reader.old []
-        → IfOk result (λ inst. HasRest (D.shows desk.old).input.unread limit (λ bytes. Defines sizes slack bytes inst)) }
+        → IfOk result
+        (λ inst. HasRest (D.shows desk.old).input.unread limit (λ bytes. Defines sizes slack bytes inst)) }
     ensures fault { (sizes : Sizes) → AreStandard sizes → HasRead sizes reader.old []
         → (fault : InstanceFault) → result ≡ Err (StreamFault.Text fault)
-        → HasRest (D.shows desk.old).input.unread limit (λ bytes. (told : FileFault) × (fault_of fault ≡ Some told) × HasFileFault sizes bytes told) }
-    ensures too_long { IsErrOf result StreamFault.TooLong → IfSome (D.shows desk.old).input.unread (λ rest. limit < length rest) }
+        → HasRest (D.shows desk.old).input.unread limit
+        (λ bytes. (told : FileFault) × (fault_of fault ≡ Some told) × HasFileFault sizes bytes told) }
+    ensures too_long { IsErrOf result StreamFault.TooLong
+        → IfSome (D.shows desk.old).input.unread (λ rest. limit < length rest) }
     ensures end { OnOk result (ShowsSame (D.shows desk.new) (all_read (D.shows desk.old))) }
-    ensures some_read { (n : ℕ) × MatchResult result (λ _. n ≤ limit) (λ fault. IsStreamCountAt limit fault n) × ShowsSame (D.shows desk.new) (after_read n (D.shows desk.old)) }
+    ensures some_read { (n : ℕ) × MatchResult result (λ _. n ≤ limit) (λ fault. IsStreamCountAt limit fault n)
+        × ShowsSame (D.shows desk.new) (after_read n (D.shows desk.old)) }
     ensures later { (D.shows desk.old).faults ≤ (D.shows desk.new).faults }
-    ensures faults { CountsStreamFault (D.shows desk.old) (D.shows desk.new) (IsFaultOf DeskCall.Read (D.shows desk.old).input.name) result }
+    ensures faults { CountsStreamFault (D.shows desk.old) (D.shows desk.new)
+        (IsFaultOf DeskCall.Read (D.shows desk.old).input.name) result }
 {
     match feed_rest(desk, reader, limit) {
         Ok(()) => {}

@@ -1,5 +1,6 @@
 -- The order of load cells, and lists that are sorted by it.
-use Rattle.std.proofs.Common.{◌≡◌, ℕ, suc, ◌+◌, ◌<◌, ◌≤◌, ◌==◌, ◌&&◌, ◌||◌, ◌⊎◌, inl, inr, Bool, true, false, cond, List, [], ◌∷◌, ◌++◌, get_or, refl, sym, ◌∙◌, ap, subst, arith, nat_lt}
+use Rattle.std.proofs.Common.{◌≡◌, ℕ, suc, ◌+◌, ◌<◌, ◌≤◌, ◌==◌, ◌&&◌, ◌||◌, ◌⊎◌, inl, inr, Bool, true, false, cond}
+use Rattle.std.proofs.Common.{List, [], ◌∷◌, ◌++◌, get_or, refl, sym, ◌∙◌, ap, subst, arith, nat_lt}
 use Rattle.std.specs.Prelude.{sum_by, IsPermutation}
 use Rattle.std.proofs.lemmas.List.Sums.{sum_by-cons, sum_by-append}
 use Rattle.std.proofs.lemmas.List.Sorted.{sum_by-IsPermutation}
@@ -46,8 +47,10 @@ cell_trans : (a b c : LoadCell) → CellBefore a b → CellBefore b c → CellBe
 cell_trans a b c = key_trans a.start a.period a.resource b.start b.period b.resource c.start c.period c.resource
 
 -- where the one key doesn't stand behind and isn't the same, it stands before
-in_front : (s t c u v d : ℕ) → nat_lt u s || ((u == s) && (nat_lt v t || ((v == t) && nat_lt d c))) ≡ false → ((s ≡ u) → (t ≡ v) → (c ≡ d) → ⊥) → KeyBefore s t c u v d
-in_front s t c u v d h n = by (nat_lt s u) (nat_lt u s) (nat_lt t v) (nat_lt v t) (nat_lt c d) (nat_lt d c) refl refl refl refl refl refl
+in_front : (s t c u v d : ℕ) → nat_lt u s || ((u == s) && (nat_lt v t || ((v == t) && nat_lt d c))) ≡ false
+    → ((s ≡ u) → (t ≡ v) → (c ≡ d) → ⊥) → KeyBefore s t c u v d
+in_front s t c u v d h n = by (nat_lt s u) (nat_lt u s) (nat_lt t v) (nat_lt v t) (nat_lt c d) (nat_lt d c) refl
+    refl refl refl refl refl
   where
     lt : (a b : ℕ) → nat_lt a b ≡ true → a < b
     lt a b e = grind (arith, nat_tests)
@@ -65,7 +68,8 @@ in_front s t c u v d h n = by (nat_lt s u) (nat_lt u s) (nat_lt t v) (nat_lt v t
         clash h = cc
 
     rest : s ≡ u → nat_lt u s ≡ false → nat_lt v t || ((v == t) && nat_lt d c) ≡ false
-    rest e f = sym (ap (λ q. q || ((u == s) && (nat_lt v t || ((v == t) && nat_lt d c)))) f ∙ ap (λ q. q && (nat_lt v t || ((v == t) && nat_lt d c))) (equal s u e)) ∙ h
+    rest e f = sym (ap (λ q. q || ((u == s) && (nat_lt v t || ((v == t) && nat_lt d c)))) f
+        ∙ ap (λ q. q && (nat_lt v t || ((v == t) && nat_lt d c))) (equal s u e)) ∙ h
 
     last : t ≡ v → nat_lt v t ≡ false → nat_lt v t || ((v == t) && nat_lt d c) ≡ false → nat_lt d c ≡ false
     last e f g = sym (ap (λ q. q || ((v == t) && nat_lt d c)) f ∙ ap (λ q. q && nat_lt d c) (equal t v e)) ∙ g
@@ -79,13 +83,15 @@ in_front s t c u v d h n = by (nat_lt s u) (nat_lt u s) (nat_lt t v) (nat_lt v t
     clash : (b : Bool) → b ≡ true → b ≡ false → ⊥
     clash b x y = cc
 
-    by : (a b e f g i : Bool) → nat_lt s u ≡ a → nat_lt u s ≡ b → nat_lt t v ≡ e → nat_lt v t ≡ f → nat_lt c d ≡ g → nat_lt d c ≡ i → KeyBefore s t c u v d
+    by : (a b e f g i : Bool) → nat_lt s u ≡ a → nat_lt u s ≡ b → nat_lt t v ≡ e → nat_lt v t ≡ f → nat_lt c d ≡ g
+        → nat_lt d c ≡ i → KeyBefore s t c u v d
     by true b e f g i p q r w x y = inl (lt s u p)
     by false true e f g i p q r w x y = absurd (starts q)
     by false false true f g i p q r w x y = inr (same s u p q, inl (lt t v r))
     by false false false true g i p q r w x y = absurd (not_behind w (rest (same s u p q) q))
     by false false false false true i p q r w x y = inr (same s u p q, inr (same t v r w, lt c d x))
-    by false false false false false true p q r w x y = absurd (clash (nat_lt d c) y (last (same t v r w) w (rest (same s u p q) q)))
+    by false false false false false true p q r w x y =
+        absurd (clash (nat_lt d c) y (last (same t v r w) w (rest (same s u p q) q)))
     by false false false false false false p q r w x y = absurd (n (same s u p q) (same t v r w) (same c d x y))
 
 -- ---- how often a key stands in a list
@@ -93,7 +99,8 @@ in_front s t c u v d h n = by (nat_lt s u) (nat_lt u s) (nat_lt t v) (nat_lt v t
 pub weight : ℕ → ℕ → ℕ → List LoadCell → ℕ
 weight s t c cells = sum_by (λ z. cond (is_cell_of s t c z) 1 0) cells
 
-pub weight-cons : (s t c : ℕ) (z : LoadCell) (zs : List LoadCell) → weight s t c (z ∷ zs) ≡ cond (is_cell_of s t c z) 1 0 + weight s t c zs
+pub weight-cons : (s t c : ℕ) (z : LoadCell) (zs : List LoadCell)
+    → weight s t c (z ∷ zs) ≡ cond (is_cell_of s t c z) 1 0 + weight s t c zs
 unfolding weight
 weight-cons s t c z zs = sum_by-cons (λ z. cond (is_cell_of s t c z) 1 0) z zs
 
@@ -114,10 +121,13 @@ unfolding weight
 weight_moved s t c xs ys p = sum_by-IsPermutation (λ z. cond (is_cell_of s t c z) 1 0) xs ys p
 
 -- a cell of the key counts
-pub counts : (s t c : ℕ) (z : LoadCell) → z.start ≡ s → z.period ≡ t → z.resource ≡ c → cond {A = ℕ} (is_cell_of s t c z) 1 0 ≡ 1
+pub counts : (s t c : ℕ) (z : LoadCell) → z.start ≡ s → z.period ≡ t → z.resource ≡ c → cond {A =
+    ℕ} (is_cell_of s t c z) 1 0 ≡ 1
 counts s t c z a b d =
     let one : ℕ = 1 in
-    ap (λ q. cond (q && (z.period == t) && (z.resource == c)) one 0) (equal z.start s a) ∙ ap (λ q. cond (q && (z.resource == c)) one 0) (equal z.period t b) ∙ ap (λ q. cond q one 0) (equal z.resource c d)
+    ap (λ q. cond (q && (z.period == t) && (z.resource == c)) one 0) (equal z.start s a)
+    ∙ ap (λ q. cond (q && (z.resource == c)) one 0) (equal z.period t b)
+    ∙ ap (λ q. cond q one 0) (equal z.resource c d)
 
 -- ---- sorted lists
 
@@ -130,18 +140,30 @@ pub rises_sorted : (cells : List LoadCell) → IsSortedBy precedes cells → IsO
 rises_sorted [] up once = tt
 rises_sorted (x ∷ []) up once = (λ y m. absurd m, tt)
 rises_sorted (x ∷ (y ∷ zs)) up once =
-    let here : CellBefore x y = in_front x.start x.period x.resource y.start y.period y.resource (up 0 x (omega arith) (omega arith)) twice in
-    let rest : Rises CellBefore (y ∷ zs) = rises_sorted (y ∷ zs) (λ k d l m. next k d (up (suc k) d (omega arith) (omega arith))) (λ s t c. omega (arith, once s t c, weight-cons s t c x (y ∷ zs))) in
+    let here : CellBefore x y =
+    in_front x.start x.period x.resource y.start y.period y.resource (up 0 x (omega arith) (omega arith)) twice in
+    let rest : Rises CellBefore (y ∷ zs) = rises_sorted (y ∷ zs)
+    (λ k d l m. next k d (up (suc k) d (omega arith) (omega arith)))
+    (λ s t c. omega (arith, once s t c, weight-cons s t c x (y ∷ zs))) in
     (λ z m. by here rest z m, rest)
   where
-    next : (k : ℕ) (d : LoadCell) → precedes (get_or (x ∷ (y ∷ zs)) (suc k + 1) d) (get_or (y ∷ zs) k d) ≡ false → precedes (get_or (y ∷ zs) (k + 1) d) (get_or (y ∷ zs) k d) ≡ false
-    next k d h = let e : suc k + 1 ≡ suc (k + 1) = omega arith in subst (λ i. precedes (get_or (x ∷ (y ∷ zs)) i d) (get_or (y ∷ zs) k d) ≡ false) e h
+    next : (k : ℕ) (d : LoadCell) → precedes (get_or (x ∷ (y ∷ zs)) (suc k + 1) d) (get_or (y ∷ zs) k d) ≡ false
+        → precedes (get_or (y ∷ zs) (k + 1) d) (get_or (y ∷ zs) k d) ≡ false
+    next k d h = let e : suc k + 1 ≡ suc (k + 1) = omega arith in
+        subst (λ i. precedes (get_or (x ∷ (y ∷ zs)) i d) (get_or (y ∷ zs) k d) ≡ false) e h
 
     twice : x.start ≡ y.start → x.period ≡ y.period → x.resource ≡ y.resource → ⊥
     twice a b d =
         let one = counts x.start x.period x.resource x refl refl refl in
         let two = counts x.start x.period x.resource y (sym a) (sym b) (sym d) in
-        omega (arith, once x.start x.period x.resource, weight-cons x.start x.period x.resource x (y ∷ zs), weight-cons x.start x.period x.resource y zs, one, two)
+        omega (
+          arith,
+          once x.start x.period x.resource,
+          weight-cons x.start x.period x.resource x (y ∷ zs),
+          weight-cons x.start x.period x.resource y zs,
+          one,
+          two,
+        )
 
     by : CellBefore x y → Rises CellBefore (y ∷ zs) → (z : LoadCell) → (y ≡ z) ⊎ Among zs z → CellBefore x z
     by here rest z (inl e) = subst (λ (q : LoadCell). CellBefore x q) e here
@@ -149,10 +171,13 @@ rises_sorted (x ∷ (y ∷ zs)) up once =
 
 -- ---- what the sort compares
 
-compared : (a b c d e f : ℕ) → is_lt (ordering_then (ordering_then (nat_cmp a b) (nat_cmp c d)) (nat_cmp e f)) ≡ nat_lt a b || ((a == b) && (nat_lt c d || ((c == d) && nat_lt e f)))
+compared : (a b c d e f : ℕ) → is_lt (ordering_then (ordering_then (nat_cmp a b) (nat_cmp c d)) (nat_cmp e f))
+    ≡ nat_lt a b || ((a == b) && (nat_lt c d || ((c == d) && nat_lt e f)))
 compared a b c d e f = by (nat_lt a b) (a == b) (nat_lt c d) (c == d) (nat_lt e f) (e == f)
   where
-    by : (l q m r n s : Bool) → is_lt (ordering_then (ordering_then (cond l Less (cond q Equal Greater)) (cond m Less (cond r Equal Greater))) (cond n Less (cond s Equal Greater)))
+    by : (l q m r n s : Bool)
+        → is_lt (ordering_then (ordering_then (cond l Less (cond q Equal Greater)) (cond m Less (cond r Equal Greater)))
+        (cond n Less (cond s Equal Greater)))
         ≡ l || (q && (m || (r && n)))
     by true q m r n s = refl
     by false true true r n s = refl
@@ -162,5 +187,7 @@ compared a b c d e f = by (nat_lt a b) (a == b) (nat_lt c d) (c == d) (nat_lt e 
     by false true false false n s = refl
     by false false m r n s = refl
 
-pub precedes_is : (a b : LoadCell) → precedes a b ≡ is_lt (ordering_then (ordering_then (nat_cmp a.start b.start) (nat_cmp a.period b.period)) (nat_cmp a.resource b.resource))
+pub precedes_is : (a b : LoadCell)
+    → precedes a b ≡ is_lt (ordering_then (ordering_then (nat_cmp a.start b.start) (nat_cmp a.period b.period))
+    (nat_cmp a.resource b.resource))
 precedes_is a b = sym (compared a.start b.start a.period b.period a.resource b.resource)

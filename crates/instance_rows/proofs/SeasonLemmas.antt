@@ -1,5 +1,7 @@
 -- The flags of a season after one period more.
-use Rattle.std.proofs.Common.{◌≡◌, ◌≢◌, ℕ, zero, suc, ◌+◌, ◌-◌, ◌<◌, ◌≤◌, ◌==◌, ◌||◌, ◌⊎◌, inl, inr, Bool, true, false, cond, List, [], ◌∷◌, ◌++◌, length, get_or, set, Option, Some, None, refl, sym, ◌∙◌, ap, arith, length-append, length-set, get_or-set_other, get_or-set_same, is_some}
+use Rattle.std.proofs.Common.{◌≡◌, ◌≢◌, ℕ, zero, suc, ◌+◌, ◌-◌, ◌<◌, ◌≤◌, ◌==◌, ◌||◌, ◌⊎◌, inl, inr, Bool, true, false}
+use Rattle.std.proofs.Common.{cond, List, [], ◌∷◌, ◌++◌, length, get_or, set, Option, Some, None, refl, sym, ◌∙◌, ap}
+use Rattle.std.proofs.Common.{arith, length-append, length-set, get_or-set_other, get_or-set_same, is_some}
 use Rattle.std.specs.Prelude.{position, replicate}
 use Rattle.std.specs.Option.{option_or}
 use Rattle.std.proofs.lemmas.Bool.Decides.{nat_tests}
@@ -30,9 +32,12 @@ one_at : {A : Type 0} (f : ℕ → A) (n k : ℕ) (d : A) → k < n → get_or (
 one_at f zero k d h = absurd (omega arith)
 one_at f (suc n) k d h = by (eq-or-lt_of_le h) (one_at f n k d)
   where
-    by : (suc k ≡ suc n) ⊎ (suc k < suc n) → (k < n → get_or (lists_below n (λ u. f u ∷ [])) k d ≡ f k) → get_or (lists_below n (λ u. f u ∷ []) ++ f n ∷ []) k d ≡ f k
-    by (inl e) r = let same : k ≡ n = omega arith in last (lists_below n (λ u. f u ∷ [])) (f n) d k (omega (arith, same, length-ones f n)) ∙ ap f (sym same)
-    by (inr l) r = front (lists_below n (λ u. f u ∷ [])) (f n ∷ []) k d (omega (arith, length-ones f n)) ∙ r (omega arith)
+    by : (suc k ≡ suc n) ⊎ (suc k < suc n) → (k < n → get_or (lists_below n (λ u. f u ∷ [])) k d ≡ f k)
+        → get_or (lists_below n (λ u. f u ∷ []) ++ f n ∷ []) k d ≡ f k
+    by (inl e) r = let same : k ≡ n = omega arith in
+        last (lists_below n (λ u. f u ∷ [])) (f n) d k (omega (arith, same, length-ones f n)) ∙ ap f (sym same)
+    by (inr l) r =
+        front (lists_below n (λ u. f u ∷ [])) (f n ∷ []) k d (omega (arith, length-ones f n)) ∙ r (omega arith)
 
 -- ---- flags
 
@@ -41,7 +46,9 @@ flag ps u = is_some (position (λ n. n == u + 1) ps)
 
 flag_more : (ps : List ℕ) (p u : ℕ) → flag (ps ++ p ∷ []) u ≡ flag ps u || (p == u + 1)
 flag_more ps p u =
-    ap is_some (position_from-zero (λ n. n == u + 1) (ps ++ p ∷ []) ∙ position_more (λ n. n == u + 1) 0 ps p ∙ ap (λ o. option_or o (cond (p == u + 1) (Some (0 + length ps)) None)) (sym (position_from-zero (λ n. n == u + 1) ps)))
+    ap is_some (position_from-zero (λ n. n == u + 1) (ps ++ p ∷ []) ∙ position_more (λ n. n == u + 1) 0 ps p
+    ∙ ap (λ o. option_or o (cond (p == u + 1) (Some (0 + length ps)) None))
+    (sym (position_from-zero (λ n. n == u + 1) ps)))
     ∙ by (position (λ n. n == u + 1) ps) (p == u + 1)
   where
     by : (o : Option ℕ) (b : Bool) → is_some (option_or o (cond b (Some (0 + length ps)) None)) ≡ is_some o || b
@@ -63,12 +70,15 @@ equal a b h = grind (arith, nat_tests)
 unequal : (a b : ℕ) → (a ≡ b → ⊥) → (a == b) ≡ false
 unequal a b h = grind (arith, nat_tests)
 
-pub season_put : (n : ℕ) (ps : List ℕ) (p : ℕ) → 1 ≤ p → p ≤ n → set (lists_below n (in_season ps)) (p - 1) true ≡ lists_below n (in_season (ps ++ p ∷ []))
+pub season_put : (n : ℕ) (ps : List ℕ) (p : ℕ) → 1 ≤ p → p ≤ n → set (lists_below n (in_season ps)) (p - 1) true
+    ≡ lists_below n (in_season (ps ++ p ∷ []))
 season_put n ps p l h =
     let size : length (lists_below n (in_season ps)) ≡ n = length-ones (flag ps) n in
-    let same : length (set (lists_below n (in_season ps)) (p - 1) true) ≡ n = length-set (lists_below n (in_season ps)) (p - 1) true ∙ size in
+    let same : length (set (lists_below n (in_season ps)) (p - 1) true) ≡ n =
+    length-set (lists_below n (in_season ps)) (p - 1) true ∙ size in
     ext_get_or false _ _ (same ∙ sym (length-ones (flag (ps ++ p ∷ [])) n)) (λ i k.
-    by i (omega (arith, same)) (i == p - 1) refl ∙ sym (one_at (flag (ps ++ p ∷ [])) n i false (omega (arith, same)) ∙ flag_more ps p i))
+    by i (omega (arith, same)) (i == p - 1) refl
+    ∙ sym (one_at (flag (ps ++ p ∷ [])) n i false (omega (arith, same)) ∙ flag_more ps p i))
   where
     equal_so : (a b : ℕ) → (a == b) ≡ true → a ≡ b
     equal_so a b h = grind (arith, nat_tests)
@@ -76,7 +86,8 @@ season_put n ps p l h =
     other_so : (a b : ℕ) → (a == b) ≡ false → a ≢ b
     other_so a b h = grind (arith, nat_tests)
 
-    by : (i : ℕ) → i < n → (b : Bool) → (i == p - 1) ≡ b → get_or (set (lists_below n (in_season ps)) (p - 1) true) i false ≡ flag ps i || (p == i + 1)
+    by : (i : ℕ) → i < n → (b : Bool) → (i == p - 1) ≡ b
+        → get_or (set (lists_below n (in_season ps)) (p - 1) true) i false ≡ flag ps i || (p == i + 1)
     by i k true e =
         let at : i ≡ p - 1 = equal_so i (p - 1) e in
         ap (λ q. get_or (set (lists_below n (in_season ps)) (p - 1) true) q false) at
@@ -87,10 +98,16 @@ season_put n ps p l h =
         get_or-set_other (lists_below n (in_season ps)) (p - 1) i true false at ∙ one_at (flag ps) n i false k
         ∙ sym (ap (λ q. flag ps i || q) (unequal p (i + 1) (λ q. at (omega (arith, q)))) ∙ or_false (flag ps i))
 
-pub season_skip : (n : ℕ) (ps : List ℕ) (p : ℕ) → (1 ≤ p → p ≤ n → ⊥) → lists_below n (in_season ps) ≡ lists_below n (in_season (ps ++ p ∷ []))
-season_skip n ps p out = ext_get_or false _ _ (length-ones (flag ps) n ∙ sym (length-ones (flag (ps ++ p ∷ [])) n)) (λ i k.
+pub season_skip : (n : ℕ) (ps : List ℕ) (p : ℕ) → (1 ≤ p → p ≤ n → ⊥)
+    → lists_below n (in_season ps) ≡ lists_below n (in_season (ps ++ p ∷ []))
+season_skip n ps p out =
+    ext_get_or false _ _ (length-ones (flag ps) n ∙ sym (length-ones (flag (ps ++ p ∷ [])) n)) (λ i k.
     let l : i < n = omega (arith, length-ones (flag ps) n) in
-    one_at (flag ps) n i false l ∙ sym (one_at (flag (ps ++ p ∷ [])) n i false l ∙ flag_more ps p i ∙ ap (λ q. flag ps i || q) (unequal p (i + 1) (λ q. out (omega (arith, q)) (omega (arith, q, l)))) ∙ or_false (flag ps i)))
+    one_at (flag ps) n i false l
+    ∙ sym
+    (one_at (flag (ps ++ p ∷ [])) n i false l ∙ flag_more ps p i
+    ∙ ap (λ q. flag ps i || q) (unequal p (i + 1) (λ q. out (omega (arith, q)) (omega (arith, q, l))))
+    ∙ or_false (flag ps i)))
 
 length-replicate : {A : Type 0} (n : ℕ) (x : A) → length (replicate n x) ≡ n
 length-replicate zero x = refl

@@ -2,7 +2,8 @@
 use Rattle.std.specs.Prelude.{◌≡◌, Option, Some, None, Result, Ok, Err, string_bytes}
 use Rattle.instance_shape.specs.CrossFaults as file
 use Rattle.instance_rows.specs.declared.fault.CrossFault.{CrossFault}
-use Rattle.instance_rows.specs.declared.fault.CrossFault.TheVariants.{ScenarioList, BandLength, BadTmax, NoDelta, Unknown, NoRisk, ScenarioCount}
+use Rattle.instance_rows.specs.declared.fault.CrossFault.TheVariants.{ScenarioList, BandLength, BadTmax, NoDelta}
+use Rattle.instance_rows.specs.declared.fault.CrossFault.TheVariants.{Unknown, NoRisk, ScenarioCount}
 use Rattle.instance_rows.specs.declared.fault.RowsFault.{RowsFault}
 use Rattle.instance_rows.specs.declared.fault.RowsFault.TheVariants.{Across, Memory}
 

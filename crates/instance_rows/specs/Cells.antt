@@ -1,5 +1,6 @@
 -- Defines which workloads of an intervention become load cells, before these are put in order.
-use Rattle.std.specs.Prelude.{ℕ, ◌+◌, ◌-◌, Bool, ◌&&◌, ◌||◌, ◌==◌, cond, List, [], ◌∷◌, ◌++◌, Option, Some, None, nat_le, nat_lt, position, bytes_eq, slice_index}
+use Rattle.std.specs.Prelude.{ℕ, ◌+◌, ◌-◌, Bool, ◌&&◌, ◌||◌, ◌==◌, cond, List, [], ◌∷◌, ◌++◌, Option, Some, None}
+use Rattle.std.specs.Prelude.{nat_le, nat_lt, position, bytes_eq, slice_index}
 use Rattle.instance_model.specs.declared.parts.LoadCell.{LoadCell}
 use Rattle.instance_model.specs.Tables.{allowed_of}
 use Rattle.instance_rows.specs.FileRows.{LoadRow, WorkloadRow}
@@ -25,7 +26,8 @@ kept_of periods ds (Some c) ls = kept periods ds c ls
 -- those of all resources
 abbrev pub all_kept : ℕ → List ℕ → List (List ℕ) → List WorkloadRow → List LoadCell
 all_kept periods ds resources [] = []
-all_kept periods ds resources (w ∷ ws) = kept_of periods ds (position (bytes_eq w.resource) resources) w.loads ++ all_kept periods ds resources ws
+all_kept periods ds resources (w ∷ ws) =
+    kept_of periods ds (position (bytes_eq w.resource) resources) w.loads ++ all_kept periods ds resources ws
 
 -- a cell stands before another, by start, then period, then resource
 abbrev pub precedes : LoadCell → LoadCell → Bool

@@ -4,7 +4,8 @@ use Rattle.json_grammar.specs.Tree.{Tree}
 use Rattle.instance_shape.specs.declared.fault.Known.TheVariants as is
 use Rattle.instance_shape.specs.declared.spot.Spot.TheVariants as spot
 use Rattle.instance_shape.specs.Keys.{number_of}
-use Rattle.instance_shape.specs.LookUp.{Entry, elements, entries, keys, known, whole_at, text_at, count_at, part_at, periods, scenarios}
+use Rattle.instance_shape.specs.LookUp.{Entry, elements, entries, keys, known, whole_at, text_at, count_at, part_at}
+use Rattle.instance_shape.specs.LookUp.{periods, scenarios}
 use Rattle.instance_shape.specs.Shape.{placed}
 use Rattle.instance_shape.specs.FileTables.{some_differs, rounded}
 
@@ -38,7 +39,8 @@ pub record WorkRow : Type 0 where
   pub workloads : List WorkloadRow
   pub risks : List RiskRow
 
--- the rows of a file; resources, seasons, interventions and exclusions are their names, each with a row in the list behind
+-- the rows of a file; resources, seasons, interventions and exclusions are
+-- their names, each with a row in the list behind
 pub record FileRows : Type 0 where
   pub periods : ℕ
   pub alpha : ℕ
@@ -55,7 +57,8 @@ pub record FileRows : Type 0 where
   pub rounded : ℕ
 
 abbrev pub band_row : Tree → BandRow
-band_row v = record { most = map count_at (elements (known is.Max v)); least = map count_at (elements (known is.Min v)) }
+band_row v =
+    record { most = map count_at (elements (known is.Max v)); least = map count_at (elements (known is.Min v)) }
 
 -- the workloads of one resource in one period
 abbrev pub load_row : ℕ → Entry → LoadRow

@@ -16,12 +16,14 @@ no_list = record { period = 0; start = 0; values = []; soft = false }
 -- workloads that are apart
 pub record IsReady (periods : ℕ) (w : WorkRow) : Type 0 where
   pub starts : w.tmax ≤ periods
-  pub lists : (k j : ℕ) → k < length (used_durations w) → allowed_of periods (used_durations w) (k + 1) ≡ true → j < slice_index (used_durations w) k → IsSome (place_of w.risks (k + 1) (k + 1 + j))
+  pub lists : (k j : ℕ) → k < length (used_durations w) → allowed_of periods (used_durations w) (k + 1) ≡ true
+      → j < slice_index (used_durations w) k → IsSome (place_of w.risks (k + 1) (k + 1 + j))
   pub apart : AreWorkloadsApart w.workloads
 
 -- the tables of some interventions
 pub record AreTablesOf (periods : ℕ) (resources : List (List ℕ)) (works : List WorkRow) (t : WorkTables) : Type 0 where
   pub delta : map (λ v. v.items) t.delta.items ≡ map used_durations works
-  pub loads : map (λ v. v.items) t.loads.items ≡ map (λ w. each_run periods (used_durations w) (cells_at resources w.workloads)) works
+  pub loads : map (λ v. v.items) t.loads.items
+      ≡ map (λ w. each_run periods (used_durations w) (cells_at resources w.workloads)) works
   pub risks : t.risks.items ≡ flat_map (λ w. each_run periods (used_durations w) (risks_at w.risks)) works
   pub soft : t.soft.items ≡ flat_map (λ w. each_run periods (used_durations w) (soft_at w.risks)) works

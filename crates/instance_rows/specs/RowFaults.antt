@@ -1,8 +1,10 @@
 -- Defines the faults across a file by its rows.
-use Rattle.std.specs.Prelude.{ℕ, ◌+◌, ◌-◌, Bool, ◌&&◌, ◌==◌, List, [], Option, Some, None, cond, find, take, length, nat_le, nat_lt, slice_index, slice_index_or}
+use Rattle.std.specs.Prelude.{ℕ, ◌+◌, ◌-◌, Bool, ◌&&◌, ◌==◌, List, [], Option, Some, None, cond, find, take, length}
+use Rattle.std.specs.Prelude.{nat_le, nat_lt, slice_index, slice_index_or}
 use Rattle.instance_model.specs.Rules.{first_of, or_else}
 use Rattle.instance_model.specs.Tables.{allowed_of}
-use Rattle.instance_shape.specs.CrossFaults.{CrossFault, scenario_list, band_length, bad_tmax, no_delta, unknown, no_risk, scenario_count, unless, first_in, is_among}
+use Rattle.instance_shape.specs.CrossFaults.{CrossFault, scenario_list, band_length, bad_tmax, no_delta, unknown}
+use Rattle.instance_shape.specs.CrossFaults.{no_risk, scenario_count, unless, first_in, is_among}
 use Rattle.instance_rows.specs.FileRows.{BandRow, WorkloadRow, RiskRow, WorkRow, FileRows}
 
 abbrev pub no_band : BandRow
@@ -35,7 +37,8 @@ run_fault counts name risks s d = first_of d (λ j. list_fault counts name (s + 
 -- by allowed start
 abbrev pub runs_fault : ℕ → List ℕ → List ℕ → List ℕ → List RiskRow → Option CrossFault
 runs_fault periods counts name ds risks =
-    first_of (length ds) (λ k. cond (allowed_of periods ds (k + 1)) (run_fault counts name risks (k + 1) (slice_index ds k)) None)
+    first_of (length ds)
+    (λ k. cond (allowed_of periods ds (k + 1)) (run_fault counts name risks (k + 1) (slice_index ds k)) None)
 
 -- tmax is outside 1 to the number of periods
 abbrev pub tmax_fault : ℕ → List ℕ → WorkRow → Option CrossFault
@@ -52,13 +55,15 @@ workload_fault resources w = unless (is_among resources w.resource) (unknown w.r
 -- of one intervention
 abbrev pub work_fault : FileRows → List ℕ → WorkRow → Option CrossFault
 work_fault rows name w =
-    or_else (tmax_fault rows.periods name w) (or_else (delta_fault name w) (or_else (first_in (workload_fault rows.resources) w.workloads)
+    or_else (tmax_fault rows.periods name w)
+    (or_else (delta_fault name w) (or_else (first_in (workload_fault rows.resources) w.workloads)
     (runs_fault rows.periods rows.scenarios name (used_durations w) w.risks)))
 
 -- word k of an exclusion names an intervention, word 2 a season
 abbrev pub word_fault : FileRows → List (List ℕ) → ℕ → Option CrossFault
 word_fault rows words k =
-    unless (is_among (cond (nat_lt k 2) rows.interventions rows.seasons) (slice_index_or words k [])) (unknown (slice_index_or words k []))
+    unless (is_among (cond (nat_lt k 2) rows.interventions rows.seasons) (slice_index_or words k []))
+    (unknown (slice_index_or words k []))
 
 -- of one exclusion
 abbrev pub exclusion_fault : FileRows → List (List ℕ) → Option CrossFault
@@ -70,7 +75,8 @@ scenarios_fault rows = unless (length rows.scenarios == rows.periods) scenario_l
 
 -- of resource i
 abbrev pub band_fault_at : FileRows → ℕ → Option CrossFault
-band_fault_at rows i = band_fault rows.periods (slice_index_or rows.resources i []) (slice_index_or rows.bands i no_band)
+band_fault_at rows i =
+    band_fault rows.periods (slice_index_or rows.resources i []) (slice_index_or rows.bands i no_band)
 
 -- of intervention i
 abbrev pub work_fault_at : FileRows → ℕ → Option CrossFault
@@ -94,4 +100,5 @@ exclusions_fault rows = first_of (length rows.exclusion_words) (exclusion_fault_
 
 -- the first fault across the file
 abbrev pub rows_fault : FileRows → Option CrossFault
-rows_fault rows = or_else (scenarios_fault rows) (or_else (bands_fault rows) (or_else (works_fault rows) (exclusions_fault rows)))
+rows_fault rows =
+    or_else (scenarios_fault rows) (or_else (bands_fault rows) (or_else (works_fault rows) (exclusions_fault rows)))

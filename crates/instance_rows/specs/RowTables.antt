@@ -1,5 +1,6 @@
 -- Defines the tables of the instance of a file by its rows.
-use Rattle.std.specs.Prelude.{ℕ, ◌+◌, ℤ, ◌+ℤ◌, ◌-ℤ◌, Bool, false, ◌&&◌, ◌==◌, List, [], ◌∷◌, Option, Some, None, cond, find, map, flat_map, length, is_some, position, bytes_eq, slice_index, slice_index_or}
+use Rattle.std.specs.Prelude.{ℕ, ◌+◌, ℤ, ◌+ℤ◌, ◌-ℤ◌, Bool, false, ◌&&◌, ◌==◌, List, [], ◌∷◌, Option, Some, None, cond}
+use Rattle.std.specs.Prelude.{find, map, flat_map, length, is_some, position, bytes_eq, slice_index, slice_index_or}
 use Rattle.instance_model.specs.declared.parts.LoadCell.{LoadCell}
 use Rattle.instance_model.specs.declared.parts.Exclusion.{Exclusion}
 use Rattle.instance_model.specs.Tables.{Tables, allowed_of}
@@ -10,7 +11,8 @@ use Rattle.instance_rows.specs.RowFaults.{used_durations, is_list_at}
 -- something for each allowed start and period of its run, in this order
 abbrev pub each_run : {A : Type 0} → ℕ → List ℕ → (ℕ → ℕ → List A) → List A
 each_run periods ds f =
-    lists_below (length ds) (λ k. cond (allowed_of periods ds (k + 1)) (lists_below (slice_index ds k) (λ j. f (k + 1) (k + 1 + j))) [])
+    lists_below (length ds)
+    (λ k. cond (allowed_of periods ds (k + 1)) (lists_below (slice_index ds k) (λ j. f (k + 1) (k + 1 + j))) [])
 
 -- the numbers of a list of risks, if there is one
 abbrev pub values_of : Option RiskRow → List ℤ
@@ -48,7 +50,8 @@ cell_of s t c (Some l) = record { start = s; period = t; resource = c; load = l.
 
 -- the load cells at start s in period t, in the order of the resources
 abbrev pub cells_at : List (List ℕ) → List WorkloadRow → ℕ → ℕ → List LoadCell
-cells_at resources workloads s t = lists_below (length resources) (λ c. cell_of s t c (load_at workloads (slice_index_or resources c []) t s))
+cells_at resources workloads s t =
+    lists_below (length resources) (λ c. cell_of s t c (load_at workloads (slice_index_or resources c []) t s))
 
 -- whether period u + 1 is one of a season's
 abbrev pub in_season : List ℕ → ℕ → List Bool

@@ -12,7 +12,8 @@ AreLoadsApart (l ∷ ls) = (find (is_load_at l.period l.start) ls ≡ None) × A
 -- no two workloads name the same resource, and in each no two have the same period and start
 abbrev pub AreWorkloadsApart : List WorkloadRow → Type 0
 AreWorkloadsApart [] = Unit {0}
-AreWorkloadsApart (w ∷ ws) = (find (λ v. bytes_eq w.resource v.resource) ws ≡ None) × AreLoadsApart w.loads × AreWorkloadsApart ws
+AreWorkloadsApart (w ∷ ws) =
+    (find (λ v. bytes_eq w.resource v.resource) ws ≡ None) × AreLoadsApart w.loads × AreWorkloadsApart ws
 
 abbrev pub AreWorksApart : List WorkRow → Type 0
 AreWorksApart [] = Unit {0}

@@ -35,8 +35,10 @@ pub fn assemble(alloc: Global, rows: FileRows, slack: Fixed) -> Result<Instance,
     requires slack { IsSlack slack }
 
     // An instance only where there is no fault across the file, a fault only where it is the first; or want of memory.
-    ensures told { (limits : limit.Limits) (root : json.Tree) → AreRowsOf limits root rows → Tells (cross_fault root) result }
-    ensures tables { (limits : limit.Limits) (root : json.Tree) → AreRowsOf limits root rows → IfOk result (λ inst. inst ≡ tables slack root) }
+    ensures told { (limits : limit.Limits) (root : json.Tree) → AreRowsOf limits root rows
+        → Tells (cross_fault root) result }
+    ensures tables { (limits : limit.Limits) (root : json.Tree) → AreRowsOf limits root rows
+        → IfOk result (λ inst. inst ≡ tables slack root) }
 {
     Ok(Instance::from_parts(alloc, parts(alloc, rows, slack)?)?)
 }
@@ -63,8 +65,12 @@ struct Checked {
 fn check(alloc: Global, rows: &FileRows) -> Result<Checked, RowsFault>
     requires { AreSound (rows_view rows.now) }
     ensures told { Tells (rows_fault (rows_view rows.now)) result }
-    ensures orders { IfOk result (λ checked. map (λ o. o.items) checked.orders.items ≡ map (λ w. order_of rows.now.periods (work_view w)) rows.now.works.items) }
-    ensures excluded { IfOk result (λ checked. checked.excluded.items ≡ map (λ e. exclusion_of (rows_view rows.now) (map string_bytes e.items)) rows.now.exclusion_words.items) }
+    ensures orders { IfOk result
+        (λ checked. map (λ o. o.items) checked.orders.items
+        ≡ map (λ w. order_of rows.now.periods (work_view w)) rows.now.works.items) }
+    ensures excluded { IfOk result
+        (λ checked. checked.excluded.items ≡ map (λ e. exclusion_of (rows_view rows.now) (map string_bytes e.items))
+        rows.now.exclusion_words.items) }
 {
     check_scenarios(rows)?;
     check_bands(alloc, rows)?;
@@ -77,8 +83,10 @@ fn check(alloc: Global, rows: &FileRows) -> Result<Checked, RowsFault>
 fn fill(alloc: Global, rows: FileRows, checked: Checked, slack: Fixed) -> Result<Parts, AllocError>
     requires sound { AreSound (rows_view rows) }
     requires none { rows_fault (rows_view rows) ≡ None }
-    requires orders { map (λ o. o.items) checked.orders.items ≡ map (λ w. order_of rows.periods (work_view w)) rows.works.items }
-    requires excluded { checked.excluded.items ≡ map (λ e. exclusion_of (rows_view rows) (map string_bytes e.items)) rows.exclusion_words.items }
+    requires orders { map (λ o. o.items) checked.orders.items
+        ≡ map (λ w. order_of rows.periods (work_view w)) rows.works.items }
+    requires excluded { checked.excluded.items
+        ≡ map (λ e. exclusion_of (rows_view rows) (map string_bytes e.items)) rows.exclusion_words.items }
     ensures { IfOk result (λ parts. tables_of parts ≡ rows_tables slack (rows_view rows)) }
 {
     let upper = upper(alloc, rows.bands.as_slice(), slack)?;

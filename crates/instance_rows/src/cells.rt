@@ -1,6 +1,7 @@
 //! The load cells of an intervention.
 
-ghost use Rattle.std.specs.Prelude.{◌≡◌, ◌≢◌, ◌≤◌, ◌++◌, AllPairs, IfOk, OnOk, IsPermutation, length, map, string_bytes};
+ghost use Rattle.std.specs.Prelude.{◌≡◌, ◌≢◌, ◌≤◌, ◌++◌, AllPairs, IfOk, OnOk, IsPermutation, length, map};
+ghost use Rattle.std.specs.Prelude.{string_bytes};
 ghost use Rattle.std.specs.List.Sorted.{IsSortedBy};
 ghost use Rattle.instance_rows.specs.Cells.{all_kept, kept, precedes, runs_in};
 ghost use Rattle.instance_rows.specs.RowTables as table;
@@ -26,7 +27,9 @@ pub fn load_cells(
     requires few { length resources.now.keys ≤ 1024 }
     requires names { AllPairs (λ a b. a ≢ b) (map string_bytes resources.now.keys) }
     requires apart { AreWorkloadsApart (map workload_view workloads.now) }
-    ensures { IfOk result (λ v. v.items ≡ table.each_run periods durations.now (table.cells_at (map string_bytes resources.now.keys) (map workload_view workloads.now))) }
+    ensures { IfOk result
+        (λ v. v.items ≡ table.each_run periods durations.now (table.cells_at (map string_bytes resources.now.keys)
+        (map workload_view workloads.now))) }
 {
     let mut cells = all_cells(alloc, periods, durations, resources, workloads)?;
     sort_cells(&mut cells);
@@ -44,7 +47,9 @@ fn all_cells(
     requires periods { periods ≤ 512 }
     requires starts { length durations.now ≤ 512 }
     requires few { length resources.now.keys ≤ 1024 }
-    ensures { IfOk result (λ v. v.items ≡ all_kept periods durations.now (map string_bytes resources.now.keys) (map workload_view workloads.now)) }
+    ensures { IfOk result
+        (λ v. v.items
+        ≡ all_kept periods durations.now (map string_bytes resources.now.keys) (map workload_view workloads.now)) }
 {
     let mut cells = Vec::new(alloc);
     for workload in workloads {
@@ -71,7 +76,8 @@ fn add_cells(
 ) -> Result<(), AllocError>
     requires periods { periods ≤ 512 }
     requires starts { length durations.now ≤ 512 }
-    ensures { OnOk result (cells.new.items ≡ cells.old.items ++ kept periods durations.now resource (map load_view loads.now)) }
+    ensures { OnOk result
+        (cells.new.items ≡ cells.old.items ++ kept periods durations.now resource (map load_view loads.now)) }
 {
     for load in loads {
         if is_running(periods, durations, load.start, load.period) {

@@ -52,7 +52,8 @@ fn check_band(alloc: Global, periods: u32, name: &str, bands: &Bands) -> Result<
 
 /// `tmax` of an intervention is a period, and there are as many durations.
 pub fn check_starts(alloc: Global, periods: u32, name: &str, work: &Work) -> Result<(), RowsFault>
-    ensures told { Tells (or_else (fault.tmax_fault periods name.now (work_view work.now)) (fault.delta_fault name.now (work_view work.now))) result }
+    ensures told { Tells (or_else (fault.tmax_fault periods name.now (work_view work.now))
+        (fault.delta_fault name.now (work_view work.now))) result }
     ensures starts { OnOk result (work.now.tmax ≤ periods) }
     ensures listed { OnOk result (work.now.tmax ≤ vec_len work.now.durations) }
 {
@@ -72,7 +73,8 @@ pub fn check_workloads(
     workloads: &[Workload],
 ) -> Result<(), RowsFault>
     requires { length resources.now.keys ≤ 1024 }
-    ensures { Tells (first_in (fault.workload_fault (map string_bytes resources.now.keys)) (map workload_view workloads.now)) result }
+    ensures { Tells (first_in (fault.workload_fault (map string_bytes resources.now.keys))
+        (map workload_view workloads.now)) result }
 {
     for workload in workloads {
         number_of(alloc, resources, workload.resource.as_str())?;

@@ -17,7 +17,9 @@ use std::alloc::Global;
 pub fn exclusions(alloc: Global, rows: &FileRows) -> Result<Vec<Exclusion>, RowsFault>
     requires { AreSound (rows_view rows.now) }
     ensures told { Tells (exclusions_fault (rows_view rows.now)) result }
-    ensures values { IfOk result (λ v. v.items ≡ map (λ e. exclusion_of (rows_view rows.now) (map string_bytes e.items)) rows.now.exclusion_words.items) }
+    ensures values { IfOk result
+        (λ v. v.items ≡ map (λ e. exclusion_of (rows_view rows.now) (map string_bytes e.items))
+        rows.now.exclusion_words.items) }
 {
     let mut excluded = Vec::new(alloc);
     for i in 0..rows.exclusion_words.len() {

@@ -1,6 +1,7 @@
 //! The tables of the interventions.
 
-ghost use Rattle.std.specs.Prelude.{◌≡◌, ◌≢◌, ℕ, ◌<◌, ◌≤◌, ◌∷◌, [], ◌++◌, List, All, AllPairs, IfOk, OnOk, flat_map, length, map, slice_index_or, string_bytes};
+ghost use Rattle.std.specs.Prelude.{◌≡◌, ◌≢◌, ℕ, ◌<◌, ◌≤◌, ◌∷◌, [], ◌++◌, List, All, AllPairs, IfOk, OnOk, flat_map};
+ghost use Rattle.std.specs.Prelude.{length, map, slice_index_or, string_bytes};
 ghost use Rattle.instance_rows.specs.FileRows.{WorkRow};
 ghost use Rattle.instance_rows.specs.Filled.{AreTablesOf, IsReady, no_list};
 ghost use Rattle.instance_rows.specs.Grid.{order_of};
@@ -105,7 +106,9 @@ fn add_work(
     requires names { AllPairs (λ a b. a ≢ b) (map string_bytes resources.now.keys) }
     requires ready { IsReady periods (work_view work) }
     requires order { order.now ≡ order_of periods (work_view work) }
-    ensures { (works : List WorkRow) → AreTablesOf periods (map string_bytes resources.now.keys) works tables.old → OnOk result (AreTablesOf periods (map string_bytes resources.now.keys) (works ++ work_view work ∷ []) tables.new) }
+    ensures { (works : List WorkRow) → AreTablesOf periods (map string_bytes resources.now.keys) works tables.old
+        → OnOk result
+        (AreTablesOf periods (map string_bytes resources.now.keys) (works ++ work_view work ∷ []) tables.new) }
 {
     let mut durations = work.durations;
     durations.truncate(work.tmax as usize);
@@ -130,8 +133,10 @@ fn add_lists(
     soft: &mut Vec<bool>,
 ) -> Result<(), AllocError>
     requires { All (λ k. k < length lists.now) order.now }
-    ensures risks { OnOk result (risks.new.items ≡ risks.old.items ++ flat_map (λ k. (slice_index_or lists.now k no_list).values) order.now) }
-    ensures soft { OnOk result (soft.new.items ≡ soft.old.items ++ map (λ k. (slice_index_or lists.now k no_list).soft) order.now) }
+    ensures risks { OnOk result
+        (risks.new.items ≡ risks.old.items ++ flat_map (λ k. (slice_index_or lists.now k no_list).values) order.now) }
+    ensures soft { OnOk result
+        (soft.new.items ≡ soft.old.items ++ map (λ k. (slice_index_or lists.now k no_list).soft) order.now) }
 {
     for k in order {
         let list = lists.list(*k);

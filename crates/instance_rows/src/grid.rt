@@ -1,6 +1,7 @@
 //! Where the list of risks of a start and a period is.
 
-ghost use Rattle.std.specs.Prelude.{◌≡◌, ◌+◌, ◌-◌, ◌*◌, ◌<◌, ◌≤◌, List, None, Some, IfOk, IfSome, IfNone, is_none, if◌then◌else◌, slice_index_or, slice_set, vec_len};
+ghost use Rattle.std.specs.Prelude.{◌≡◌, ◌+◌, ◌-◌, ◌*◌, ◌<◌, ◌≤◌, List, None, Some, IfOk, IfSome, IfNone, is_none};
+ghost use Rattle.std.specs.Prelude.{if◌then◌else◌, slice_index_or, slice_set, vec_len};
 ghost use Rattle.instance_rows.specs.FileRows.{RiskRow};
 ghost use Rattle.instance_rows.specs.Grid.{IsGridOf, place_of};
 
@@ -78,7 +79,8 @@ fn place_in(starts: u32, periods: u32, start: u32, period: u32) -> Option<usize>
 /// Puts a number at a place that has none.
 fn fill(places: &mut Vec<Option<usize>>, place: usize, k: usize)
     requires { place < vec_len places.old }
-    ensures { places.new.items ≡ (if is_none (slice_index_or places.old.items place None) then slice_set places.old.items place (Some k) else places.old.items) }
+    ensures { places.new.items ≡ (if is_none (slice_index_or places.old.items place None)
+        then slice_set places.old.items place (Some k) else places.old.items) }
 {
     if places[place].is_none() {
         places[place] = Some(k);

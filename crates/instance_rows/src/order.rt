@@ -1,6 +1,7 @@
 //! Which lists of risks the allowed runs of an intervention take, in the order of the tables.
 
-ghost use Rattle.std.specs.Prelude.{◌≡◌, ◌+◌, ◌-◌, ◌<◌, ◌≤◌, ◌++◌, true, Some, IfOk, OnOk, find, length, slice_index, vec_len};
+ghost use Rattle.std.specs.Prelude.{◌≡◌, ◌+◌, ◌-◌, ◌<◌, ◌≤◌, ◌++◌, true, Some, IfOk, OnOk, find, length, slice_index};
+ghost use Rattle.std.specs.Prelude.{vec_len};
 ghost use Rattle.instance_rows.specs.Answers.{Tells};
 ghost use Rattle.instance_rows.specs.Grid.{IsGridOf, order_of, place_of, run_order, runs_order};
 ghost use Rattle.instance_rows.specs.RowFaults.{is_list_at, list_fault, run_fault, runs_fault, used_durations};
@@ -35,7 +36,8 @@ pub fn order(
     requires few { rows.now.periods ≤ 512 }
     requires starts { work.now.tmax ≤ rows.now.periods }
     requires listed { work.now.tmax ≤ vec_len work.now.durations }
-    ensures told { Tells (runs_fault rows.now.periods rows.now.scenarios.items name.now (used_durations (work_view work.now)) work.now.risks) result }
+    ensures told { Tells (runs_fault rows.now.periods rows.now.scenarios.items name.now
+        (used_durations (work_view work.now)) work.now.risks) result }
     ensures order { IfOk result (λ v. v.items ≡ order_of rows.now.periods (work_view work.now)) }
 {
     let grid = Grid::of(alloc, &work.risks, work.tmax, rows.periods)?;
@@ -53,8 +55,10 @@ fn order_runs(alloc: Global, asked: &Asked, durations: &[u32]) -> Result<Vec<usi
     requires known { IsGridOf asked.now.lists.now asked.now.grid.now }
     requires each { length asked.now.counts.now ≡ asked.now.grid.now.periods }
     requires starts { length durations.now ≡ asked.now.grid.now.starts }
-    ensures told { Tells (runs_fault asked.now.grid.now.periods asked.now.counts.now asked.now.name.now durations.now asked.now.lists.now) result }
-    ensures order { IfOk result (λ v. v.items ≡ runs_order asked.now.grid.now.periods durations.now asked.now.lists.now) }
+    ensures told { Tells (runs_fault asked.now.grid.now.periods asked.now.counts.now asked.now.name.now durations.now
+        asked.now.lists.now) result }
+    ensures order { IfOk result
+        (λ v. v.items ≡ runs_order asked.now.grid.now.periods durations.now asked.now.lists.now) }
 {
     let mut order = Vec::new(alloc);
     for k in 0..durations.len() {
@@ -95,7 +99,8 @@ fn ask(alloc: Global, asked: &Asked, start: u32, period: u32) -> Result<usize, R
     requires to { start ≤ asked.now.grid.now.starts }
     requires first { 1 ≤ period }
     requires last { period ≤ asked.now.grid.now.periods }
-    ensures told { Tells (list_fault asked.now.counts.now asked.now.name.now period start (find (is_list_at period start) asked.now.lists.now)) result }
+    ensures told { Tells (list_fault asked.now.counts.now asked.now.name.now period start
+        (find (is_list_at period start) asked.now.lists.now)) result }
     ensures place { IfOk result (λ k. place_of asked.now.lists.now start period ≡ Some k) }
 {
     let Some(k) = asked.grid.find(start, period) else {

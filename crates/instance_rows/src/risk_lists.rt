@@ -1,6 +1,7 @@
 //! The lists of risks of an intervention, in the order of the file.
 
-ghost use Rattle.std.specs.Prelude.{◌≡◌, ◌==◌, ◌<◌, ◌≤◌, ◌+◌, [], ◌∷◌, ◌++◌, false, drop, length, slice_index_or, OnOk, OnErr};
+ghost use Rattle.std.specs.Prelude.{◌≡◌, ◌==◌, ◌<◌, ◌≤◌, ◌+◌, [], ◌∷◌, ◌++◌, false, drop, length, slice_index_or, OnOk};
+ghost use Rattle.std.specs.Prelude.{OnErr};
 ghost use Rattle.instance_rows.specs.FileRows.{RiskRow};
 ghost use Rattle.std.specs.List.{slice_range};
 ghost use Rattle.instance_rows.specs.RiskLists.{add_to_last, end_before, last_soft, list_view};
@@ -61,7 +62,12 @@ impl RiskLists {
 
     /// Begins a list, which is empty as yet.
     pub fn open(&mut self, period: u32, start: u32) -> Result<(), AllocError>
-        ensures ok { OnOk result (self.new ≡ self.old ++ record { period = period; start = start; values = []; soft = false } ∷ []) }
+        ensures ok { OnOk result (self.new ≡ self.old ++ record {
+          period = period;
+          start = start;
+          values = [];
+          soft = false;
+        } ∷ []) }
         ensures err { OnErr result (self.new ≡ self.old) }
     {
         let first = self.numbers.len();

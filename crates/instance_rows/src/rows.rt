@@ -36,8 +36,8 @@ pub struct Work {
     pub risks: RiskLists,
 }
 
-/// The rows of a file. Resources, seasons, interventions and exclusions are their names, each with a row of the same number
-/// in the list behind.
+/// The rows of a file. Resources, seasons, interventions and exclusions are their names, each with a
+/// row of the same number in the list behind.
 #[derive(Drop)]
 pub struct FileRows {
     pub periods: u32,

@@ -10,7 +10,8 @@ use std::alloc::{AllocError, Global};
 /// the periods from 1 to so many are left out.
 pub fn in_season(alloc: Global, periods: u32, seasons: &[Vec<u32>]) -> Result<Vec<bool>, AllocError>
     requires { periods ≤ 512 }
-    ensures { IfOk result (λ v. v.items ≡ flat_map (λ ps. lists_below periods (table.in_season ps)) (map (λ s. s.items) seasons.now)) }
+    ensures { IfOk result
+        (λ v. v.items ≡ flat_map (λ ps. lists_below periods (table.in_season ps)) (map (λ s. s.items) seasons.now)) }
 {
     let mut flags = Vec::new(alloc);
     for season in seasons {

@@ -189,7 +189,8 @@ struct NameSets {
 fn names(alloc: Global) -> Result<NameSets, AllocError>
     ensures resources { IfOk result (λ names. map string_bytes names.resources.keys ≡ codes "crew" ∷ []) }
     ensures seasons { IfOk result (λ names. map string_bytes names.seasons.keys ≡ codes "summer" ∷ []) }
-    ensures interventions { IfOk result (λ names. map string_bytes names.interventions.keys ≡ codes "north" ∷ codes "south" ∷ []) }
+    ensures interventions { IfOk result
+        (λ names. map string_bytes names.interventions.keys ≡ codes "north" ∷ codes "south" ∷ []) }
 {
     Ok(NameSets {
         resources: one_name(alloc, "crew")?,

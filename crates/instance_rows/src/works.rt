@@ -18,7 +18,8 @@ pub fn orders(alloc: Global, rows: &FileRows) -> Result<Vec<Vec<usize>>, RowsFau
     requires sound { AreSound (rows_view rows.now) }
     requires each { vec_len rows.now.scenarios ≡ rows.now.periods }
     ensures told { Tells (works_fault (rows_view rows.now)) result }
-    ensures orders { IfOk result (λ v. map (λ o. o.items) v.items ≡ map (λ w. order_of rows.now.periods (work_view w)) rows.now.works.items) }
+    ensures orders { IfOk result
+        (λ v. map (λ o. o.items) v.items ≡ map (λ w. order_of rows.now.periods (work_view w)) rows.now.works.items) }
 {
     let names = rows.interventions.as_slice();
     let mut orders = Vec::new(alloc);

@@ -1,12 +1,14 @@
 -- How large the numbers are that are read of a text.
-use Rattle.std.proofs.Common.{◌≡◌, ℕ, ◌<◌, ◌≤◌, ◌^◌, ◌&&◌, Bool, true, false, cond, not, List, Option, Some, None, refl, arith, unwrap_or, option_map}
+use Rattle.std.proofs.Common.{◌≡◌, ℕ, ◌<◌, ◌≤◌, ◌^◌, ◌&&◌, Bool, true, false, cond, not, List, Option, Some, None, refl}
+use Rattle.std.proofs.Common.{arith, unwrap_or, option_map}
 use Rattle.std.specs.Prelude.{◌||◌, ◌==◌, nat_le, nat_lt, ℤ, pos, unsigned_abs}
 use Rattle.std.proofs.lemmas.Bool.Decides.{nat_tests}
 use Rattle.json_grammar.specs.Tree.{Tree, tree, Node}
 use Rattle.json_grammar.specs.Grammar.{Parts}
 use Rattle.decimal_numbers.specs.Decimal.{signed}
 use Rattle.json_grammar.specs.Token.{parts_of}
-use Rattle.decimal_numbers.specs.Exact.{is_exact, fixed_size, fixed_parts, fixed, exact_size, exact_parts, exactly, whole, millionths}
+use Rattle.decimal_numbers.specs.Exact.{is_exact, fixed_size, fixed_parts, fixed, exact_size, exact_parts, exactly}
+use Rattle.decimal_numbers.specs.Exact.{whole, millionths}
 use Rattle.instance_shape.specs.LookUp.{whole_at, part_at, count_at, token_at}
 
 exact_most : (p : Parts) (places most size : ℕ) → unwrap_or (exact_size p places most size) 0 ≤ most
@@ -46,17 +48,22 @@ signed_abs : (b : Bool) (n : ℕ) → unsigned_abs (signed b n) ≡ n
 signed_abs true n = grind arith
 signed_abs false n = refl
 
-size_most : (p : Parts) (size : ℕ) → unsigned_abs (unwrap_or (option_map (λ (f : ℤ × Bool). f.0) (fixed_size p size)) (pos 0)) < 10 ^ 20
+size_most : (p : Parts) (size : ℕ)
+    → unsigned_abs (unwrap_or (option_map (λ (f : ℤ × Bool). f.0) (fixed_size p size)) (pos 0)) < 10 ^ 20
 size_most p size = by (nat_lt size (10 ^ 20)) refl
   where
     lt : (n m : ℕ) → nat_lt n m ≡ true → n < m
     lt n m e = grind (arith, nat_tests)
 
-    by : (b : Bool) → nat_lt size (10 ^ 20) ≡ b → unsigned_abs (unwrap_or (option_map (λ (f : ℤ × Bool). f.0) (cond b (Some (signed p.negative size, not (is_exact p 12 size))) None)) (pos 0)) < 10 ^ 20
+    by : (b : Bool) → nat_lt size (10 ^ 20) ≡ b
+        → unsigned_abs (unwrap_or
+        (option_map (λ (f : ℤ × Bool). f.0) (cond b (Some (signed p.negative size, not (is_exact p 12 size))) None))
+        (pos 0)) < 10 ^ 20
     by true e = let q : size < 10 ^ 20 = lt size (10 ^ 20) e in omega (arith, signed_abs p.negative size)
     by false e = omega arith
 
-count_parts : (o : Option Parts) → unsigned_abs (unwrap_or (option_map (λ (f : ℤ × Bool). f.0) (fixed_parts o)) (pos 0)) < 10 ^ 20
+count_parts : (o : Option Parts)
+    → unsigned_abs (unwrap_or (option_map (λ (f : ℤ × Bool). f.0) (fixed_parts o)) (pos 0)) < 10 ^ 20
 count_parts None = omega arith
 count_parts (Some p) = size_most p _
 

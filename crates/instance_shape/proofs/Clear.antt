@@ -1,5 +1,7 @@
--- Faults of shape that aren't there: of lists of faults, of values one after another, and of a value with what is in it.
-use Rattle.std.proofs.Common.{◌≡◌, ℕ, ◌≤◌, Bool, true, false, not, List, [], ◌∷◌, ◌++◌, length, refl, sym, ◌∙◌, ap, arith, append_assoc, pred, zero, suc}
+-- Faults of shape that aren't there: of lists of faults, of values one after
+-- another, and of a value with what is in it.
+use Rattle.std.proofs.Common.{◌≡◌, ℕ, ◌≤◌, Bool, true, false, not, List, [], ◌∷◌, ◌++◌, length, refl, sym, ◌∙◌, ap}
+use Rattle.std.proofs.Common.{arith, append_assoc, pred, zero, suc}
 use Rattle.std.specs.Prelude.{slice_get}
 use Rattle.json_grammar.specs.Tree.{Tree, tree, Node}
 use Rattle.instance_model.specs.declared.limits.Limits.{Limits}
@@ -10,7 +12,8 @@ use Rattle.instance_shape.specs.declared.fault.Which.TheVariants as which
 use Rattle.instance_shape.specs.declared.spot.Spot.{Spot}
 use Rattle.instance_shape.specs.declared.spot.Spot.TheVariants as spot
 use Rattle.instance_shape.specs.Shape.{Placed, placed, placed_node}
-use Rattle.instance_shape.specs.ShapeFaults.{where_so, own_faults, inside_faults, value_faults, values_faults, numbers_at, is_risk, is_workload, count_faults, shape_faults}
+use Rattle.instance_shape.specs.ShapeFaults.{where_so, own_faults, inside_faults, value_faults, values_faults}
+use Rattle.instance_shape.specs.ShapeFaults.{numbers_at, is_risk, is_workload, count_faults, shape_faults}
 
 -- ---- lists of faults
 
@@ -37,15 +40,21 @@ is_so false at f h = cc
 
 -- ---- values one after another
 
-pub values_faults-append : (limits : Limits) (xs ys : List Placed) → values_faults limits (xs ++ ys) ≡ values_faults limits xs ++ values_faults limits ys
+pub values_faults-append : (limits : Limits) (xs ys : List Placed)
+    → values_faults limits (xs ++ ys) ≡ values_faults limits xs ++ values_faults limits ys
 values_faults-append limits [] ys = refl
-values_faults-append limits (x ∷ xs) ys = ap (λ r. value_faults limits x ++ r) (values_faults-append limits xs ys) ∙ sym (append_assoc (value_faults limits x) (values_faults limits xs) (values_faults limits ys))
+values_faults-append limits (x ∷ xs) ys = ap (λ r. value_faults limits x ++ r) (values_faults-append limits xs ys)
+    ∙ sym (append_assoc (value_faults limits x) (values_faults limits xs) (values_faults limits ys))
 
-pub clear_front : (limits : Limits) (xs ys : List Placed) → values_faults limits (xs ++ ys) ≡ [] → values_faults limits xs ≡ []
-clear_front limits xs ys h = clear_left (values_faults limits xs) (values_faults limits ys) (sym (values_faults-append limits xs ys) ∙ h)
+pub clear_front : (limits : Limits) (xs ys : List Placed) → values_faults limits (xs ++ ys) ≡ []
+    → values_faults limits xs ≡ []
+clear_front limits xs ys h =
+    clear_left (values_faults limits xs) (values_faults limits ys) (sym (values_faults-append limits xs ys) ∙ h)
 
-pub clear_rest : (limits : Limits) (xs ys : List Placed) → values_faults limits (xs ++ ys) ≡ [] → values_faults limits ys ≡ []
-clear_rest limits xs ys h = clear_right (values_faults limits xs) (values_faults limits ys) (sym (values_faults-append limits xs ys) ∙ h)
+pub clear_rest : (limits : Limits) (xs ys : List Placed) → values_faults limits (xs ++ ys) ≡ []
+    → values_faults limits ys ≡ []
+clear_rest limits xs ys h =
+    clear_right (values_faults limits xs) (values_faults limits ys) (sym (values_faults-append limits xs ys) ∙ h)
 
 -- ---- a value
 
@@ -53,13 +62,18 @@ clear_rest limits xs ys h = clear_right (values_faults limits xs) (values_faults
 abbrev pub IsClear : Limits → Spot → Tree → Type 0
 IsClear limits s t = values_faults limits (placed s t) ≡ []
 
-pub own_clear : (limits : Limits) (s : Spot) (at end : ℕ) (n : Node) → IsClear limits s (tree at end n) → own_faults limits s at n ≡ []
-own_clear limits s at end n h = clear_left (own_faults limits s at n) _ (clear_left (value_faults limits (record { spot = s; tree = tree at end n })) _ h)
+pub own_clear : (limits : Limits) (s : Spot) (at end : ℕ) (n : Node) → IsClear limits s (tree at end n)
+    → own_faults limits s at n ≡ []
+own_clear limits s at end n h = clear_left (own_faults limits s at n) _
+    (clear_left (value_faults limits (record { spot = s; tree = tree at end n })) _ h)
 
-pub inside_clear : (limits : Limits) (s : Spot) (at end : ℕ) (n : Node) → IsClear limits s (tree at end n) → inside_faults limits s (pred end) n ≡ []
-inside_clear limits s at end n h = clear_right (own_faults limits s at n) _ (clear_left (value_faults limits (record { spot = s; tree = tree at end n })) _ h)
+pub inside_clear : (limits : Limits) (s : Spot) (at end : ℕ) (n : Node) → IsClear limits s (tree at end n)
+    → inside_faults limits s (pred end) n ≡ []
+inside_clear limits s at end n h = clear_right (own_faults limits s at n) _
+    (clear_left (value_faults limits (record { spot = s; tree = tree at end n })) _ h)
 
-pub node_clear : (limits : Limits) (s : Spot) (at end : ℕ) (n : Node) → IsClear limits s (tree at end n) → values_faults limits (placed_node s n) ≡ []
+pub node_clear : (limits : Limits) (s : Spot) (at end : ℕ) (n : Node) → IsClear limits s (tree at end n)
+    → values_faults limits (placed_node s n) ≡ []
 node_clear limits s at end n h = clear_right (value_faults limits (record { spot = s; tree = tree at end n })) _ h
 
 -- ---- a text
@@ -70,17 +84,26 @@ within_limit (n ∷ ns) zero w h = cc
 within_limit (n ∷ ns) (suc limit) w h = omega (arith, within_limit ns limit w h)
 
 values_and_risks : (limits : Limits) (root : Tree) → shape_faults limits root ≡ []
-    → values_faults limits (placed spot.Root root) ++ count_faults (slice_get (numbers_at is_risk (placed spot.Root root)) limits.risk_cells) which.RiskCells ≡ []
-values_and_risks limits root h = clear_left (values_faults limits (placed spot.Root root) ++ count_faults (slice_get (numbers_at is_risk (placed spot.Root root)) limits.risk_cells) which.RiskCells) _ h
+    → values_faults limits (placed spot.Root root)
+    ++ count_faults (slice_get (numbers_at is_risk (placed spot.Root root)) limits.risk_cells) which.RiskCells ≡ []
+values_and_risks limits root h = clear_left
+    (values_faults limits (placed spot.Root root)
+    ++ count_faults (slice_get (numbers_at is_risk (placed spot.Root root)) limits.risk_cells) which.RiskCells) _ h
 
--- a text without a fault of shape has none in a value, and no more numbers under risk and under workload than the limits
+-- a text without a fault of shape has none in a value, and no more numbers
+-- under risk and under workload than the limits
 pub root_clear : (limits : Limits) (root : Tree) → shape_faults limits root ≡ [] → IsClear limits spot.Root root
 root_clear limits root h = clear_left (values_faults limits (placed spot.Root root)) _ (values_and_risks limits root h)
 
-pub risks_within : (limits : Limits) (root : Tree) → shape_faults limits root ≡ [] → length (numbers_at is_risk (placed spot.Root root)) ≤ limits.risk_cells
-risks_within limits root h = within_limit (numbers_at is_risk (placed spot.Root root)) limits.risk_cells which.RiskCells (clear_right (values_faults limits (placed spot.Root root)) _ (values_and_risks limits root h))
+pub risks_within : (limits : Limits) (root : Tree) → shape_faults limits root ≡ []
+    → length (numbers_at is_risk (placed spot.Root root)) ≤ limits.risk_cells
+risks_within limits root h = within_limit (numbers_at is_risk (placed spot.Root root)) limits.risk_cells which.RiskCells
+    (clear_right (values_faults limits (placed spot.Root root)) _ (values_and_risks limits root h))
 
-pub workloads_within : (limits : Limits) (root : Tree) → shape_faults limits root ≡ [] → length (numbers_at is_workload (placed spot.Root root)) ≤ limits.workload_entries
+pub workloads_within : (limits : Limits) (root : Tree) → shape_faults limits root ≡ []
+    → length (numbers_at is_workload (placed spot.Root root)) ≤ limits.workload_entries
 workloads_within limits root h =
     within_limit (numbers_at is_workload (placed spot.Root root)) limits.workload_entries which.WorkloadEntries
-    (clear_right (values_faults limits (placed spot.Root root) ++ count_faults (slice_get (numbers_at is_risk (placed spot.Root root)) limits.risk_cells) which.RiskCells) _ h)
+    (clear_right
+    (values_faults limits (placed spot.Root root)
+    ++ count_faults (slice_get (numbers_at is_risk (placed spot.Root root)) limits.risk_cells) which.RiskCells) _ h)

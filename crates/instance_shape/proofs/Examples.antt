@@ -21,7 +21,10 @@ abbrev number : ℕ → Tree
 number n = tree n (n + 1) (Node.number (49 ∷ []))
 
 -- {"x":1,"x":2}
-double_key : (limits : Limits) → shape_faults limits (tree 0 13 (Node.object (and_member 1 4 (120 ∷ []) (number 5) (and_member 7 10 (120 ∷ []) (number 11) no_members)))) ≡ at 7 flaw.Double ∷ at 12 (flaw.Missing known.Resources) ∷ []
+double_key : (limits : Limits)
+    → shape_faults limits (tree 0 13
+    (Node.object (and_member 1 4 (120 ∷ []) (number 5) (and_member 7 10 (120 ∷ []) (number 11) no_members))))
+    ≡ at 7 flaw.Double ∷ at 12 (flaw.Missing known.Resources) ∷ []
 double_key limits = refl
 
 -- []
@@ -29,12 +32,24 @@ no_object : (limits : Limits) → shape_faults limits (tree 0 2 (Node.list no_tr
 no_object limits = refl
 
 -- {"Resources":{"":{"max":0}}}: the name, the list, and both missing keys
-bad_name : (limits : Limits) → shape_faults (record limits { resources = 5 }) (tree 0 29 (Node.object (and_member 1 12 (82 ∷ 101 ∷ 115 ∷ 111 ∷ 117 ∷ 114 ∷ 99 ∷ 101 ∷ 115 ∷ []) (tree 13 28 (Node.object (and_member 14 16 [] (tree 17 26 (Node.object (and_member 18 23 (109 ∷ 97 ∷ 120 ∷ []) (number 24) no_members))) no_members))) no_members)))
+bad_name : (limits : Limits)
+    → shape_faults (record limits { resources = 5 })
+    (tree 0 29
+    (Node.object
+    (and_member 1 12 (82 ∷ 101 ∷ 115 ∷ 111 ∷ 117 ∷ 114 ∷ 99 ∷ 101 ∷ 115 ∷ [])
+    (tree 13 28
+    (Node.object
+    (and_member 14 16 [] (tree 17 26 (Node.object (and_member 18 23 (109 ∷ 97 ∷ 120 ∷ []) (number 24) no_members)))
+    no_members))) no_members)))
     ≡ at 28 (flaw.Missing known.Seasons) ∷ at 14 flaw.BadName ∷ at 25 (flaw.Missing known.Min) ∷ at 24 flaw.Shape ∷ []
 bad_name limits = refl
 
 -- with no resource allowed, the first key is past the limit
-past_key : (limits : Limits) → shape_faults (record limits { resources = 0 }) (tree 0 29 (Node.object (and_member 1 12 (82 ∷ 101 ∷ 115 ∷ 111 ∷ 117 ∷ 114 ∷ 99 ∷ 101 ∷ 115 ∷ []) (tree 13 28 (Node.object (and_member 14 17 (99 ∷ []) (tree 17 26 (Node.list no_trees)) no_members))) no_members)))
+past_key : (limits : Limits)
+    → shape_faults (record limits { resources = 0 })
+    (tree 0 29
+    (Node.object (and_member 1 12 (82 ∷ 101 ∷ 115 ∷ 111 ∷ 117 ∷ 114 ∷ 99 ∷ 101 ∷ 115 ∷ [])
+    (tree 13 28 (Node.object (and_member 14 17 (99 ∷ []) (tree 17 26 (Node.list no_trees)) no_members))) no_members)))
     ≡ at 28 (flaw.Missing known.Seasons) ∷ at 14 (flaw.Limit which.Resources) ∷ at 17 flaw.Shape ∷ []
 past_key limits = refl
 

@@ -1,14 +1,17 @@
 -- Defines the faults across a file, in the order in which they are looked for.
-use Rattle.std.specs.Prelude.{◌≡◌, ℕ, zero, suc, ◌+◌, ◌-◌, ◌*◌, ℤ, pos, ◌+ℤ◌, ◌-ℤ◌, Bool, true, false, ◌&&◌, ◌||◌, ◌==◌, List, [], ◌∷◌, ◌++◌, Option, Some, None, cond, bytes_eq, map, unwrap_or, option_map, slice_index, slice_index_or, length, nat_le, nat_lt, not, take, is_some, position, sum}
+use Rattle.std.specs.Prelude.{◌≡◌, ℕ, zero, suc, ◌+◌, ◌-◌, ◌*◌, ℤ, pos, ◌+ℤ◌, ◌-ℤ◌, Bool, true, false, ◌&&◌, ◌||◌, ◌==◌}
+use Rattle.std.specs.Prelude.{List, [], ◌∷◌, ◌++◌, Option, Some, None, cond, bytes_eq, map, unwrap_or, option_map}
+use Rattle.std.specs.Prelude.{slice_index, slice_index_or, length, nat_le, nat_lt, not, take, is_some, position, sum}
 use Rattle.instance_model.specs.Tables.{allowed_of}
 use Rattle.instance_model.specs.Rules.{first_of, or_else}
 use Rattle.json_grammar.specs.Tree.{Tree, tree, Node}
 use Rattle.instance_shape.specs.declared.fault.Known.TheVariants as is
-use Rattle.instance_shape.specs.LookUp.{Entry, elements, entries, keys, known, whole_at, text_at, periods, scenarios, interventions, durations, risk_list}
+use Rattle.instance_shape.specs.LookUp.{Entry, elements, entries, keys, known, whole_at, text_at, periods, scenarios}
+use Rattle.instance_shape.specs.LookUp.{interventions, durations, risk_list}
 
 -- the list of scenario numbers hasn't one element per period; a band of a resource hasn't one limit per period; tmax is
--- outside 1 to T; Delta has fewer than tmax durations; a name is none of the file's; there is no list of risks in a period
--- at an allowed start; such a list hasn't as many numbers as the period has scenarios
+-- outside 1 to T; Delta has fewer than tmax durations; a name is none of the file's; there is no list of risks in a
+-- period at an allowed start; such a list hasn't as many numbers as the period has scenarios
 pub data CrossFault : Type 0 where
   scenario_list : CrossFault
   band_length : (resource : List ℕ) → CrossFault
@@ -30,7 +33,8 @@ first_in f (x ∷ xs) = or_else (f x) (first_in f xs)
 -- a resource has as many limits as there are periods
 abbrev pub band_fault : ℕ → Entry → Option CrossFault
 band_fault n r =
-    unless ((length (elements (known is.Max r.value)) == n) && (length (elements (known is.Min r.value)) == n)) (band_length r.key)
+    unless ((length (elements (known is.Max r.value)) == n) && (length (elements (known is.Min r.value)) == n))
+    (band_length r.key)
 
 -- a name is one of a list
 abbrev pub is_among : List (List ℕ) → List ℕ → Bool
@@ -52,19 +56,24 @@ risk_faults root i =
 
 -- tmax is outside 1 to T
 abbrev pub tmax_fault : Tree → Entry → Option CrossFault
-tmax_fault root i = unless (nat_le 1 (whole_at (known is.Tmax i.value)) && nat_le (whole_at (known is.Tmax i.value)) (periods root)) (bad_tmax i.key)
+tmax_fault root i = unless
+    (nat_le 1 (whole_at (known is.Tmax i.value)) && nat_le (whole_at (known is.Tmax i.value)) (periods root))
+    (bad_tmax i.key)
 
 -- Delta has fewer than tmax elements
 abbrev pub delta_fault : Entry → Option CrossFault
-delta_fault i = unless (nat_le (whole_at (known is.Tmax i.value)) (length (elements (known is.Delta i.value)))) (no_delta i.key)
+delta_fault i =
+    unless (nat_le (whole_at (known is.Tmax i.value)) (length (elements (known is.Delta i.value)))) (no_delta i.key)
 
 -- the first key of the workload that names no resource
 abbrev pub workload_fault : Tree → Entry → Option CrossFault
-workload_fault root i = first_in (λ key. unless (is_among (keys (known is.Resources root)) key) (unknown key)) (keys (known is.Workload i.value))
+workload_fault root i = first_in (λ key. unless (is_among (keys (known is.Resources root)) key) (unknown key))
+    (keys (known is.Workload i.value))
 
 -- of one intervention
 abbrev pub intervention_fault : Tree → Entry → Option CrossFault
-intervention_fault root i = or_else (tmax_fault root i) (or_else (delta_fault i) (or_else (workload_fault root i) (risk_faults root i)))
+intervention_fault root i =
+    or_else (tmax_fault root i) (or_else (delta_fault i) (or_else (workload_fault root i) (risk_faults root i)))
 
 -- the first of an exclusion's three texts that names no intervention or no season
 abbrev pub word_fault : Tree → Entry → ℕ → Option CrossFault
@@ -94,4 +103,5 @@ exclusion_faults root = first_in (exclusion_fault root) (entries (known is.Exclu
 
 -- the first fault across the file
 abbrev pub cross_fault : Tree → Option CrossFault
-cross_fault root = or_else (list_fault root) (or_else (band_faults root) (or_else (intervention_faults root) (exclusion_faults root)))
+cross_fault root =
+    or_else (list_fault root) (or_else (band_faults root) (or_else (intervention_faults root) (exclusion_faults root)))

@@ -1,5 +1,5 @@
--- Defines what a text stands for: the instance of a text without a fault, its fault of shape, or its fault across the file.
--- A text is a JSON text nested at most 16 deep; the limits, the slack in 10^-12 and the bytes are given.
+-- Defines what a text stands for: the instance of a text without a fault, its fault of shape, or its fault across the
+-- file. A text is a JSON text nested at most 16 deep; the limits, the slack in 10^-12 and the bytes are given.
 use Rattle.std.specs.Prelude.{◌≡◌, ℕ, ℤ, List, [], Some, None}
 use Rattle.instance_model.specs.Tables.{Tables}
 use Rattle.instance_model.specs.declared.limits.Limits.{Limits}

@@ -1,4 +1,5 @@
--- Defines the fault of a file that counts, and says that a file has one answer, and that it has some: an instance, or a fault.
+-- Defines the fault of a file that counts, and says that a file has one answer, and
+-- that it has some: an instance, or a fault.
 use Rattle.std.specs.Prelude.{◌≡◌, ◌⊎◌, ℕ, ℤ, List}
 use Rattle.json_grammar.specs.Prefix.{IsSyntaxFault, IsDepthFault, IsShallow}
 use Rattle.instance_model.specs.Tables.{Tables}
@@ -14,8 +15,8 @@ pub data FileFault : Type 0 where
   shape : Fault → FileFault
   across : CrossFault → FileFault
 
--- the bytes have this fault: of the text where they are no JSON text nested at most 16 deep, else the one of the shape that
--- counts, and else the first one across the file
+-- the bytes have this fault: of the text where they are no JSON text nested at most 16 deep, else the one of the shape
+-- that counts, and else the first one across the file
 abbrev pub HasFileFault : Limits → List ℕ → FileFault → Type 0
 HasFileFault limits bytes (syntax at) = IsSyntaxFault bytes at × IsShallow bytes at
 HasFileFault limits bytes (too_deep at) = IsDepthFault bytes at
@@ -30,4 +31,5 @@ pub record HaveOneAnswer (limits : Limits) (slack : ℤ) (bytes : List ℕ) : Ty
 
 -- bytes stand for an instance, or have a fault that counts
 abbrev pub HaveSomeAnswer : Limits → ℤ → List ℕ → Type 0
-HaveSomeAnswer limits slack bytes = ((inst : Tables) × Defines limits slack bytes inst) ⊎ ((f : FileFault) × HasFileFault limits bytes f)
+HaveSomeAnswer limits slack bytes =
+    ((inst : Tables) × Defines limits slack bytes inst) ⊎ ((f : FileFault) × HasFileFault limits bytes f)

@@ -1,5 +1,7 @@
 -- Defines the tables of the instance of a file: each entry is looked up in the text by its keys.
-use Rattle.std.specs.Prelude.{◌≡◌, ℕ, zero, suc, ◌+◌, ◌-◌, ◌*◌, ℤ, pos, ◌+ℤ◌, ◌-ℤ◌, Bool, true, false, ◌&&◌, ◌||◌, ◌==◌, List, [], ◌∷◌, ◌++◌, Option, Some, None, cond, bytes_eq, map, unwrap_or, option_map, slice_index, slice_index_or, length, nat_le, nat_lt, not, take, is_some, position, sum}
+use Rattle.std.specs.Prelude.{◌≡◌, ℕ, zero, suc, ◌+◌, ◌-◌, ◌*◌, ℤ, pos, ◌+ℤ◌, ◌-ℤ◌, Bool, true, false, ◌&&◌, ◌||◌, ◌==◌}
+use Rattle.std.specs.Prelude.{List, [], ◌∷◌, ◌++◌, Option, Some, None, cond, bytes_eq, map, unwrap_or, option_map}
+use Rattle.std.specs.Prelude.{slice_index, slice_index_or, length, nat_le, nat_lt, not, take, is_some, position, sum}
 use Rattle.instance_model.specs.declared.parts.LoadCell.{LoadCell}
 use Rattle.instance_model.specs.declared.parts.Exclusion.{Exclusion}
 use Rattle.instance_model.specs.Tables.{Tables, allowed_of}
@@ -8,7 +10,8 @@ use Rattle.instance_shape.specs.declared.fault.Known.TheVariants as is
 use Rattle.instance_shape.specs.declared.spot.Spot.TheVariants as spot
 use Rattle.instance_shape.specs.declared.spot.Kind.{Kind}
 use Rattle.instance_shape.specs.declared.spot.Kind.TheVariants as kind
-use Rattle.instance_shape.specs.LookUp.{Entry, elements, entries, keys, known, whole_at, text_at, count_at, differs_at, part_at, periods, scenarios, interventions, durations, risk_list, workload}
+use Rattle.instance_shape.specs.LookUp.{Entry, elements, entries, keys, known, whole_at, text_at, count_at, differs_at}
+use Rattle.instance_shape.specs.LookUp.{part_at, periods, scenarios, interventions, durations, risk_list, workload}
 use Rattle.instance_shape.specs.Shape.{Placed, placed, kind_of}
 
 -- the lists f 0, f 1, .. one after another
@@ -83,8 +86,8 @@ abbrev pub rounded : List Placed → ℕ
 rounded [] = 0
 rounded (p ∷ ps) = cond (is_count (kind_of p.spot) && differs_at p.tree) 1 0 + rounded ps
 
--- the tables of the instance of a file: each upper limit is raised and each lower limit lowered by the slack, in 10^-12;
--- there is a load cell for each workload entry that isn't ignored, and no other
+-- the tables of the instance of a file: each upper limit is raised and each lower limit lowered by the slack, in
+-- 10^-12; there is a load cell for each workload entry that isn't ignored, and no other
 abbrev pub tables : ℤ → Tree → Tables
 tables slack root = record {
   periods = periods root;
@@ -92,8 +95,10 @@ tables slack root = record {
   quantile = part_at (known is.Quantile root);
   scenarios = scenarios root;
   resource_names = keys (known is.Resources root);
-  upper = all_below (entries (known is.Resources root)) (λ r. map (λ t. count_at t +ℤ slack) (elements (known is.Max r)));
-  lower = all_below (entries (known is.Resources root)) (λ r. map (λ t. count_at t -ℤ slack) (elements (known is.Min r)));
+  upper =
+      all_below (entries (known is.Resources root)) (λ r. map (λ t. count_at t +ℤ slack) (elements (known is.Max r)));
+  lower =
+      all_below (entries (known is.Resources root)) (λ r. map (λ t. count_at t -ℤ slack) (elements (known is.Min r)));
   season_names = keys (known is.Seasons root);
   in_season = all_below (entries (known is.Seasons root)) (λ q. lists_below (periods root) (in_season q));
   names = keys (known is.Interventions root);

@@ -1,6 +1,7 @@
 -- Defines names, period and start keys, how the required keys are written, and when two keys of an object are equal.
 -- A text is the list of its bytes in UTF-8, with the escapes resolved.
-use Rattle.std.specs.Prelude.{ℕ, ◌+◌, ◌*◌, ◌-◌, ◌&&◌, ◌||◌, ◌==◌, Bool, true, false, List, [], ◌∷◌, length, nat_le, nat_lt, not, bytes_eq, codes, cond, nat_eq}
+use Rattle.std.specs.Prelude.{ℕ, ◌+◌, ◌*◌, ◌-◌, ◌&&◌, ◌||◌, ◌==◌, Bool, true, false, List, [], ◌∷◌, length, nat_le}
+use Rattle.std.specs.Prelude.{nat_lt, not, bytes_eq, codes, cond, nat_eq}
 use Rattle.instance_shape.specs.declared.fault.Known.{Known}
 use Rattle.instance_shape.specs.declared.fault.Known.TheVariants as known
 use Rattle.instance_shape.specs.declared.spot.Kind.{Kind}

@@ -7,7 +7,8 @@ use Rattle.decimal_numbers.specs.Decimal.{numerator, denominator, signed}
 use Rattle.instance_shape.specs.LookUp.{token_at, risk_list, interventions}
 use Rattle.instance_shape.specs.FileTables.{all_below, each_run}
 
--- the token's value is z times 10^-places: 10^places times it is exactly the whole number size, and z is that with its sign
+-- the token's value is z times 10^-places: 10^places times it is exactly the
+-- whole number size, and z is that with its sign
 pub record IsMultiple (places : ℕ) (token : List ℕ) (z : ℤ) : Type 0 where
   pub parts : Parts
   pub token_parts : HasParts token parts

@@ -1,5 +1,6 @@
 -- Defines the shape of an instance: the spots at which values stand, and what has to stand at each.
-use Rattle.std.specs.Prelude.{ℕ, ◌+◌, Bool, true, false, ◌&&◌, List, [], ◌∷◌, ◌++◌, Option, Some, None, cond, nat_le, nat_lt, bytes_eq, is_some, option_map, unwrap_or}
+use Rattle.std.specs.Prelude.{ℕ, ◌+◌, Bool, true, false, ◌&&◌, List, [], ◌∷◌, ◌++◌, Option, Some, None, cond, nat_le}
+use Rattle.std.specs.Prelude.{nat_lt, bytes_eq, is_some, option_map, unwrap_or}
 use Rattle.json_grammar.specs.Tree.{Tree, tree, Node, Trees, no_trees, and_tree, Members, no_members, and_member}
 use Rattle.decimal_numbers.specs.Exact.{whole, millionths}
 use Rattle.instance_shape.specs.declared.fault.Known.{Known}
@@ -47,7 +48,8 @@ kind_of spot.Skipped = kind.Anything
 
 -- the later ones of the required keys of the root
 abbrev pub late_keys : List (Known × Spot)
-late_keys = (known.T, spot.T) ∷ (known.ScenariosNumber, spot.ScenariosNumber) ∷ (known.Quantile, spot.Quantile) ∷ (known.Alpha, spot.Alpha) ∷ []
+late_keys = (known.T, spot.T) ∷ (known.ScenariosNumber, spot.ScenariosNumber) ∷ (known.Quantile, spot.Quantile)
+    ∷ (known.Alpha, spot.Alpha) ∷ []
 
 -- the required keys of an object, and the spot of the value under each
 abbrev pub required : Spot → List (Known × Spot)

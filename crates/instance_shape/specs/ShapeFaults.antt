@@ -1,5 +1,7 @@
 -- Defines the faults of shape of a text, each with its place, and which of them counts.
-use Rattle.std.specs.Prelude.{◌≡◌, ℕ, ◌+◌, ◌-◌, ◌<◌, ◌⊎◌, Bool, true, false, ◌&&◌, ◌||◌, ◌==◌, List, [], ◌∷◌, ◌++◌, Option, Some, None, cond, nat_le, nat_lt, not, bytes_eq, is_some, is_none, option_map, unwrap_or, length, slice_get, filter, map, Contains}
+use Rattle.std.specs.Prelude.{◌≡◌, ℕ, ◌+◌, ◌-◌, ◌<◌, ◌⊎◌, Bool, true, false, ◌&&◌, ◌||◌, ◌==◌, List, [], ◌∷◌, ◌++◌}
+use Rattle.std.specs.Prelude.{Option, Some, None, cond, nat_le, nat_lt, not, bytes_eq, is_some, is_none, option_map}
+use Rattle.std.specs.Prelude.{unwrap_or, length, slice_get, filter, map, Contains}
 use Rattle.std.proofs.Common.{pred}
 use Rattle.json_grammar.specs.Tree.{Tree, tree, Node, Trees, no_trees, and_tree, Members, no_members, and_member}
 use Rattle.decimal_numbers.specs.Exact.{whole, fixed}
@@ -44,8 +46,8 @@ abbrev pub first_past : Option (ℕ × Which) → ℕ → ℕ → List Fault
 first_past None before at = []
 first_past (Some l) before at = where_so (before == l.0) at (flaw.Limit l.1)
 
--- the faults at the opening quote of a key, behind the earlier keys of its object: it equals one of them, it has to be a
--- name and isn't, it has to be a period or start and isn't, it is the first one past the limit
+-- the faults at the opening quote of a key, behind the earlier keys of its object: it equals one of them, it has to be
+-- a name and isn't, it has to be a period or start and isn't, it is the first one past the limit
 abbrev pub key_faults : Limits → Spot → List Key → ℕ → List ℕ → List Fault
 key_faults limits s earlier at key =
     where_so (is_double earlier (key_of (kind_of s) key)) at flaw.Double
@@ -102,7 +104,8 @@ value_rows limits s _ at n = []
 
 -- the faults at the first byte of a value
 abbrev pub own_faults : Limits → Spot → ℕ → Node → List Fault
-own_faults limits s at n = where_so (not (has_shape (kind_of s) n)) at flaw.Shape ++ value_rows limits s (kind_of s) at n
+own_faults limits s at n =
+    where_so (not (has_shape (kind_of s) n)) at flaw.Shape ++ value_rows limits s (kind_of s) at n
 
 -- the closing bracket of an exclusion with fewer than three elements
 abbrev pub too_few : Kind → ℕ → ℕ → List Fault
@@ -111,7 +114,8 @@ too_few _ n at = []
 
 -- the faults at the keys and at the closing bracket or brace of a value
 abbrev pub inside_faults : Limits → Spot → ℕ → Node → List Fault
-inside_faults limits s last (Node.object ms) = keys_faults limits s [] ms ++ missing (required s) (keys_of (kind_of s) ms) last
+inside_faults limits s last (Node.object ms) =
+    keys_faults limits s [] ms ++ missing (required s) (keys_of (kind_of s) ms) last
 inside_faults limits s last (Node.list ts) = too_few (kind_of s) (count_trees ts) last
 inside_faults limits s last n = []
 

@@ -26,10 +26,12 @@ pub fn defined_tables_fit()
         → IsFitting inst }
 {}
 
-/// The risk numbers of a file, as they are written, are a reading of the instance that it defines: where each of them is a
-/// whole multiple of 10^-places, for places of at least 12, these multiples are one, of which 10^(places - 12) make one count.
+/// The risk numbers of a file, as they are written, are a reading of the instance that it defines:
+/// where each of them is a whole multiple of 10^-places, for places of at least 12, these multiples are
+/// one, of which 10^(places - 12) make one count.
 pub fn own_numbers_are_a_reading()
-    ensures { (limits : Limits) (slack : ℤ) (bytes : List ℕ) (inst : Tables) (root : Tree) (places : ℕ) (numbers : List ℤ)
+    ensures { (limits : Limits) (slack : ℤ) (bytes : List ℕ) (inst : Tables) (root : Tree)
+        (places : ℕ) (numbers : List ℤ)
         → Defines limits slack bytes inst
         → IsTreeOf bytes root
         → 12 ≤ places
@@ -37,7 +39,8 @@ pub fn own_numbers_are_a_reading()
         → IsReading inst (10 ^ (places - 12)) numbers }
 {}
 
-/// There are such places and multiples for every file that defines an instance, and no other multiples for these places.
+/// There are such places and multiples for every file that defines an
+/// instance, and no other multiples for these places.
 pub fn files_have_own_numbers()
     ensures { (limits : Limits) (slack : ℤ) (bytes : List ℕ) (inst : Tables) (root : Tree)
         → Defines limits slack bytes inst

@@ -1,6 +1,7 @@
 -- What each way to read on comes to.
 use Rattle.std.specs.Prelude.{slice_get}
-use Rattle.std.proofs.Common.{◌≡◌, ℕ, ◌+◌, ◌≤◌, ◌<◌, List, [], ◌∷◌, ◌++◌, length, take, drop, get_or, Option, Some, None, Ok, refl, sym, ◌∙◌, ap, subst, length-drop, arith}
+use Rattle.std.proofs.Common.{◌≡◌, ℕ, ◌+◌, ◌≤◌, ◌<◌, List, [], ◌∷◌, ◌++◌, length, take, drop, get_or, Option, Some}
+use Rattle.std.proofs.Common.{None, Ok, refl, sym, ◌∙◌, ap, subst, length-drop, arith}
 use Rattle.std.proofs.lemmas.Option.{get_or_from_slice_get, slice_get_within}
 use Rattle.std.proofs.lemmas.List.{get_or-drop, drop-drop}
 use Rattle.json_grammar.specs.Tree.{Event}
@@ -29,33 +30,49 @@ first_of stream rest at b e f =
     let j : at + 0 ≡ at = omega arith in
     record {
       within = omega (arith, length-drop at stream);
-      byte = ap (λ z. get_or stream z 0) (sym j) ∙ sym (get_or-drop at stream 0 0) ∙ get_or_from_slice_get (drop at stream) 0 b 0 g;
+      byte = ap (λ z. get_or stream z 0) (sym j) ∙ sym (get_or-drop at stream 0 0)
+          ∙ get_or_from_slice_get (drop at stream) 0 b 0 g;
     }
 
-step_at : (stream : List ℕ) (at b : ℕ) (s : State) (o : Option (State × List Event)) → First stream at b → step at s.levels s.mode b ≡ o → step at s.levels s.mode (get_or stream at 0) ≡ o
+step_at : (stream : List ℕ) (at b : ℕ) (s : State) (o : Option (State × List Event)) → First stream at b
+    → step at s.levels s.mode b ≡ o → step at s.levels s.mode (get_or stream at 0) ≡ o
 step_at stream at b s o f e = rw f.byte e
 
-pub byte_refused : (m : Machine) (u : Unread) (b : ℕ) (stream : List ℕ) (told : List Event) → HasTold m u stream told → slice_get (unread_of u) 0 ≡ Some b → step u.at (state_of m).levels (state_of m).mode b ≡ None → HasStopped u stream told × IsSyntaxFault stream u.at × IsShallow stream u.at
+pub byte_refused : (m : Machine) (u : Unread) (b : ℕ) (stream : List ℕ) (told : List Event) → HasTold m u stream told
+    → slice_get (unread_of u) 0 ≡ Some b → step u.at (state_of m).levels (state_of m).mode b ≡ None
+    → HasStopped u stream told × IsSyntaxFault stream u.at × IsShallow stream u.at
 byte_refused m u b stream told h f e =
     let first = first_of stream (unread_of u) u.at b h.rest f in
-    let fault = read_refused stream u.at (state_of m) told h.read first.within (step_at stream u.at b (state_of m) None first e) in
+    let fault = read_refused stream u.at (state_of m) told h.read first.within
+    (step_at stream u.at b (state_of m) None first e) in
     (record { state = state_of m; read = h.read; within = first.within }, fault.0, fault.1)
 
-pub byte_deep : (m : Machine) (t : State) (u : Unread) (b : ℕ) (stream : List ℕ) (told more : List Event) → HasTold m u stream told → slice_get (unread_of u) 0 ≡ Some b → step u.at (state_of m).levels (state_of m).mode b ≡ Some (t, more) → 16 < length t.levels → HasStopped u stream told × IsDepthFault stream u.at
+pub byte_deep : (m : Machine) (t : State) (u : Unread) (b : ℕ) (stream : List ℕ) (told more : List Event)
+    → HasTold m u stream told → slice_get (unread_of u) 0 ≡ Some b → step u.at (state_of m).levels (state_of m).mode b
+    ≡ Some (t, more) → 16 < length t.levels → HasStopped u stream told × IsDepthFault stream u.at
 byte_deep m t u b stream told more h f e l =
-    let first = first_of stream (unread_of u) u.at b h.rest f in
-    (record { state = state_of m; read = h.read; within = first.within }, read_deep stream u.at (state_of m) t told more h.read first.within (step_at stream u.at b (state_of m) (Some (t, more)) first e) l)
+    let first = first_of stream (unread_of u) u.at b h.rest f in (
+      record { state = state_of m; read = h.read; within = first.within },
+      read_deep stream u.at (state_of m) t told more
+          h.read first.within (step_at stream u.at b (state_of m) (Some (t, more)) first e) l,
+    )
 
-byte_told : (m n : Machine) (u v : Unread) (b : ℕ) (stream : List ℕ) (told more : List Event) → HasTold m u stream told → slice_get (unread_of u) 0 ≡ Some b → step u.at (state_of m).levels (state_of m).mode b ≡ Some (state_of n, more) → length (state_of n).levels ≤ 16 → IsSound (u.at + 1) n → v.at ≡ u.at + 1 → unread_of v ≡ drop 1 (unread_of u) → HasTold n v stream (told ++ more)
+byte_told : (m n : Machine) (u v : Unread) (b : ℕ) (stream : List ℕ) (told more : List Event) → HasTold m u stream told
+    → slice_get (unread_of u) 0 ≡ Some b → step u.at (state_of m).levels (state_of m).mode b ≡ Some (state_of n, more)
+    → length (state_of n).levels ≤ 16 → IsSound (u.at + 1) n → v.at ≡ u.at + 1 → unread_of v ≡ drop 1 (unread_of u)
+    → HasTold n v stream (told ++ more)
 byte_told m n u v b stream told more h f e l s a r =
     let first = first_of stream (unread_of u) u.at b h.rest f in
     record {
-      read = subst (λ z. HasRead stream z (state_of n) (told ++ more)) (sym a) (read_next stream u.at (state_of m) (state_of n) told more h.read first.within (step_at stream u.at b (state_of m) (Some (state_of n, more)) first e) l);
+      read = subst (λ z. HasRead stream z (state_of n) (told ++ more)) (sym a)
+          (read_next stream u.at (state_of m) (state_of n) told more h.read first.within
+          (step_at stream u.at b (state_of m) (Some (state_of n, more)) first e) l);
       rest = r ∙ ap (drop 1) h.rest ∙ drop-drop 1 u.at stream ∙ ap (λ z. drop z stream) (sym a);
       sound = subst (λ z. IsSound z n) (sym a) s;
     }
 
-reads_told : (r : Reading) (m : Machine) (u : Unread) (stream : List ℕ) (told : List Event) → IsTelling r → HasTold m u stream (told ++ told_events r) → ReadsOn (Ok r) m u stream told
+reads_told : (r : Reading) (m : Machine) (u : Unread) (stream : List ℕ) (told : List Event) → IsTelling r
+    → HasTold m u stream (told ++ told_events r) → ReadsOn (Ok r) m u stream told
 reads_told Quiet m u stream told t h = h
 reads_told Used m u stream told t h = absurd t
 reads_told (One e) m u stream told t h = h
@@ -63,44 +80,67 @@ reads_told (Two e f) m u stream told t h = h
 reads_told Refused m u stream told t h = absurd t
 reads_told TooDeep m u stream told t h = absurd t
 
-pub byte_read : (m n : Machine) (u v : Unread) (b : ℕ) (r : Reading) (stream : List ℕ) (told : List Event) → HasTold m u stream told → slice_get (unread_of u) 0 ≡ Some b → step u.at (state_of m).levels (state_of m).mode b ≡ Some (state_of n, told_events r) → length (state_of n).levels ≤ 16 → IsSound (u.at + 1) n → v.at ≡ u.at + 1 → unread_of v ≡ drop 1 (unread_of u) → IsTelling r → ReadsOn (Ok r) n v stream told
-byte_read m n u v b r stream told h f e l s a d t = reads_told r n v stream told t (byte_told m n u v b stream told (told_events r) h f e l s a d)
+pub byte_read : (m n : Machine) (u v : Unread) (b : ℕ) (r : Reading) (stream : List ℕ) (told : List Event)
+    → HasTold m u stream told → slice_get (unread_of u) 0 ≡ Some b → step u.at (state_of m).levels (state_of m).mode b
+    ≡ Some (state_of n, told_events r) → length (state_of n).levels ≤ 16 → IsSound (u.at + 1) n → v.at ≡ u.at + 1
+    → unread_of v ≡ drop 1 (unread_of u) → IsTelling r → ReadsOn (Ok r) n v stream told
+byte_read m n u v b r stream told h f e l s a d t =
+    reads_told r n v stream told t (byte_told m n u v b stream told (told_events r) h f e l s a d)
 
 -- behind a run of quiet bytes
-pub after_run : (m n : Machine) (u v : Unread) (count : ℕ) (stream : List ℕ) (told : List Event) → HasTold m u stream told → count ≤ length (unread_of u) → ((k : ℕ) → run k (state_of m) (take count (unread_of u)) ≡ Some (state_of n, [])) → ((k : ℕ) → IsSound k m → IsSound (k + count) n) → v.at ≡ u.at + count → unread_of v ≡ drop count (unread_of u) → HasTold n v stream told
+pub after_run : (m n : Machine) (u v : Unread) (count : ℕ) (stream : List ℕ) (told : List Event)
+    → HasTold m u stream told → count ≤ length (unread_of u)
+    → ((k : ℕ) → run k (state_of m) (take count (unread_of u)) ≡ Some (state_of n, []))
+    → ((k : ℕ) → IsSound k m → IsSound (k + count) n) → v.at ≡ u.at + count → unread_of v ≡ drop count (unread_of u)
+    → HasTold n v stream told
 after_run m n u v count stream told h i r s a d =
-    let quiet : run u.at (state_of m) (take count (drop u.at stream)) ≡ Some (state_of n, []) = ap (λ z. run u.at (state_of m) (take count z)) (sym h.rest) ∙ r u.at in
+    let quiet : run u.at (state_of m) (take count (drop u.at stream)) ≡ Some (state_of n, []) =
+    ap (λ z. run u.at (state_of m) (take count z)) (sym h.rest) ∙ r u.at in
     let fits : count ≤ length (drop u.at stream) = omega (arith, ap length h.rest) in
     record {
-      read = subst (λ z. HasRead stream z (state_of n) told) (sym a) (read_run stream u.at count (state_of m) (state_of n) told h.read fits quiet);
+      read = subst (λ z. HasRead stream z (state_of n) told) (sym a)
+          (read_run stream u.at count (state_of m) (state_of n) told h.read fits quiet);
       rest = d ∙ ap (drop count) h.rest ∙ drop-drop count u.at stream ∙ ap (λ z. drop z stream) (sym a);
       sound = subst (λ z. IsSound z n) (sym a) (s u.at h.sound);
     }
 
 -- behind a number and its comma
-pub number_told : (m n : Machine) (u v : Unread) (count : ℕ) (event : Event) (stream : List ℕ) (told : List Event) → HasTold m u stream told → TakesNumber u.at (state_of m) (unread_of u) count event (state_of n) → IsSound v.at n → v.at ≡ u.at + (count + 1) → unread_of v ≡ drop (count + 1) (unread_of u) → HasTold n v stream (told ++ event ∷ [])
+pub number_told : (m n : Machine) (u v : Unread) (count : ℕ) (event : Event) (stream : List ℕ) (told : List Event)
+    → HasTold m u stream told → TakesNumber u.at (state_of m) (unread_of u) count event (state_of n) → IsSound v.at n
+    → v.at ≡ u.at + (count + 1) → unread_of v ≡ drop (count + 1) (unread_of u) → HasTold n v stream (told ++ event ∷ [])
 number_told m n u v count event stream told h t s a d =
     let place = u.at + count in
     let behind : count < length (drop u.at stream) = let w = t.within in omega (arith, ap length h.rest) in
-    let quiet : run u.at (state_of m) (take count (drop u.at stream)) ≡ Some (t.inside, []) = ap (λ z. run u.at (state_of m) (take count z)) (sym h.rest) ∙ t.runs in
-    let inside : HasRead stream place t.inside told = read_run stream u.at count (state_of m) t.inside told h.read (omega arith) quiet in
-    let byte : get_or (unread_of u) count 0 ≡ get_or stream place 0 = ap (λ z. get_or z count 0) h.rest ∙ get_or-drop u.at stream count 0 in
-    let levels : length (state_of n).levels ≤ 16 = let l = (read_levels stream u.at (state_of m) told h.read).open_levels in omega (arith, ap length t.same_levels) in
+    let quiet : run u.at (state_of m) (take count (drop u.at stream)) ≡ Some (t.inside, []) =
+    ap (λ z. run u.at (state_of m) (take count z)) (sym h.rest) ∙ t.runs in
+    let inside : HasRead stream place t.inside told =
+    read_run stream u.at count (state_of m) t.inside told h.read (omega arith) quiet in
+    let byte : get_or (unread_of u) count 0 ≡ get_or stream place 0 =
+    ap (λ z. get_or z count 0) h.rest ∙ get_or-drop u.at stream count 0 in
+    let levels : length (state_of n).levels ≤ 16 = let l =
+    (read_levels stream u.at (state_of m) told h.read).open_levels in omega (arith, ap length t.same_levels) in
     let next : v.at ≡ place + 1 = omega arith in
     record {
-      read = subst (λ z. HasRead stream z (state_of n) (told ++ event ∷ [])) (sym next) (read_next stream place t.inside (state_of n) told (event ∷ []) inside (omega (arith, length-drop u.at stream)) (ap (step place t.inside.levels t.inside.mode) (sym byte) ∙ t.tells) levels);
+      read = subst (λ z. HasRead stream z (state_of n) (told ++ event ∷ [])) (sym next)
+          (read_next stream place t.inside (state_of n) told (event ∷ []) inside
+          (omega (arith, length-drop u.at stream))
+          (ap (step place t.inside.levels t.inside.mode) (sym byte) ∙ t.tells) levels);
       rest = d ∙ ap (drop (count + 1)) h.rest ∙ drop-drop (count + 1) u.at stream ∙ ap (λ z. drop z stream) (sym a);
       sound = s;
     }
 
 -- nothing is left
-pub used_up : (m : Machine) (u : Unread) (stream : List ℕ) (told : List Event) → HasTold m u stream told → slice_get (unread_of u) 0 ≡ None → HasTold m u stream told × (u.at ≡ length stream)
-used_up m u stream told h e = (h, omega (arith, nothing (unread_of u) e, ap length h.rest, length-drop u.at stream, h.read.within))
+pub used_up : (m : Machine) (u : Unread) (stream : List ℕ) (told : List Event) → HasTold m u stream told
+    → slice_get (unread_of u) 0 ≡ None → HasTold m u stream told × (u.at ≡ length stream)
+used_up m u stream told h e =
+    (h, omega (arith, nothing (unread_of u) e, ap length h.rest, length-drop u.at stream, h.read.within))
   where
     nothing : (xs : List ℕ) → slice_get xs 0 ≡ None → length xs ≡ 0
     nothing [] f = refl
     nothing (x ∷ xs) f = absurd cc
 
 -- the same where it is known what was read
-pub reads_as : (r s : Reading) (m n : Machine) (u v : Unread) → r ≡ s → ((stream : List ℕ) (told : List Event) → HasTold m u stream told → ReadsOn (Ok r) n v stream told) → (stream : List ℕ) (told : List Event) → HasTold m u stream told → ReadsOn (Ok s) n v stream told
+pub reads_as : (r s : Reading) (m n : Machine) (u v : Unread) → r ≡ s
+    → ((stream : List ℕ) (told : List Event) → HasTold m u stream told → ReadsOn (Ok r) n v stream told)
+    → (stream : List ℕ) (told : List Event) → HasTold m u stream told → ReadsOn (Ok s) n v stream told
 reads_as r s m n u v e f stream told h = subst (λ (z : Reading). ReadsOn (Ok z) n v stream told) e (f stream told h)

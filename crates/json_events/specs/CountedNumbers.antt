@@ -33,8 +33,11 @@ pub record IsCountedRun (bytes : List ℕ) (size : ℕ) (count : ℤ) : Type 0 w
   pub comma : get_or bytes size 0 ≡ 44
   pub exact : fixed (take size bytes) ≡ Some (count, false)
 
--- a number at the place, whose value is exactly the count, was told, from one state of the machine and the buffer to another
-pub record TellsCount (at : ℕ) (count : ℤ) (old : Machine) (before : Unread) (new : Machine) (behind : Unread) : Type 0 where
+-- a number at the place, whose value is exactly the count, was told, from one
+-- state of the machine and the buffer to another
+pub record TellsCount (at : ℕ) (count : ℤ) (old : Machine) (before : Unread) (new : Machine)
+    (behind : Unread) : Type 0 where
   pub token : List ℕ
   pub exact : fixed token ≡ Some (count, false)
-  pub tells : (stream : List ℕ) (told : List json.Event) → HasTold old before stream told → HasTold new behind stream (told ++ json.Event.number at token ∷ [])
+  pub tells : (stream : List ℕ) (told : List json.Event) → HasTold old before stream told
+      → HasTold new behind stream (told ++ json.Event.number at token ∷ [])

@@ -4,7 +4,8 @@ use Rattle.json_grammar.specs.Tree.{Event}
 use Rattle.decimal_numbers.specs.Exact.{fixed}
 use Rattle.json_grammar.specs.Stream.{IsNextDue, IsNextOfEach}
 
--- the due event behind `given` others is a number at the place, whatever is pushed later, and its value is exactly the count of 10^-12
+-- the due event behind `given` others is a number at the place, whatever is pushed later,
+-- and its value is exactly the count of 10^-12
 pub record IsNextCount (stream : List ℕ) (given at : ℕ) (count : ℤ) : Type 0 where
   pub token : List ℕ
   pub due : IsNextDue stream false given (Event.number at token)

@@ -4,7 +4,8 @@ use Rattle.json_grammar.specs.Tree as json
 use Rattle.json_laws.specs.Machine.{State}
 use Rattle.json_events.specs.declared.pull.Stage.{Stage}
 
--- the state of its machine, the offset of the first byte that it has not read, the bytes from there on that have come, an event that is told and not given, its stage, and whether `finish` was called
+-- the state of its machine, the offset of the first byte that it has not read, the bytes from there on that have come,
+-- an event that is told and not given, its stage, and whether `finish` was called
 pub record PullView : Type 0 where
   pub state : State
   pub at : ℕ

@@ -1,4 +1,5 @@
--- What a `Pull` keeps of its stream. Contracts say `Stands` of a pull; how it is defined, over the machine, is no part of any promise.
+-- What a `Pull` keeps of its stream. Contracts say `Stands` of a pull; how it is defined,
+-- over the machine, is no part of any promise.
 use Rattle.std.specs.Prelude.{◌≡◌, ℕ, ◌+◌, ◌≤◌, ◌<◌, ◌⊎◌, List, length, drop, Bool, true, false, None, Result, Ok, Err}
 use Rattle.std.specs.Option.{option_map, option_to_list}
 use Rattle.json_grammar.specs.Tree as json
@@ -25,7 +26,8 @@ HasFault stream at (Syntax place) = (place ≡ at) × IsSyntaxFault stream at ×
 HasFault stream at (TooDeep place) = (place ≡ at) × IsDepthFault stream at
 HasFault stream at Memory = ⊥
 
--- reading, it has read to the offset, holds the events that were told and not given, and keeps what follows of the stream
+-- reading, it has read to the offset, holds the events that were told and not
+-- given, and keeps what follows of the stream
 pub record IsReading (pull : PullView) (stream : List ℕ) (given : ℕ) : Type 0 where
   pub told : List json.Event
   pub read : HasRead stream pull.at pull.state told
@@ -33,7 +35,8 @@ pub record IsReading (pull : PullView) (stream : List ℕ) (given : ℕ) : Type 
   pub enough : given ≤ length told
   pub held : drop given told ≡ option_to_list pull.held
 
--- at a fault, which lies before the stream's end, or there if the stream is finished, it has given all that was told before the fault
+-- at a fault, which lies before the stream's end, or there if the stream is finished, it
+-- has given all that was told before the fault
 pub record IsFaulty (pull : PullView) (fault : TextFault) (stream : List ℕ) (given : ℕ) (finished : Bool) : Type 0 where
   pub state : State
   pub told : List json.Event
@@ -80,7 +83,14 @@ abbrev pub IsUnfinished : PullView → Type 0
 IsUnfinished pull = pull.finished ≡ false
 
 abbrev pub view_of : Inside → PullView
-view_of p = record { state = state_of p.machine; at = p.unread.at; unread = unread_of p.unread; held = option_map event_view p.held; stage = p.stage; finished = p.finished }
+view_of p = record {
+  state = state_of p.machine;
+  at = p.unread.at;
+  unread = unread_of p.unread;
+  held = option_map event_view p.held;
+  stage = p.stage;
+  finished = p.finished;
+}
 
 -- the machine is sound as long as it reads
 abbrev pub MachineHolds : Stage → ℕ → Machine → Type 0

@@ -48,7 +48,8 @@ ReadsOn (Ok Quiet) machine unread stream told = HasTold machine unread stream (t
 ReadsOn (Ok Used) machine unread stream told = HasTold machine unread stream told × (unread.at ≡ length stream)
 ReadsOn (Ok (One e)) machine unread stream told = HasTold machine unread stream (told ++ event_of e ∷ [])
 ReadsOn (Ok (Two e f)) machine unread stream told = HasTold machine unread stream (told ++ event_of e ∷ event_of f ∷ [])
-ReadsOn (Ok Refused) machine unread stream told = HasStopped unread stream told × IsSyntaxFault stream unread.at × IsShallow stream unread.at
+ReadsOn (Ok Refused) machine unread stream told =
+    HasStopped unread stream told × IsSyntaxFault stream unread.at × IsShallow stream unread.at
 ReadsOn (Ok TooDeep) machine unread stream told = HasStopped unread stream told × IsDepthFault stream unread.at
 ReadsOn (Err e) machine unread stream told = HasTold machine unread stream told
 

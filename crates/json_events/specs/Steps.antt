@@ -45,8 +45,10 @@ pub record IsUsedUp (pull : PullView) (stream : List ℕ) (given : ℕ) : Type 0
   pub none_held : pull.held ≡ None
 
 abbrev pub Steps : Result Step AllocError → PullView → List ℕ → ℕ → Bool → Type 0
-Steps (Ok (Event e)) pull stream given finished = IsNext stream given (event_view e) × Stands pull stream (given + 1) finished
-Steps (Ok (Fault fault)) pull stream given finished = IsFault stream given finished fault × Stands pull stream given finished
+Steps (Ok (Event e)) pull stream given finished =
+    IsNext stream given (event_view e) × Stands pull stream (given + 1) finished
+Steps (Ok (Fault fault)) pull stream given finished =
+    IsFault stream given finished fault × Stands pull stream given finished
 Steps (Ok Used) pull stream given finished = IsUsedUp pull stream given × Stands pull stream given finished
 Steps (Ok Over) pull stream given finished = IsGivenText stream given × Stands pull stream given finished
 Steps (Err e) pull stream given finished = Stands pull stream given finished
@@ -57,9 +59,11 @@ pub record IsLast (stream : List ℕ) (given : ℕ) (e : json.Event) : Type 0 wh
   pub of_text : (tree : json.Tree) → IsText stream tree → slice_get (json.events_of tree) given ≡ Some e
 
 abbrev pub Concludes : Result Pulled TextFault → PullView → List ℕ → ℕ → Type 0
-Concludes (Ok (pulled.Event e)) pull stream given = IsLast stream given (event_view e) × Stands pull stream (given + 1) true
+Concludes (Ok (pulled.Event e)) pull stream given =
+    IsLast stream given (event_view e) × Stands pull stream (given + 1) true
 Concludes (Ok More) pull stream given = ⊥
 Concludes (Ok Done) pull stream given = IsGivenText stream given × Stands pull stream given true
-Concludes (Err (Syntax at)) pull stream given = IsSyntaxFault stream at × IsShallow stream at × IsDueCount stream true given × Stands pull stream given true
+Concludes (Err (Syntax at)) pull stream given =
+    IsSyntaxFault stream at × IsShallow stream at × IsDueCount stream true given × Stands pull stream given true
 Concludes (Err (TooDeep at)) pull stream given = ⊥
 Concludes (Err Memory) pull stream given = Unit {0}

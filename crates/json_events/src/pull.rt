@@ -1,6 +1,7 @@
 //! A reader that is handed a text in pieces, and tells its events.
 
-ghost use Rattle.std.specs.Prelude.{◌≡◌, ◌≢◌, ℕ, ◌+◌, ◌<◌, List, [], ◌++◌, length, slice_get, Bool, true, false, Some, Ok, Err, IfOk, OnOk, OnErr, IfSome, IsSome, None, IsTrue};
+ghost use Rattle.std.specs.Prelude.{◌≡◌, ◌≢◌, ℕ, ◌+◌, ◌<◌, List, [], ◌++◌, length, slice_get, Bool, true, false, Some};
+ghost use Rattle.std.specs.Prelude.{Ok, Err, IfOk, OnOk, OnErr, IfSome, IsSome, None, IsTrue};
 ghost use Rattle.json_grammar.specs.Tree as json;
 ghost use Rattle.json_grammar.specs.Grammar.{IsText};
 ghost use Rattle.json_grammar.specs.Events.{event_view};
@@ -150,9 +151,9 @@ impl Pull {
     }
 
     /// The next event, where it is a number without a sign and an exponent, of at most 7 digits before the point and 12
-    /// behind it, in a list or an object, and the comma behind it was pushed: its place and its exact value. `None` says
-    /// nothing of the events that are due. It takes no memory, and is a shorter way to most numbers than
-    /// `next_event`.
+    /// behind it, in a list or an object, and the comma behind it was pushed: its place and its
+    /// exact value. `None` says nothing of the events that are due. It takes no memory, and is a
+    /// shorter way to most numbers than `next_event`.
     #[inline]
     pub fn next_counted(&mut self) -> Option<CountedNumber>
         requires { IsUnfinished self.old }
@@ -189,7 +190,8 @@ impl Pull {
         ensures stands { (stream : List ℕ) (given : ℕ) (finished : Bool) → Stands self.old stream given finished →
             Stands self.new stream (given_after result given) (finished_after result finished) }
         ensures due { (stream : List ℕ) (given : ℕ) (finished : Bool) (e : Event) →
-            Stands self.old stream given finished → result ≡ Ok (Pulled.Event e) → IsNextDue stream true given (event_view e) }
+            Stands self.old stream given finished → result ≡ Ok (Pulled.Event e)
+            → IsNextDue stream true given (event_view e) }
         ensures next { (stream : List ℕ) (given : ℕ) (finished : Bool) (e : Event) (tree : json.Tree) →
             Stands self.old stream given finished → result ≡ Ok (Pulled.Event e) →
             IsText stream tree → slice_get (json.events_of tree) given ≡ Some (event_view e) }

@@ -1,6 +1,7 @@
 //! The bytes of a stream that have come and are not used yet.
 
-ghost use Rattle.std.specs.Prelude.{◌≡◌, ℕ, ◌+◌, ◌<◌, ◌≤◌, ◌^◌, [], ◌++◌, length, drop, vec_len, OnOk, OnErr, slice_get};
+ghost use Rattle.std.specs.Prelude.{◌≡◌, ℕ, ◌+◌, ◌<◌, ◌≤◌, ◌^◌, [], ◌++◌, length, drop, vec_len, OnOk, OnErr};
+ghost use Rattle.std.specs.Prelude.{slice_get};
 
 use std::alloc::{AllocError, Global};
 

@@ -1,6 +1,7 @@
 //! Reading a stream up to the next byte that tells something.
 
-ghost use Rattle.std.specs.Prelude.{◌≡◌, ℕ, ◌+◌, ◌<◌, ◌^◌, ◌≢◌, ◌⊎◌, List, slice_get, Some, IfSome, IsSome, Ok, None, false, length, take, option_map};
+ghost use Rattle.std.specs.Prelude.{◌≡◌, ℕ, ◌+◌, ◌<◌, ◌^◌, ◌≢◌, ◌⊎◌, List, slice_get, Some, IfSome, IsSome, Ok, None};
+ghost use Rattle.std.specs.Prelude.{false, length, take, option_map};
 ghost use Rattle.json_grammar.specs.Tree as json;
 ghost use Rattle.json_laws.specs.Machine.{State};
 ghost use Rattle.json_machine.specs.Machines.{IsSound, state_of, answer_of};

@@ -48,7 +48,8 @@ pub data IsSign : ℕ → Bool → Type 0 where
 pub data IsExp : List ℕ → Bool → List ℕ → Type 0 where
   none : IsExp [] false []
   plain : {e d : ℕ} {ds : List ℕ} → IsExponentMark e → IsDigit d → AreDigits ds → IsExp (e ∷ d ∷ ds) false (d ∷ ds)
-  signed : {e s d : ℕ} {ds : List ℕ} {below : Bool} → IsExponentMark e → IsSign s below → IsDigit d → AreDigits ds → IsExp (e ∷ s ∷ d ∷ ds) below (d ∷ ds)
+  signed : {e s d : ℕ} {ds : List ℕ} {below : Bool} → IsExponentMark e → IsSign s below → IsDigit d → AreDigits ds
+      → IsExp (e ∷ s ∷ d ∷ ds) below (d ∷ ds)
 
 -- what a number token consists of: its sign, the digits before and behind its point, and its exponent's sign and digits
 pub record Parts : Type 0 where
@@ -59,12 +60,15 @@ pub record Parts : Type 0 where
   pub exponent : List ℕ
 
 abbrev pub parts : Bool → List ℕ → List ℕ → Bool → List ℕ → Parts
-parts negative whole fraction shrinks exponent = record { negative = negative; whole = whole; fraction = fraction; shrinks = shrinks; exponent = exponent }
+parts negative whole fraction shrinks exponent =
+    record { negative = negative; whole = whole; fraction = fraction; shrinks = shrinks; exponent = exponent }
 
 -- number = [ minus ] int [ frac ] [ exp ]
 pub data HasParts : List ℕ → Parts → Type 0 where
-  positive : {w f e ds xs : List ℕ} {below : Bool} → IsInt w → IsFrac f ds → IsExp e below xs → HasParts (w ++ (f ++ e)) (parts false w ds below xs)
-  negative : {w f e ds xs : List ℕ} {below : Bool} → IsInt w → IsFrac f ds → IsExp e below xs → HasParts (45 ∷ (w ++ (f ++ e))) (parts true w ds below xs)
+  positive : {w f e ds xs : List ℕ} {below : Bool} → IsInt w → IsFrac f ds → IsExp e below xs
+      → HasParts (w ++ (f ++ e)) (parts false w ds below xs)
+  negative : {w f e ds xs : List ℕ} {below : Bool} → IsInt w → IsFrac f ds → IsExp e below xs
+      → HasParts (45 ∷ (w ++ (f ++ e))) (parts true w ds below xs)
 
 -- the bytes are a number token
 abbrev pub IsNumber : List ℕ → Type 0
@@ -105,21 +109,31 @@ pub record IsHex (b : ℕ) : Type 0 where
 
 -- 4HEXDIG, and their number
 pub data AreFourHexDigits : List ℕ → ℕ → Type 0 where
-  unit : {a b c d : ℕ} → IsHex a → IsHex b → IsHex c → IsHex d → AreFourHexDigits (a ∷ b ∷ c ∷ d ∷ []) (((digit_value a * 16 + digit_value b) * 16 + digit_value c) * 16 + digit_value d)
+  unit : {a b c d : ℕ} → IsHex a → IsHex b → IsHex c → IsHex d
+      → AreFourHexDigits (a ∷ b ∷ c ∷ d ∷ [])
+      (((digit_value a * 16 + digit_value b) * 16 + digit_value c) * 16 + digit_value d)
 
 -- the bytes of one character in a string, and its UTF-8
 pub data IsCharacter : List ℕ → List ℕ → Type 0 where
   plain : {b : ℕ} → IsPlain b → IsCharacter (b ∷ []) (b ∷ [])
   two : {a b : ℕ} → Between 0xc2 0xdf a → IsUtf8Tail b → IsCharacter (a ∷ b ∷ []) (a ∷ b ∷ [])
   three_e0 : {b c : ℕ} → Between 0xa0 0xbf b → IsUtf8Tail c → IsCharacter (0xe0 ∷ b ∷ c ∷ []) (0xe0 ∷ b ∷ c ∷ [])
-  three : {a b c : ℕ} → Between 0xe1 0xef a → a ≢ 0xed → IsUtf8Tail b → IsUtf8Tail c → IsCharacter (a ∷ b ∷ c ∷ []) (a ∷ b ∷ c ∷ [])
+  three : {a b c : ℕ} → Between 0xe1 0xef a → a ≢ 0xed → IsUtf8Tail b → IsUtf8Tail c
+      → IsCharacter (a ∷ b ∷ c ∷ []) (a ∷ b ∷ c ∷ [])
   three_ed : {b c : ℕ} → Between 0x80 0x9f b → IsUtf8Tail c → IsCharacter (0xed ∷ b ∷ c ∷ []) (0xed ∷ b ∷ c ∷ [])
-  four_f0 : {b c d : ℕ} → Between 0x90 0xbf b → IsUtf8Tail c → IsUtf8Tail d → IsCharacter (0xf0 ∷ b ∷ c ∷ d ∷ []) (0xf0 ∷ b ∷ c ∷ d ∷ [])
-  four : {a b c d : ℕ} → Between 0xf1 0xf3 a → IsUtf8Tail b → IsUtf8Tail c → IsUtf8Tail d → IsCharacter (a ∷ b ∷ c ∷ d ∷ []) (a ∷ b ∷ c ∷ d ∷ [])
-  four_f4 : {b c d : ℕ} → Between 0x80 0x8f b → IsUtf8Tail c → IsUtf8Tail d → IsCharacter (0xf4 ∷ b ∷ c ∷ d ∷ []) (0xf4 ∷ b ∷ c ∷ d ∷ [])
+  four_f0 : {b c d : ℕ} → Between 0x90 0xbf b → IsUtf8Tail c → IsUtf8Tail d
+      → IsCharacter (0xf0 ∷ b ∷ c ∷ d ∷ []) (0xf0 ∷ b ∷ c ∷ d ∷ [])
+  four : {a b c d : ℕ} → Between 0xf1 0xf3 a → IsUtf8Tail b → IsUtf8Tail c → IsUtf8Tail d
+      → IsCharacter (a ∷ b ∷ c ∷ d ∷ []) (a ∷ b ∷ c ∷ d ∷ [])
+  four_f4 : {b c d : ℕ} → Between 0x80 0x8f b → IsUtf8Tail c → IsUtf8Tail d
+      → IsCharacter (0xf4 ∷ b ∷ c ∷ d ∷ []) (0xf4 ∷ b ∷ c ∷ d ∷ [])
   escape : {b c : ℕ} → IsShortEscape b c → IsCharacter (92 ∷ b ∷ []) (c ∷ [])
-  unit : {digits : List ℕ} {u : ℕ} → AreFourHexDigits digits u → (u < 0xd800) ⊎ (0xe000 ≤ u) → IsCharacter (92 ∷ 117 ∷ digits) (encode_utf8 u)
-  pair : {digits more : List ℕ} {high low : ℕ} → AreFourHexDigits digits high → Between 0xd800 0xdbff high → AreFourHexDigits more low → Between 0xdc00 0xdfff low → IsCharacter (92 ∷ 117 ∷ (digits ++ (92 ∷ 117 ∷ more))) (encode_utf8 (0x10000 + (high - 0xd800) * 0x400 + (low - 0xdc00)))
+  unit : {digits : List ℕ} {u : ℕ} → AreFourHexDigits digits u → (u < 0xd800) ⊎ (0xe000 ≤ u)
+      → IsCharacter (92 ∷ 117 ∷ digits) (encode_utf8 u)
+  pair : {digits more : List ℕ} {high low : ℕ} → AreFourHexDigits digits high → Between 0xd800 0xdbff high
+      → AreFourHexDigits more low → Between 0xdc00 0xdfff low
+      → IsCharacter (92 ∷ 117 ∷ (digits ++ (92 ∷ 117 ∷ more)))
+      (encode_utf8 (0x10000 + (high - 0xd800) * 0x400 + (low - 0xdc00)))
 
 -- the bytes between the quotes, and the text
 pub data AreCharacters : List ℕ → List ℕ → Type 0 where
@@ -143,27 +157,35 @@ mutual
     number : {k : ℕ} {s : List ℕ} → IsNumber s → IsNode k s (Node.number s)
     text : {k : ℕ} {s t : List ℕ} → IsString s t → IsNode k s (Node.text t)
     empty_list : {k : ℕ} {ws : List ℕ} → AreBlanks ws → IsNode k (91 ∷ (ws ++ 93 ∷ [])) (Node.list no_trees)
-    list : {k : ℕ} {e m : List ℕ} {t : Tree} {ts : Trees} → IsElement (suc k) e t → IsMoreTrees (suc k + length e) m ts → IsNode k (91 ∷ (e ++ (m ++ 93 ∷ []))) (Node.list (and_tree t ts))
+    list : {k : ℕ} {e m : List ℕ} {t : Tree} {ts : Trees} → IsElement (suc k) e t → IsMoreTrees (suc k + length e) m ts
+        → IsNode k (91 ∷ (e ++ (m ++ 93 ∷ []))) (Node.list (and_tree t ts))
     empty_object : {k : ℕ} {ws : List ℕ} → AreBlanks ws → IsNode k (123 ∷ (ws ++ 125 ∷ [])) (Node.object no_members)
-    object : {k at end : ℕ} {e m key : List ℕ} {t : Tree} {ms : Members} → IsMember (suc k) e at end key t → IsMoreMembers (suc k + length e) m ms → IsNode k (123 ∷ (e ++ (m ++ 125 ∷ []))) (Node.object (and_member at end key t ms))
+    object : {k at end : ℕ} {e m key : List ℕ} {t : Tree} {ms : Members} → IsMember (suc k) e at end key t
+        → IsMoreMembers (suc k + length e) m ms
+        → IsNode k (123 ∷ (e ++ (m ++ 125 ∷ []))) (Node.object (and_member at end key t ms))
 
   -- a value with blanks round it
   pub data IsElement : ℕ → List ℕ → Tree → Type 0 where
-    element : {k : ℕ} {before v after : List ℕ} {t : Tree} → AreBlanks before → IsValue (k + length before) v t → AreBlanks after → IsElement k (before ++ (v ++ after)) t
+    element : {k : ℕ} {before v after : List ℕ} {t : Tree} → AreBlanks before → IsValue (k + length before) v t
+        → AreBlanks after → IsElement k (before ++ (v ++ after)) t
 
   -- the elements from the second on, each with its comma
   pub data IsMoreTrees : ℕ → List ℕ → Trees → Type 0 where
     no_more : {k : ℕ} → IsMoreTrees k [] no_trees
-    more : {k : ℕ} {e m : List ℕ} {t : Tree} {ts : Trees} → IsElement (suc k) e t → IsMoreTrees (suc k + length e) m ts → IsMoreTrees k (44 ∷ (e ++ m)) (and_tree t ts)
+    more : {k : ℕ} {e m : List ℕ} {t : Tree} {ts : Trees} → IsElement (suc k) e t → IsMoreTrees (suc k + length e) m ts
+        → IsMoreTrees k (44 ∷ (e ++ m)) (and_tree t ts)
 
   -- member: string name-separator value, with the offsets of its opening quote and after its closing one
   pub data IsMember : ℕ → List ℕ → ℕ → ℕ → List ℕ → Tree → Type 0 where
-    member : {k : ℕ} {before s between e text : List ℕ} {t : Tree} → AreBlanks before → IsString s text → AreBlanks between → IsElement (suc (k + length before + length s + length between)) e t → IsMember k (before ++ (s ++ (between ++ 58 ∷ e))) (k + length before) (k + length before + length s) text t
+    member : {k : ℕ} {before s between e text : List ℕ} {t : Tree} → AreBlanks before → IsString s text
+        → AreBlanks between → IsElement (suc (k + length before + length s + length between)) e t
+        → IsMember k (before ++ (s ++ (between ++ 58 ∷ e))) (k + length before) (k + length before + length s) text t
 
   -- the members from the second on, each with its comma
   pub data IsMoreMembers : ℕ → List ℕ → Members → Type 0 where
     no_more_members : {k : ℕ} → IsMoreMembers k [] no_members
-    more_members : {k at end : ℕ} {e m key : List ℕ} {t : Tree} {ms : Members} → IsMember (suc k) e at end key t → IsMoreMembers (suc k + length e) m ms → IsMoreMembers k (44 ∷ (e ++ m)) (and_member at end key t ms)
+    more_members : {k at end : ℕ} {e m key : List ℕ} {t : Tree} {ms : Members} → IsMember (suc k) e at end key t
+        → IsMoreMembers (suc k + length e) m ms → IsMoreMembers k (44 ∷ (e ++ m)) (and_member at end key t ms)
 
 -- JSON-text = ws value ws
 abbrev pub IsText : List ℕ → Tree → Type 0

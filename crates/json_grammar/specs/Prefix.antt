@@ -52,12 +52,15 @@ abbrev mutual
   members_first_past n no_members = None
   members_first_past n (and_member at end key t ms) = or_else (first_past n t) (members_first_past n ms)
 
--- at that offset stands the first bracket or brace that opens a 17th level, in each text that begins with the bytes up to it
+-- at that offset stands the first bracket or brace that opens a 17th level, in
+-- each text that begins with the bytes up to it
 pub record IsDepthFault (bytes : List ℕ) (at : ℕ) : Type 0 where
   pub within : at < length bytes
   pub sound : IsPrefix (take (suc at) bytes)
-  pub opens : (rest : List ℕ) (tree : Tree) → IsElement 0 (take (suc at) bytes ++ rest) tree → first_past 16 tree ≡ Some at
+  pub opens : (rest : List ℕ) (tree : Tree) → IsElement 0 (take (suc at) bytes ++ rest) tree
+      → first_past 16 tree ≡ Some at
 
 -- no text that begins with the first `at` bytes opens a 17th level in them
 abbrev pub IsShallow : List ℕ → ℕ → Type 0
-IsShallow bytes at = (rest : List ℕ) (tree : Tree) → IsElement 0 (take at bytes ++ rest) tree → (d : ℕ) → first_past 16 tree ≡ Some d → at ≤ d
+IsShallow bytes at = (rest : List ℕ) (tree : Tree) → IsElement 0 (take at bytes ++ rest) tree → (d : ℕ)
+    → first_past 16 tree ≡ Some d → at ≤ d

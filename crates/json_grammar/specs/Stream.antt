@@ -1,5 +1,7 @@
--- What a stream of bytes that still comes in tells of its JSON text: its sound part, the events that are due, and why it may be no text.
-use Rattle.std.specs.Prelude.{◌≡◌, ℕ, ◌+◌, ◌≤◌, List, [], ◌∷◌, ◌++◌, length, take, filter, slice_get, Bool, true, nat_le, Some, None}
+-- What a stream of bytes that still comes in tells of its JSON text: its sound part, the
+-- events that are due, and why it may be no text.
+use Rattle.std.specs.Prelude.{◌≡◌, ℕ, ◌+◌, ◌≤◌, List, [], ◌∷◌, ◌++◌, length, take, filter, slice_get, Bool, true}
+use Rattle.std.specs.Prelude.{nat_le, Some, None}
 use Rattle.json_grammar.specs.Tree.{Tree, Event, events_of}
 use Rattle.json_grammar.specs.Events.{event_at, event_end}
 use Rattle.json_grammar.specs.Grammar.{IsText}
@@ -27,11 +29,13 @@ abbrev pub telling : Event → ℕ
 telling (Event.number at s) = event_end (Event.number at s) + 1
 telling e = event_end e
 
--- the events of a stream that are due, in their order: those that its sound part tells, which are the same in every text that begins with it. Behind the end of a stream that is a text all its events are due.
+-- the events of a stream that are due, in their order: those that its sound part tells, which are the same in every
+-- text that begins with it. Behind the end of a stream that is a text all its events are due.
 pub record IsDue (stream : List ℕ) (finished : Bool) (due : List Event) : Type 0 where
   pub sound : ℕ
   pub is_sound : IsSoundLength stream sound
-  pub told : (finished ≡ true → IsShallowText stream → ⊥) → (rest : List ℕ) (tree : Tree) → IsText (take sound stream ++ rest) tree → due ≡ filter (λ e. nat_le (telling e) sound) (events_of tree)
+  pub told : (finished ≡ true → IsShallowText stream → ⊥) → (rest : List ℕ) (tree : Tree)
+      → IsText (take sound stream ++ rest) tree → due ≡ filter (λ e. nat_le (telling e) sound) (events_of tree)
   pub whole : finished ≡ true → (tree : Tree) → IsText stream tree → first_past 16 tree ≡ None → due ≡ events_of tree
 
 -- the event is the due one behind `given` others
@@ -55,7 +59,8 @@ pub record IsGivenText (stream : List ℕ) (given : ℕ) : Type 0 where
 
 -- the event stands behind `given` others in every text that begins with the stream
 abbrev pub IsNextOfEach : List ℕ → ℕ → Event → Type 0
-IsNextOfEach stream given e = (rest : List ℕ) (tree : Tree) → IsText (stream ++ rest) tree → slice_get (events_of tree) given ≡ Some e
+IsNextOfEach stream given e =
+    (rest : List ℕ) (tree : Tree) → IsText (stream ++ rest) tree → slice_get (events_of tree) given ≡ Some e
 
 -- each event begins behind the first byte of the one before it, the first at the offset or later
 abbrev pub AscendFrom : ℕ → List Event → Type 0

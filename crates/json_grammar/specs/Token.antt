@@ -1,5 +1,6 @@
 -- A number token taken apart by a function, which agrees with the grammar's relation.
-use Rattle.std.specs.Prelude.{ℕ, suc, List, [], ◌∷◌, length, take, drop, Bool, true, false, cond, not, ◌==◌, ◌&&◌, nat_lt, Option, Some, None}
+use Rattle.std.specs.Prelude.{ℕ, suc, List, [], ◌∷◌, length, take, drop, Bool, true, false, cond, not, ◌==◌, ◌&&◌}
+use Rattle.std.specs.Prelude.{nat_lt, Option, Some, None}
 use Rattle.json_grammar.specs.Grammar.{Parts, parts}
 use Rattle.json_grammar.specs.Bytes.{is_digit, is_mark}
 
@@ -21,7 +22,8 @@ exponent_digits below bs = cond (nat_lt 0 (length bs) && (digit_count bs == leng
 -- the sign and the digits of an exponent behind its letter
 abbrev pub signed_exponent : List ℕ → Option (Bool × List ℕ)
 signed_exponent [] = None
-signed_exponent (s ∷ bs) = cond (s == 45) (exponent_digits true bs) (cond (s == 43) (exponent_digits false bs) (exponent_digits false (s ∷ bs)))
+signed_exponent (s ∷ bs) = cond (s == 45) (exponent_digits true bs)
+    (cond (s == 43) (exponent_digits false bs) (exponent_digits false (s ∷ bs)))
 
 -- the exponent's sign and digits, where the bytes are one or there is none
 abbrev pub exponent_of : List ℕ → Option (Bool × List ℕ)
@@ -47,7 +49,8 @@ with_fraction negative whole (Some f) = with_exponent negative whole f.0 (expone
 
 -- the parts of a number behind its sign
 abbrev pub unsigned_parts : Bool → List ℕ → Option Parts
-unsigned_parts negative bs = cond (may_be_int (take (digit_count bs) bs)) (with_fraction negative (take (digit_count bs) bs) (fraction_of (drop (digit_count bs) bs))) None
+unsigned_parts negative bs = cond (may_be_int (take (digit_count bs) bs))
+    (with_fraction negative (take (digit_count bs) bs) (fraction_of (drop (digit_count bs) bs))) None
 
 -- the parts of a number token; none where the bytes are no number token
 unfoldable pub parts_of : List ℕ → Option Parts

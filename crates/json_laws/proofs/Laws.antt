@@ -1,7 +1,10 @@
 -- What follows of the grammar.
-use Rattle.std.proofs.Common.{arith, ◌≡◌, ℕ, ◌+◌, List, [], ◌∷◌, ◌++◌, length, Option, Some, None, sym, ◌∙◌, ap, subst, append-nil}
-use Rattle.json_grammar.specs.Tree.{Tree, Node, Trees, Members, Event, events_of, node_events, trees_events, members_events}
-use Rattle.json_grammar.specs.Grammar.{IsValue, value, IsNode, IsElement, element, IsMoreTrees, no_more, more, IsMember, member, IsMoreMembers, no_more_members, more_members}
+use Rattle.std.proofs.Common.{arith, ◌≡◌, ℕ, ◌+◌, List, [], ◌∷◌, ◌++◌, length, Option, Some, None, sym, ◌∙◌, ap, subst}
+use Rattle.std.proofs.Common.{append-nil}
+use Rattle.json_grammar.specs.Tree.{Tree, Node, Trees, Members, Event, events_of, node_events, trees_events}
+use Rattle.json_grammar.specs.Tree.{members_events}
+use Rattle.json_grammar.specs.Grammar.{IsValue, value, IsNode, IsElement, element, IsMoreTrees, no_more, more, IsMember}
+use Rattle.json_grammar.specs.Grammar.{member, IsMoreMembers, no_more_members, more_members}
 use Rattle.std.specs.Str.{IsUtf8}
 use Rattle.json_grammar.specs.Grammar.{IsString, quoted}
 use Rattle.json_laws.specs.Sound.{AreSound}
@@ -22,11 +25,15 @@ pub one_tree : (bytes : List ℕ) (t u : Tree) → IsElement 0 bytes t → IsEle
 one_tree bytes t u h g =
     let p = taken_text bytes [] t (subst (λ z. IsElement 0 z t) (sym (append-nil bytes)) h) in
     let q = taken_text bytes [] u (subst (λ z. IsElement 0 z u) (sym (append-nil bytes)) g) in
-    let runs : ◌≡◌ {A = State × List Event} (p.state, p.front) (q.state, q.front) = let a = p.runs in let b = q.runs in cc in
-    let last : ◌≡◌ {A = Option (List Event)} (Some p.back) (Some q.back) = sym (nothing_left p.reads) ∙ ap (λ (z : State × List Event). ending z.0.levels z.0.mode) runs ∙ nothing_left q.reads in
+    let runs : ◌≡◌ {A = State × List Event} (p.state, p.front) (q.state, q.front) = let a = p.runs in let b = q.runs in
+    cc in
+    let last : ◌≡◌ {A = Option (List Event)} (Some p.back) (Some q.back) = sym (nothing_left p.reads)
+    ∙ ap (λ (z : State × List Event). ending z.0.levels z.0.mode) runs ∙ nothing_left q.reads in
     let backs : p.back ≡ q.back = cc in
-    let events : events_of t ≡ events_of u = p.events ∙ ap (λ z. z ++ p.back) (ap (λ (z : State × List Event). z.1) runs) ∙ ap (λ z. q.front ++ z) backs ∙ sym q.events in
-    let built : ◌≡◌ {A = Option Tree} (Some t) (Some u) = ap (λ b. b.done) (sym (text_built h) ∙ ap (λ z. feeds z (bt [] None)) events ∙ text_built g) in
+    let events : events_of t ≡ events_of u = p.events ∙ ap (λ z. z ++ p.back) (ap (λ (z : State × List Event). z.1)
+    runs) ∙ ap (λ z. q.front ++ z) backs ∙ sym q.events in
+    let built : ◌≡◌ {A = Option Tree} (Some t) (Some u) =
+    ap (λ b. b.done) (sym (text_built h) ∙ ap (λ z. feeds z (bt [] None)) events ∙ text_built g) in
     cc
 
 join_sound : (a b : List Event) → AreSound a → AreSound b → AreSound (a ++ b)
@@ -50,9 +57,20 @@ mutual
   node_sound (IsNode.number h) = (h, tt)
   node_sound (IsNode.text h) = (string_sound h, tt)
   node_sound (IsNode.empty_list h) = (tt, (tt, tt))
-  node_sound (IsNode.list {t = t} {ts} h g) = (tt, join_sound (events_of t ++ trees_events ts) _ (join_sound (events_of t) (trees_events ts) (element_sound h) (trees_sound g)) (tt, tt))
+  node_sound (IsNode.list {t = t} {ts} h g) = (
+    tt,
+    join_sound (events_of t ++ trees_events ts) _
+        (join_sound (events_of t) (trees_events ts) (element_sound h) (trees_sound g)) (tt, tt),
+  )
   node_sound (IsNode.empty_object h) = (tt, (tt, tt))
-  node_sound (IsNode.object {t = t} {ms} h g) = (tt, (key_sound h, join_sound (events_of t ++ members_events ms) _ (join_sound (events_of t) (members_events ms) (member_sound h) (members_sound g)) (tt, tt)))
+  node_sound (IsNode.object {t = t} {ms} h g) = (
+    tt,
+    (
+      key_sound h,
+      join_sound (events_of t ++ members_events ms) _
+          (join_sound (events_of t) (members_events ms) (member_sound h) (members_sound g)) (tt, tt),
+    ),
+  )
 
   element_sound : {k : ℕ} {e : List ℕ} {t : Tree} → IsElement k e t → AreSound (events_of t)
   element_sound (element h g f) = value_sound g
@@ -66,7 +84,8 @@ mutual
 
   members_sound : {k : ℕ} {m : List ℕ} {ms : Members} → IsMoreMembers k m ms → AreSound (members_events ms)
   members_sound no_more_members = tt
-  members_sound (more_members {t = t} {ms} h g) = (key_sound h, join_sound (events_of t) (members_events ms) (member_sound h) (members_sound g))
+  members_sound (more_members {t = t} {ms} h g) =
+      (key_sound h, join_sound (events_of t) (members_events ms) (member_sound h) (members_sound g))
 
 pub text_sound : {bytes : List ℕ} {t : Tree} → IsElement 0 bytes t → AreSound (events_of t)
 text_sound h = element_sound h

@@ -1,5 +1,7 @@
 -- A text has one answer: its tree, or a fault at one place.
-use Rattle.std.proofs.Common.{◌≡◌, ℕ, suc, ◌+◌, ◌<◌, ◌≤◌, ◌⊎◌, inl, inr, List, ◌++◌, length, take, drop, Some, None, refl, sym, ◌∙◌, ap, subst, arith, append_assoc, take-append-drop, take-take, Bool, true, false, nat_lt}
+use Rattle.std.proofs.Common.{◌≡◌, ℕ, suc, ◌+◌, ◌<◌, ◌≤◌, ◌⊎◌, inl, inr, List, ◌++◌, length, take, drop, Some, None}
+use Rattle.std.proofs.Common.{refl, sym, ◌∙◌, ap, subst, arith, append_assoc, take-append-drop, take-take, Bool, true}
+use Rattle.std.proofs.Common.{false, nat_lt}
 use Rattle.std.proofs.lemmas.Bool.Decides.{nat_tests}
 use Rattle.json_grammar.specs.Tree.{Tree}
 use Rattle.json_grammar.specs.Grammar.{IsElement}
@@ -17,7 +19,8 @@ order a b = by (nat_lt a b) refl
     by false e = inr (grind (arith, nat_tests))
 
 -- what begins with more bytes begins with fewer
-begins : (bytes rest : List ℕ) (n m : ℕ) → n ≤ m → take m bytes ++ rest ≡ take n bytes ++ (drop n (take m bytes) ++ rest)
+begins : (bytes rest : List ℕ) (n m : ℕ) → n ≤ m
+    → take m bytes ++ rest ≡ take n bytes ++ (drop n (take m bytes) ++ rest)
 begins bytes rest n m h =
     ap (λ z. z ++ rest) (sym (take-append-drop n (take m bytes)))
     ∙ append_assoc (take n (take m bytes)) (drop n (take m bytes)) rest
@@ -43,8 +46,10 @@ one_syntax bytes a b f g =
     ]
 
 -- in a text that begins so, the first level too deep stands there
-depth_in : (bytes rest : List ℕ) (t : Tree) (d n : ℕ) → IsDepthFault bytes d → suc d ≤ n → IsElement 0 (take n bytes ++ rest) t → first_past 16 t ≡ Some d
-depth_in bytes rest t d n f h e = f.opens (drop (suc d) (take n bytes) ++ rest) t (subst (λ z. IsElement 0 z t) (begins bytes rest (suc d) n h) e)
+depth_in : (bytes rest : List ℕ) (t : Tree) (d n : ℕ) → IsDepthFault bytes d → suc d ≤ n
+    → IsElement 0 (take n bytes ++ rest) t → first_past 16 t ≡ Some d
+depth_in bytes rest t d n f h e =
+    f.opens (drop (suc d) (take n bytes) ++ rest) t (subst (λ z. IsElement 0 z t) (begins bytes rest (suc d) n h) e)
 
 one_depth_ordered : (bytes : List ℕ) (a b : ℕ) → IsDepthFault bytes a → IsDepthFault bytes b → a ≤ b → a ≡ b
 one_depth_ordered bytes a b f g l =
@@ -55,11 +60,19 @@ one_depth_ordered bytes a b f g l =
 
 pub one_depth : (bytes : List ℕ) (a b : ℕ) → IsDepthFault bytes a → IsDepthFault bytes b → a ≡ b
 one_depth bytes a b f g =
-    elim (order a b) [ inl l ↦ one_depth_ordered bytes a b f g (omega arith) | inr m ↦ sym (one_depth_ordered bytes b a g f m) ]
+    elim (order a b) [
+      | inl l ↦ one_depth_ordered bytes a b f g (omega arith)
+      | inr m ↦
+          sym (one_depth_ordered bytes b a g f m)
+    ]
 
 pub syntax_or_depth : (bytes : List ℕ) (a d : ℕ) → IsSyntaxFault bytes a → IsShallow bytes a → IsDepthFault bytes d → ⊥
 syntax_or_depth bytes a d f s g =
-    elim (order d a) [ inl l ↦ later l | inr m ↦ not_before bytes a (suc d) f (omega arith) (omega (arith, g.within)) g.sound ]
+    elim (order d a) [
+      | inl l ↦ later l
+      | inr m ↦
+          not_before bytes a (suc d) f (omega arith) (omega (arith, g.within)) g.sound
+    ]
   where
     later : d < a → ⊥
     later l =

@@ -4,7 +4,8 @@ use Rattle.std.proofs.lemmas.List.{take-append-le}
 use Rattle.json_grammar.specs.Grammar.{IsText}
 use Rattle.json_grammar.specs.Prefix.{IsPrefix, IsSyntaxFault, IsDepthFault, IsShallow}
 
-pub syntax_stays : (stream more : List ℕ) (at : ℕ) → at < length stream → IsSyntaxFault stream at → IsSyntaxFault (stream ++ more) at
+pub syntax_stays : (stream more : List ℕ) (at : ℕ) → at < length stream → IsSyntaxFault stream at
+    → IsSyntaxFault (stream ++ more) at
 syntax_stays stream more at i f = record {
   within = omega (arith, length-append stream more);
   sound = subst IsPrefix (sym (take-append-le at stream more f.within)) f.sound;
@@ -12,8 +13,10 @@ syntax_stays stream more at i f = record {
   ended = λ e. absurd (omega (arith, length-append stream more));
 }
 
-pub shallow_stays : (stream more : List ℕ) (at : ℕ) → at ≤ length stream → IsShallow stream at → IsShallow (stream ++ more) at
-shallow_stays stream more at i f rest t h d e = f rest t (subst (λ z. IsText (z ++ rest) t) (take-append-le at stream more i) h) d e
+pub shallow_stays : (stream more : List ℕ) (at : ℕ) → at ≤ length stream → IsShallow stream at
+    → IsShallow (stream ++ more) at
+shallow_stays stream more at i f rest t h d e =
+    f rest t (subst (λ z. IsText (z ++ rest) t) (take-append-le at stream more i) h) d e
 
 pub depth_stays : (stream more : List ℕ) (at : ℕ) → IsDepthFault stream at → IsDepthFault (stream ++ more) at
 depth_stays stream more at f =
@@ -21,5 +24,6 @@ depth_stays stream more at f =
     record {
       within = omega (arith, length-append stream more);
       sound = subst IsPrefix (sym (take-append-le (suc at) stream more (omega arith))) f.sound;
-      opens = λ rest t h. f.opens rest t (subst (λ z. IsText (z ++ rest) t) (take-append-le (suc at) stream more (omega arith)) h);
+      opens = λ rest t h. f.opens rest t
+          (subst (λ z. IsText (z ++ rest) t) (take-append-le (suc at) stream more (omega arith)) h);
     }

@@ -1,6 +1,7 @@
 -- A tree is built from its events. Not part of any promise: only private functions cite it.
 use Rattle.std.specs.Prelude.{◌≡◌, ℕ, suc, ◌+◌, List, [], ◌∷◌, length, Bool, true, false, Option, Some, None}
-use Rattle.json_grammar.specs.Tree.{Tree, tree, Node, Trees, no_trees, and_tree, Members, no_members, and_member, Event, begin, finish, key}
+use Rattle.json_grammar.specs.Tree.{Tree, tree, Node, Trees, no_trees, and_tree, Members, no_members, and_member, Event}
+use Rattle.json_grammar.specs.Tree.{begin, finish, key}
 use Rattle.json_laws.specs.Machine.{State, step, ending}
 
 -- an array or an object that is open
@@ -27,7 +28,8 @@ member_last (and_member at end k t ms) ns = and_member at end k t (member_last m
 abbrev pub attach_to : Tree → List Open → Option Tree → Built
 attach_to t [] final = bt [] (Some t)
 attach_to t (open_list at ts ∷ os) final = bt (open_list at (tree_last ts (and_tree t no_trees)) ∷ os) final
-attach_to t (open_member at ms key_at key_end k ∷ os) final = bt (open_object at (member_last ms (and_member key_at key_end k t no_members)) ∷ os) final
+attach_to t (open_member at ms key_at key_end k ∷ os) final =
+    bt (open_object at (member_last ms (and_member key_at key_end k t no_members)) ∷ os) final
 attach_to t (open_object at ms ∷ os) final = bt (open_object at ms ∷ os) final
 
 abbrev pub attach : Tree → Built → Built

@@ -1,5 +1,6 @@
 -- The reader as a machine that takes one byte after another. Not part of any promise: only private functions cite it.
-use Rattle.std.specs.Prelude.{◌≡◌, ℕ, zero, suc, ◌+◌, ◌-◌, ◌*◌, List, [], ◌∷◌, ◌++◌, drop, Bool, true, false, cond, not, ◌==◌, ◌&&◌, ◌||◌, nat_le, nat_lt, Option, Some, None}
+use Rattle.std.specs.Prelude.{◌≡◌, ℕ, zero, suc, ◌+◌, ◌-◌, ◌*◌, List, [], ◌∷◌, ◌++◌, drop, Bool, true, false, cond, not}
+use Rattle.std.specs.Prelude.{◌==◌, ◌&&◌, ◌||◌, nat_le, nat_lt, Option, Some, None}
 use Rattle.std.specs.Char.{digit_value, encode_utf8}
 use Rattle.json_grammar.specs.Tree.{Event, begin, finish, key}
 pub use Rattle.json_grammar.specs.Bytes.{is_digit, is_mark}
@@ -15,7 +16,8 @@ pub data Phase : Type 0 where
   sign : Phase
   exponent : Phase
 
--- where in a string: between characters, before that many bytes of UTF-8 and one more, behind a byte that narrows the next one, or in an escape
+-- where in a string: between characters, before that many bytes of UTF-8 and one more, behind a byte
+-- that narrows the next one, or in an escape
 pub data Within : Type 0 where
   plain : Within
   tails : ℕ → Within
@@ -87,8 +89,10 @@ close k levels = tell (drop 1 levels) after (finish k)
 
 unfoldable pub after_step : ℕ → List Bool → ℕ → Move
 after_step k [] b = cond (is_blank b) (go [] after) None
-after_step k (false ∷ levels) b = cond (is_blank b) (go (false ∷ levels) after) (cond (b == 44) (go (false ∷ levels) want) (cond (b == 93) (close k (false ∷ levels)) None))
-after_step k (true ∷ levels) b = cond (is_blank b) (go (true ∷ levels) after) (cond (b == 44) (go (true ∷ levels) next_key) (cond (b == 125) (close k (true ∷ levels)) None))
+after_step k (false ∷ levels) b = cond (is_blank b) (go (false ∷ levels) after)
+    (cond (b == 44) (go (false ∷ levels) want) (cond (b == 93) (close k (false ∷ levels)) None))
+after_step k (true ∷ levels) b = cond (is_blank b) (go (true ∷ levels) after)
+    (cond (b == 44) (go (true ∷ levels) next_key) (cond (b == 125) (close k (true ∷ levels)) None))
 
 -- how a number goes on
 unfoldable pub phase_step : Phase → ℕ → Option Phase
@@ -129,7 +133,8 @@ with_front e (Some r) = Some (r.0, e ∷ r.1)
 
 abbrev pub number_step : ℕ → List Bool → ℕ → List ℕ → Phase → ℕ → Option Phase → Move
 number_step k levels at bytes phase b (Some next) = go levels (number at (bytes ++ b ∷ []) next)
-number_step k levels at bytes phase b None = cond (may_end phase) (with_front (Event.number at bytes) (after_step k levels b)) None
+number_step k levels at bytes phase b None =
+    cond (may_end phase) (with_front (Event.number at bytes) (after_step k levels b)) None
 
 abbrev pub literal_step : List Bool → List ℕ → Event → Move
 literal_step levels [] e = tell levels after e
@@ -151,7 +156,9 @@ is_hex b = nat_lt (digit_value b) 16
 abbrev pub short_escape : ℕ → Option ℕ
 short_escape b =
     cond ((b == 34) || ((b == 92) || (b == 47))) (Some b)
-    (cond (b == 98) (Some 8) (cond (b == 102) (Some 12) (cond (b == 110) (Some 10) (cond (b == 114) (Some 13) (cond (b == 116) (Some 9) None)))))
+    (cond (b == 98) (Some 8)
+    (cond (b == 102) (Some 12)
+    (cond (b == 110) (Some 10) (cond (b == 114) (Some 13) (cond (b == 116) (Some 9) None)))))
 
 abbrev pub escaped : ℕ → Option ℕ → Inside
 escaped b (Some c) = Some (plain, c ∷ [])
@@ -179,7 +186,8 @@ inside_step after_f0 b = cond (between 0x90 0xbf b) (Some (tails 1, b ∷ [])) N
 inside_step after_f4 b = cond (between 0x80 0x8f b) (Some (tails 1, b ∷ [])) None
 inside_step escape b = escaped b (short_escape b)
 inside_step unit1 b = cond (is_hex b) (Some (unit2 (digit_value b), [])) None
-inside_step (unit2 v) b = cond (is_hex b) (cond (between 0xdc 0xdf (v * 16 + digit_value b)) None (Some (unit3 (v * 16 + digit_value b), []))) None
+inside_step (unit2 v) b = cond (is_hex b)
+    (cond (between 0xdc 0xdf (v * 16 + digit_value b)) None (Some (unit3 (v * 16 + digit_value b), []))) None
 inside_step (unit3 v) b = cond (is_hex b) (Some (unit4 (v * 16 + digit_value b), [])) None
 inside_step (unit4 v) b = cond (is_hex b) (unit_end (v * 16 + digit_value b)) None
 inside_step (paired u) b = cond (b == 92) (Some (paired_escape u, [])) None
@@ -187,7 +195,8 @@ inside_step (paired_escape u) b = cond (b == 117) (Some (low1 u, [])) None
 inside_step (low1 u) b = cond (digit_value b == 13) (Some (low2 u, [])) None
 inside_step (low2 u) b = cond (between 12 15 (digit_value b)) (Some (low3 u (13 * 16 + digit_value b), [])) None
 inside_step (low3 u v) b = cond (is_hex b) (Some (low4 u (v * 16 + digit_value b), [])) None
-inside_step (low4 u v) b = cond (is_hex b) (Some (plain, encode_utf8 (0x10000 + (u - 0xd800) * 0x400 + (v * 16 + digit_value b - 0xdc00)))) None
+inside_step (low4 u v) b = cond (is_hex b)
+    (Some (plain, encode_utf8 (0x10000 + (u - 0xd800) * 0x400 + (v * 16 + digit_value b - 0xdc00)))) None
 
 -- a string may end there
 abbrev pub may_close : Within → Bool
@@ -209,14 +218,17 @@ inside_move levels is_key at text (Some r) = go levels (string is_key at (text +
 unfoldable pub step : ℕ → List Bool → Mode → ℕ → Move
 step k levels want b = cond (is_blank b) (go levels want) (value_step k levels b)
 step k levels first b = cond (is_blank b) (go levels first) (cond (b == 93) (close k levels) (value_step k levels b))
-step k levels first_key b = cond (is_blank b) (go levels first_key) (cond (b == 125) (close k levels) (cond (b == 34) (go levels (string true k [] plain)) None))
-step k levels next_key b = cond (is_blank b) (go levels next_key) (cond (b == 34) (go levels (string true k [] plain)) None)
+step k levels first_key b = cond (is_blank b) (go levels first_key)
+    (cond (b == 125) (close k levels) (cond (b == 34) (go levels (string true k [] plain)) None))
+step k levels next_key b =
+    cond (is_blank b) (go levels next_key) (cond (b == 34) (go levels (string true k [] plain)) None)
 step k levels colon b = cond (is_blank b) (go levels colon) (cond (b == 58) (go levels want) None)
 step k levels after b = after_step k levels b
 step k levels (literal c rest e) b = cond (b == c) (literal_step levels rest e) None
 step k levels (number at bytes phase) b = number_step k levels at bytes phase b (phase_step phase b)
 step k levels (string is_key at text within) b =
-    cond (may_close within && (b == 34)) (tell levels (after_string is_key) (string_event is_key at (suc k) text)) (inside_move levels is_key at text (inside_step within b))
+    cond (may_close within && (b == 34)) (tell levels (after_string is_key) (string_event is_key at (suc k) text))
+    (inside_move levels is_key at text (inside_step within b))
 
 -- what is told at the end of the bytes, where they may end
 unfoldable pub ending : List Bool → Mode → Option (List Event)
@@ -233,8 +245,11 @@ ending (l ∷ levels) mode = None
 
 -- from this state the bytes, from the offset on, are a whole text, and these are told
 pub data Reads : ℕ → State → List ℕ → List Event → Type 0 where
-  ends : {k : ℕ} {levels : List Bool} {mode : Mode} {es : List Event} → ending levels mode ≡ Some es → Reads k (record { levels = levels; mode = mode }) [] es
-  then : {k b : ℕ} {levels : List Bool} {mode : Mode} {s : State} {bs : List ℕ} {es fs : List Event} → step k levels mode b ≡ Some (s, es) → Reads (suc k) s bs fs → Reads k (record { levels = levels; mode = mode }) (b ∷ bs) (es ++ fs)
+  ends : {k : ℕ} {levels : List Bool} {mode : Mode} {es : List Event} → ending levels mode ≡ Some es
+      → Reads k (record { levels = levels; mode = mode }) [] es
+  then : {k b : ℕ} {levels : List Bool} {mode : Mode} {s : State} {bs : List ℕ} {es fs : List Event}
+      → step k levels mode b ≡ Some (s, es) → Reads (suc k) s bs fs
+      → Reads k (record { levels = levels; mode = mode }) (b ∷ bs) (es ++ fs)
 
 abbrev pub run_on : List Event → Option (State × List Event) → Option (State × List Event)
 run_on es None = None

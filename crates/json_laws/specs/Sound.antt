@@ -1,4 +1,5 @@
--- What the events of a text hold: number tokens, and texts in UTF-8. Not part of any promise: only private functions cite it.
+-- What the events of a text hold: number tokens, and texts in UTF-8. Not part of
+-- any promise: only private functions cite it.
 use Rattle.std.specs.Prelude.{List, [], ◌∷◌}
 use Rattle.std.specs.Str.{IsUtf8}
 use Rattle.json_grammar.specs.Tree.{Event, begin, finish, key}

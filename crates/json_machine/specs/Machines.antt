@@ -1,5 +1,6 @@
 -- The machine's words for the reader's values. Not part of any promise: only private functions cite it.
-use Rattle.std.specs.Prelude.{◌≡◌, ℕ, ◌+◌, ◌<◌, ◌≤◌, length, List, [], ◌∷◌, reverse, Bool, true, false, Option, Some, None}
+use Rattle.std.specs.Prelude.{◌≡◌, ℕ, ◌+◌, ◌<◌, ◌≤◌, length, List, [], ◌∷◌, reverse, Bool, true, false, Option, Some}
+use Rattle.std.specs.Prelude.{None}
 use Rattle.json_laws.specs.Machine as machine
 use Rattle.json_laws.specs.Machine.{State, st, Move, step, ending}
 use Rattle.json_grammar.specs.Tree as tree
@@ -7,9 +8,11 @@ use Rattle.json_machine.specs.Views.{phase_of, within_of, Holds}
 use Rattle.json_machine.specs.declared.literal_token.Begun.{Begun}
 use Rattle.json_machine.specs.declared.literal_token.Begun.TheVariants.{N, Nu, Nul, T, Tr, Tru, F, Fa, Fal, Fals}
 use Rattle.json_machine.specs.declared.machine.Mode.{Mode}
-use Rattle.json_machine.specs.declared.machine.Mode.TheVariants.{Want, First, FirstKey, NextKey, Colon, After, Literal, Number, Str}
+use Rattle.json_machine.specs.declared.machine.Mode.TheVariants.{Want, First, FirstKey, NextKey, Colon, After, Literal}
+use Rattle.json_machine.specs.declared.machine.Mode.TheVariants.{Number, Str}
 use Rattle.json_machine.specs.declared.raw_event.RawEvent.{RawEvent}
-use Rattle.json_machine.specs.declared.raw_event.RawEvent.TheVariants.{Begin, Finish, Key, Null, Bool as Boolean, Num, Text}
+use Rattle.json_machine.specs.declared.raw_event.RawEvent.TheVariants.{Begin, Finish, Key, Null, Bool as Boolean, Num}
+use Rattle.json_machine.specs.declared.raw_event.RawEvent.TheVariants.{Text}
 use Rattle.json_machine.specs.declared.raw_event.Answer.{Answer}
 use Rattle.json_machine.specs.declared.raw_event.Answer.TheVariants.{Refused, Quiet, One, Two}
 use Rattle.json_machine.specs.declared.machine.Machine.{Machine}

@@ -7,7 +7,8 @@ use Rattle.json_laws.specs.Machine.{State, st, Phase, number, minus, may_end, st
 -- the first bytes, so many, take each number from one place in it to another
 pub record GoesOn (from : Phase) (bytes : List ℕ) (count : ℕ) (to : Phase) : Type 0 where
   pub within : count ≤ length bytes
-  pub runs : (k at : ℕ) (levels : List Bool) (token : List ℕ) → run k (st levels (number at token from)) (take count bytes) ≡ Some (st levels (number at (token ++ take count bytes) to), [])
+  pub runs : (k at : ℕ) (levels : List Bool) (token : List ℕ) → run k (st levels (number at token from)) (take count
+      bytes) ≡ Some (st levels (number at (token ++ take count bytes) to), [])
 
 -- and the number may end there
 pub record EndsNumber (from : Phase) (bytes : List ℕ) (count : ℕ) (to : Phase) : Type 0 where
@@ -21,7 +22,8 @@ pub record BeginsNumber (bytes : List ℕ) (count : ℕ) (to : Phase) : Type 0 w
   pub first : IsDigit (get_or bytes 0 0)
 
 -- the first bytes, so many, are a number, which the byte behind them tells
-pub record TakesNumber (k : ℕ) (old : State) (bytes : List ℕ) (count : ℕ) (event : json.Event) (new : State) : Type 0 where
+pub record TakesNumber (k : ℕ) (old : State) (bytes : List ℕ) (count : ℕ) (event : json.Event)
+    (new : State) : Type 0 where
   pub inside : State
   pub runs : run k old (take count bytes) ≡ Some (inside, [])
   pub within : count < length bytes

@@ -3,9 +3,12 @@ use Rattle.std.specs.Prelude.{ℕ, ◌≤◌, ◌<◌, ◌⊎◌, List, [], ◌�
 use Rattle.std.specs.Char.{encode_utf8, digit_value}
 use Rattle.json_laws.specs.Machine as machine
 use Rattle.json_machine.specs.declared.phase.Phase.{Phase}
-use Rattle.json_machine.specs.declared.phase.Phase.TheVariants.{Minus, LoneZero, Whole, Point, Fraction, Mark, Sign, Exponent}
+use Rattle.json_machine.specs.declared.phase.Phase.TheVariants.{Minus, LoneZero, Whole, Point, Fraction, Mark, Sign}
+use Rattle.json_machine.specs.declared.phase.Phase.TheVariants.{Exponent}
 use Rattle.json_machine.specs.declared.within.Within.{Within}
-use Rattle.json_machine.specs.declared.within.Within.TheVariants.{Plain, Tails, AfterE0, AfterEd, AfterF0, AfterF4, Escape, Unit1, Unit2, Unit3, Unit4, Paired, PairedEscape, Low1, Low2, Low3, Low4}
+use Rattle.json_machine.specs.declared.within.Within.TheVariants.{Plain, Tails, AfterE0, AfterEd, AfterF0, AfterF4}
+use Rattle.json_machine.specs.declared.within.Within.TheVariants.{Escape, Unit1, Unit2, Unit3, Unit4, Paired}
+use Rattle.json_machine.specs.declared.within.Within.TheVariants.{PairedEscape, Low1, Low2, Low3, Low4}
 use Rattle.json_machine.specs.declared.within.Told.{Told}
 use Rattle.json_machine.specs.declared.within.Told.TheVariants.{Nothing, Byte, Character}
 

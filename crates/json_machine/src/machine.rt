@@ -1,7 +1,9 @@
 //! The reader as a machine that takes one byte after another.
 
-ghost use Rattle.std.specs.Prelude.{◌≡◌, [], IfOk, OnOk, OnErr, ℕ, IsTrue, is_some, length, Some, IfSome, ◌+◌, ◌<◌, ◌^◌};
-ghost use Rattle.json_machine.specs.Machines.{state_of, answer_of, IsSound, SameMachine, AnswerNear, EventNear, told_last};
+ghost use Rattle.std.specs.Prelude.{◌≡◌, [], IfOk, OnOk, OnErr, ℕ, IsTrue, is_some, length, Some, IfSome, ◌+◌, ◌<◌};
+ghost use Rattle.std.specs.Prelude.{◌^◌};
+ghost use Rattle.json_machine.specs.Machines.{state_of, answer_of, IsSound, SameMachine, AnswerNear, EventNear};
+ghost use Rattle.json_machine.specs.Machines.{told_last};
 ghost use Rattle.json_laws.specs.Machine as machine;
 ghost use Rattle.json_laws.specs.Machine.{step};
 

@@ -1,7 +1,9 @@
 //! Bytes of numbers, one by one, and numbers that stand whole in a buffer.
 
-ghost use Rattle.std.specs.Prelude.{◌≡◌, ℕ, ◌+◌, ◌≤◌, Ok, None, false, IfOk, OnOk, OnErr, IfSome, IsSome, IsTrue, ◌⊎◌, vec_len, take};
-ghost use Rattle.json_machine.specs.Machines.{state_of, levels_of, answer_of, event_of, IsSound, SameMachine, AnswerNear};
+ghost use Rattle.std.specs.Prelude.{◌≡◌, ℕ, ◌+◌, ◌≤◌, Ok, None, false, IfOk, OnOk, OnErr, IfSome, IsSome, IsTrue, ◌⊎◌};
+ghost use Rattle.std.specs.Prelude.{vec_len, take};
+ghost use Rattle.json_machine.specs.Machines.{state_of, levels_of, answer_of, event_of, IsSound, SameMachine};
+ghost use Rattle.json_machine.specs.Machines.{AnswerNear};
 ghost use Rattle.json_machine.specs.Views.{phase_of};
 ghost use Rattle.json_machine.specs.NumberRuns.{TakesNumber, IsBeforeComma};
 ghost use Rattle.json_laws.specs.Machine as machine;

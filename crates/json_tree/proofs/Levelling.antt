@@ -16,15 +16,24 @@ map_last f (y ∷ xs) x = ap (λ z. f y ∷ z) (map_last f xs x)
 pub level_last : (xs : List Level) (x : Level) → levels_of (xs ++ x ∷ []) ≡ level_of x ∷ levels_of xs
 level_last xs x = ap reverse (map_last level_of xs x) ∙ reverse-append (map level_of xs) (level_of x ∷ [])
 
-pub trees_last : (xs : List Rust.Tree) (x : Rust.Tree) → trees_view (xs ++ x ∷ []) ≡ tree_last (trees_view xs) (and_tree (tree_view x) no_trees)
+pub trees_last : (xs : List Rust.Tree) (x : Rust.Tree)
+    → trees_view (xs ++ x ∷ []) ≡ tree_last (trees_view xs) (and_tree (tree_view x) no_trees)
 trees_last [] x = refl
 trees_last (y ∷ xs) x = ap (and_tree (tree_view y)) (trees_last xs x)
 
-pub members_last : (xs : List Member) (x : Member) → members_view (xs ++ x ∷ []) ≡ member_last (members_view xs) (members_of (member_view x ∷ []))
+pub members_last : (xs : List Member) (x : Member)
+    → members_view (xs ++ x ∷ []) ≡ member_last (members_view xs) (members_of (member_view x ∷ []))
 members_last [] x = refl
-members_last (y ∷ xs) x = ap (and_member (member_view y).at (member_view y).end (member_view y).key (member_view y).value) (members_last xs x)
+members_last (y ∷ xs) x =
+    ap (and_member (member_view y).at (member_view y).end (member_view y).key (member_view y).value) (members_last xs x)
 
-pub member_seen : (at end : ℕ) (k : List ℕ) (t : Rust.Tree) → member_view (roll-Member (record { at = at; end = end; key = k; value = t })) ≡ record { at = at; end = end; key = k; value = tree_view t }
+pub member_seen : (at end : ℕ) (k : List ℕ) (t : Rust.Tree)
+    → member_view (roll-Member (record { at = at; end = end; key = k; value = t })) ≡ record {
+      at = at;
+      end = end;
+      key = k;
+      value = tree_view t;
+    }
 member_seen at end k t = search (rules, the_lemmas)
 
 pub ruleset levelling = (level_last, trees_last, members_last, member_seen)

@@ -5,7 +5,8 @@ use Rattle.json_laws.specs.Builder.{Open, open_list, open_object, open_member, B
 use Rattle.json_tree.specs.declared.builder.Level.{Level}
 use Rattle.json_tree.specs.declared.builder.Level.TheVariants.{List as Listed, Object, Pair}
 use Rattle.json_machine.specs.declared.raw_event.RawEvent.{RawEvent}
-use Rattle.json_machine.specs.declared.raw_event.RawEvent.TheVariants.{Begin, Finish, Key, Null, Bool as Boolean, Num, Text}
+use Rattle.json_machine.specs.declared.raw_event.RawEvent.TheVariants.{Begin, Finish, Key, Null, Bool as Boolean, Num}
+use Rattle.json_machine.specs.declared.raw_event.RawEvent.TheVariants.{Text}
 use Rattle.json_tree.specs.declared.builder.Builder.{Builder}
 
 -- the offsets after it are numbers of 64 bits

@@ -1,5 +1,7 @@
 -- Terms and bases as the code has them.
-use Rattle.std.proofs.Common.{◌≡◌, ℕ, zero, suc, ◌+◌, ◌-◌, ◌*◌, ◌<◌, ◌≤◌, refl, sym, ◌∙◌, ap, arith, ℤ, pos, negsuc, ◌+ℤ◌, ◌-ℤ◌, ◌*ℤ◌, true, false, cond, List, [], ◌∷◌, ◌++◌, length, get_or, map, fold, take, unsigned_abs, to_z, FitsSigned, Option, Some, None, option_map, Bor}
+use Rattle.std.proofs.Common.{◌≡◌, ℕ, zero, suc, ◌+◌, ◌-◌, ◌*◌, ◌<◌, ◌≤◌, refl, sym, ◌∙◌, ap, arith, ℤ, pos, negsuc}
+use Rattle.std.proofs.Common.{◌+ℤ◌, ◌-ℤ◌, ◌*ℤ◌, true, false, cond, List, [], ◌∷◌, ◌++◌, length, get_or, map, fold, take}
+use Rattle.std.proofs.Common.{unsigned_abs, to_z, FitsSigned, Option, Some, None, option_map, Bor}
 use Rattle.std.specs.Int.{int_min, w128}
 use Rattle.std.proofs.lemmas.Int.{to_z_pos, fits_signed_from_abs}
 use Rattle.std.proofs.lemmas.List.{map-append, take_more}
@@ -8,7 +10,8 @@ use borrow.Author.Differences.{up, down}
 use Rattle.fixed_num.specs.Floors.{floor_of, floor_quotient}
 use Rattle.fixed_num.specs.Sums.{sum_below}
 use Rattle.fixed_num.proofs.Bits.{by_bits}
-use Rattle.fixed_num.proofs.SignedLemmas.{back_from_abs, abs-product, signed_arith, int_div_euclid-parts, at_most_from_scaled}
+use Rattle.fixed_num.proofs.SignedLemmas.{back_from_abs, abs-product, signed_arith, int_div_euclid-parts}
+use Rattle.fixed_num.proofs.SignedLemmas.{at_most_from_scaled}
 use Rattle.fixed_num.proofs.SumLemmas.{abs-sum, sum_below-none, sum_below_same, sum_below-suc, sum_below-within}
 use Rattle.instance_model.specs.Tables.{Tables, scenarios_of, in_run, risk_of}
 use Rattle.instance_model.specs.Fitting.{IsFitting}
@@ -30,14 +33,18 @@ unfolding least_over
 least_over_first f [] h = absurd (omega (arith, h))
 least_over_first f (k ∷ ks) h = refl
 
-pub least_over_more : (f : ℕ → ℤ) (ks : List ℕ) (j : ℕ) → 1 ≤ j → j < length ks → int_min (least_over f (take j ks)) (f (get_or ks j 0)) ≡ least_over f (take (j + 1) ks)
+pub least_over_more : (f : ℕ → ℤ) (ks : List ℕ) (j : ℕ) → 1 ≤ j → j < length ks
+    → int_min (least_over f (take j ks)) (f (get_or ks j 0)) ≡ least_over f (take (j + 1) ks)
 unfolding least_over
 least_over_more f [] j h l = absurd (omega (arith, l))
 least_over_more f (k ∷ ks) zero h l = absurd (omega (arith, h))
 least_over_more f (k ∷ ks) (suc j) h l =
     let next : suc j + 1 ≡ suc (j + 1) = omega arith in
     let t : take (j + 1) ks ≡ take j ks ++ get_or ks j 0 ∷ [] = take_more ks j 0 (omega (arith, l)) in
-    rw next (sym (ap (λ (xs : List ℕ). fold int_min (f k) (map f xs)) t ∙ ap (fold int_min (f k)) (map-append f (take j ks) (get_or ks j 0 ∷ [])) ∙ fold-append int_min (f k) (map f (take j ks)) (f (get_or ks j 0) ∷ [])))
+    rw next (sym
+    (ap (λ (xs : List ℕ). fold int_min (f k) (map f xs)) t
+    ∙ ap (fold int_min (f k)) (map-append f (take j ks) (get_or ks j 0 ∷ []))
+    ∙ fold-append int_min (f k) (map f (take j ks)) (f (get_or ks j 0) ∷ [])))
 
 -- the lesser of two numbers is as small as both
 pub min_small : (a b : ℤ) (m : ℕ) → unsigned_abs a ≤ m → unsigned_abs b ≤ m → unsigned_abs (int_min a b) ≤ m
@@ -50,7 +57,11 @@ above_each a (j ∷ ks) up zero d l = up.0
 above_each a (j ∷ ks) up (suc k) d l = omega (arith, up.0, above_each j ks up.1 k d (omega (arith, l)))
 
 -- ---- sums and products by their bits
-gap_bits : (w n : ℕ) (least sum : ℤ) → w ≤ 1000 → n ≤ 1024 → unsigned_abs least ≤ 100_000_000_000_000_000_000 → unsigned_abs sum ≤ 102_400_000_000_000_000_000_000 → (to_z w128 w *ℤ by_bits (by_bits (to_z w128 n *ℤ by_bits least) -ℤ by_bits sum) ≡ pos w *ℤ (pos n *ℤ least -ℤ sum)) × (unsigned_abs (pos w *ℤ (pos n *ℤ least -ℤ sum)) ≤ 204_800_000_000_000_000_000_000_000)
+gap_bits : (w n : ℕ) (least sum : ℤ) → w ≤ 1000 → n ≤ 1024 → unsigned_abs least ≤ 100_000_000_000_000_000_000
+    → unsigned_abs sum ≤ 102_400_000_000_000_000_000_000
+    → (to_z w128 w *ℤ by_bits (by_bits (to_z w128 n *ℤ by_bits least) -ℤ by_bits sum)
+    ≡ pos w *ℤ (pos n *ℤ least -ℤ sum))
+    × (unsigned_abs (pos w *ℤ (pos n *ℤ least -ℤ sum)) ≤ 204_800_000_000_000_000_000_000_000)
 gap_bits w n least sum hw hn hl hs =
     let bl = back_from_abs least (omega (arith, hl)) in
     let bs = back_from_abs sum (omega (arith, hs)) in
@@ -63,20 +74,31 @@ gap_bits w n least sum hw hn hl hs =
     let bd = back_from_abs (pos n *ℤ least -ℤ sum) (omega (arith, d)) in
     (rw (bw, bn, bl, bs, bp, bd) refl, q)
   where
-    less : (a b : ℤ) → unsigned_abs a ≤ 102_400_000_000_000_000_000_000 → unsigned_abs b ≤ 102_400_000_000_000_000_000_000 → unsigned_abs (a -ℤ b) ≤ 204_800_000_000_000_000_000_000
+    less : (a b : ℤ) → unsigned_abs a ≤ 102_400_000_000_000_000_000_000
+        → unsigned_abs b ≤ 102_400_000_000_000_000_000_000 → unsigned_abs (a -ℤ b) ≤ 204_800_000_000_000_000_000_000
     less a b h k = omega (arith, signed_arith, h, k)
 
-pub gap_fits : (w n : ℕ) (least sum : ℤ) → w ≤ 1000 → n ≤ 1024 → unsigned_abs least ≤ 100_000_000_000_000_000_000 → unsigned_abs sum ≤ 102_400_000_000_000_000_000_000 → FitsSigned w128 (to_z w128 w *ℤ by_bits (by_bits (to_z w128 n *ℤ by_bits least) -ℤ by_bits sum))
+pub gap_fits : (w n : ℕ) (least sum : ℤ) → w ≤ 1000 → n ≤ 1024 → unsigned_abs least ≤ 100_000_000_000_000_000_000
+    → unsigned_abs sum ≤ 102_400_000_000_000_000_000_000
+    → FitsSigned w128 (to_z w128 w *ℤ by_bits (by_bits (to_z w128 n *ℤ by_bits least) -ℤ by_bits sum))
 gap_fits w n least sum hw hn hl hs =
     let g = gap_bits w n least sum hw hn hl hs in
     rw g.0 (fits_signed_from_abs w128 (pos w *ℤ (pos n *ℤ least -ℤ sum)) (omega (arith, g.1)))
 
-pub gap_is : (w n : ℕ) (least sum : ℤ) → w ≤ 1000 → n ≤ 1024 → unsigned_abs least ≤ 100_000_000_000_000_000_000 → unsigned_abs sum ≤ 102_400_000_000_000_000_000_000 → (by_bits (to_z w128 w *ℤ by_bits (by_bits (to_z w128 n *ℤ by_bits least) -ℤ by_bits sum)) ≡ pos w *ℤ (pos n *ℤ least -ℤ sum)) × (unsigned_abs (pos w *ℤ (pos n *ℤ least -ℤ sum)) ≤ 204_800_000_000_000_000_000_000_000)
+pub gap_is : (w n : ℕ) (least sum : ℤ) → w ≤ 1000 → n ≤ 1024 → unsigned_abs least ≤ 100_000_000_000_000_000_000
+    → unsigned_abs sum ≤ 102_400_000_000_000_000_000_000
+    → (by_bits (to_z w128 w *ℤ by_bits (by_bits (to_z w128 n *ℤ by_bits least) -ℤ by_bits sum))
+    ≡ pos w *ℤ (pos n *ℤ least -ℤ sum))
+    × (unsigned_abs (pos w *ℤ (pos n *ℤ least -ℤ sum)) ≤ 204_800_000_000_000_000_000_000_000)
 gap_is w n least sum hw hn hl hs =
     let g = gap_bits w n least sum hw hn hl hs in
     (rw g.0 (back_from_abs (pos w *ℤ (pos n *ℤ least -ℤ sum)) (omega (arith, g.1))), g.1)
 
-pub fraction_is : (a : ℕ) (s p : ℤ) → a ≤ 1_000_000 → unsigned_abs s ≤ 102_400_000_000_000_000_000_000 → unsigned_abs p ≤ 204_800_000_000_000_000_000_000_000 → (by_bits (by_bits (to_z w128 (1000 * a) *ℤ by_bits s) +ℤ by_bits (to_z w128 (1_000_000 - a) *ℤ by_bits p)) ≡ pos (1000 * a) *ℤ s +ℤ pos (1_000_000 - a) *ℤ p) × (unsigned_abs (pos (1000 * a) *ℤ s +ℤ pos (1_000_000 - a) *ℤ p) ≤ 10_000_000_000_000_000_000_000_000_000_000_000)
+pub fraction_is : (a : ℕ) (s p : ℤ) → a ≤ 1_000_000 → unsigned_abs s ≤ 102_400_000_000_000_000_000_000
+    → unsigned_abs p ≤ 204_800_000_000_000_000_000_000_000
+    → (by_bits (by_bits (to_z w128 (1000 * a) *ℤ by_bits s) +ℤ by_bits (to_z w128 (1_000_000 - a) *ℤ by_bits p))
+    ≡ pos (1000 * a) *ℤ s +ℤ pos (1_000_000 - a) *ℤ p)
+    × (unsigned_abs (pos (1000 * a) *ℤ s +ℤ pos (1_000_000 - a) *ℤ p) ≤ 10_000_000_000_000_000_000_000_000_000_000_000)
 fraction_is a s p ha hs hp =
     let bs = back_from_abs s (omega (arith, hs)) in
     let bp = back_from_abs p (omega (arith, hp)) in
@@ -103,11 +125,20 @@ pub tail_part-none : (n : ℕ) (f : ℕ → ℤ) (tail : Option Tail) → tail �
 unfolding tail_part
 tail_part-none n f tail e = rw e refl
 
-pub tail_part-some : (n m : ℕ) (f : ℕ → ℤ) (tail : Option Tail) (x : Tail) (least sum r : ℤ) → tail ≡ Some x → n ≡ m → least ≡ least_over f x.places → sum ≡ sum_below m (λ k. f (k + 1)) → r ≡ pos x.weight *ℤ (pos n *ℤ least -ℤ sum) → r ≡ tail_part m f tail
+pub tail_part-some : (n m : ℕ) (f : ℕ → ℤ) (tail : Option Tail) (x : Tail) (least sum r : ℤ) → tail ≡ Some x → n ≡ m
+    → least ≡ least_over f x.places → sum ≡ sum_below m (λ k. f (k + 1)) → r ≡ pos x.weight *ℤ (pos n *ℤ least -ℤ sum)
+    → r ≡ tail_part m f tail
 unfolding tail_part
 tail_part-some n m f tail x least sum r e en el es er = rw (e, er, en, el, es) refl
 
-pub term_is : (inst : Tables) (tail : Option Tail) (i s t a n : ℕ) (sum part fraction q : ℤ) → a ≡ inst.alpha → n ≡ scenarios_of inst t → n ≤ 1024 → sum ≡ sum_below (scenarios_of inst t) (λ k. risk_of inst i s t (k + 1)) → unsigned_abs sum ≤ 102_400_000_000_000_000_000_000 → part ≡ tail_part (scenarios_of inst t) (risk_of inst i s t) tail → unsigned_abs part ≤ 204_800_000_000_000_000_000_000_000 → fraction ≡ (pos (1000 * a) *ℤ by_bits sum) +ℤ (pos (1_000_000 - a) *ℤ by_bits part) → unsigned_abs fraction ≤ 10_000_000_000_000_000_000_000_000_000_000_000 → q ≡ floor_quotient (by_bits fraction) (to_z w128 (1000 * n)) → q ≡ term_of inst tail i s t
+pub term_is : (inst : Tables) (tail : Option Tail) (i s t a n : ℕ) (sum part fraction q : ℤ) → a ≡ inst.alpha
+    → n ≡ scenarios_of inst t → n ≤ 1024 → sum ≡ sum_below (scenarios_of inst t) (λ k. risk_of inst i s t (k + 1))
+    → unsigned_abs sum ≤ 102_400_000_000_000_000_000_000
+    → part ≡ tail_part (scenarios_of inst t) (risk_of inst i s t) tail
+    → unsigned_abs part ≤ 204_800_000_000_000_000_000_000_000
+    → fraction ≡ (pos (1000 * a) *ℤ by_bits sum) +ℤ (pos (1_000_000 - a) *ℤ by_bits part)
+    → unsigned_abs fraction ≤ 10_000_000_000_000_000_000_000_000_000_000_000
+    → q ≡ floor_quotient (by_bits fraction) (to_z w128 (1000 * n)) → q ≡ term_of inst tail i s t
 unfolding term_of weighed
 term_is inst tail i s t a n sum part fraction q ea en few es ss ep sp ef sf eq =
     let bs = back_from_abs sum (omega (arith, ss)) in
@@ -121,7 +152,8 @@ floor_within z k b some h =
     let f = floor_of z k in
     let p = int_div_euclid-parts z k some in
     let s = sides z (k * b) h in
-    size f b (at_most_from_scaled (up f) (b + down f) k (omega (arith, p, s))) (at_most_from_scaled (down f) (b + up f) k (omega (arith, p, s)))
+    size f b (at_most_from_scaled (up f) (b + down f) k (omega (arith, p, s)))
+    (at_most_from_scaled (down f) (b + up f) k (omega (arith, p, s)))
   where
     sides : (z : ℤ) (m : ℕ) → unsigned_abs z ≤ m → (up z ≤ m) × (down z ≤ m)
     sides (pos n) m h = (omega (arith, h), omega arith)
@@ -131,40 +163,52 @@ floor_within z k b some h =
     size (pos n) b h k = omega (arith, h, k)
     size (negsuc n) b h k = omega (arith, h, k)
 
-least_over_small : (f : ℕ → ℤ) (m : ℕ) (ks : List ℕ) → ((k : ℕ) → unsigned_abs (f k) ≤ m) → unsigned_abs (least_over f ks) ≤ m
+least_over_small : (f : ℕ → ℤ) (m : ℕ) (ks : List ℕ) → ((k : ℕ) → unsigned_abs (f k) ≤ m)
+    → unsigned_abs (least_over f ks) ≤ m
 unfolding least_over
 least_over_small f m [] h = omega arith
 least_over_small f m (k ∷ ks) h = let w = least_over_reached f (k ∷ ks) (omega arith) in rw w.2 (h w.0)
 
 -- m bounds each number: n * m bounds the sum of n, and 2000 times that a tail's part
-tail_part_small : (n m : ℕ) (f : ℕ → ℤ) (tail : Option Tail) → ((k : ℕ) → unsigned_abs (f k) ≤ m) → ((x : Tail) → tail ≡ Some x → x.weight ≤ 1000) → unsigned_abs (tail_part n f tail) ≤ 1000 * (2 * (n * m))
+tail_part_small : (n m : ℕ) (f : ℕ → ℤ) (tail : Option Tail) → ((k : ℕ) → unsigned_abs (f k) ≤ m)
+    → ((x : Tail) → tail ≡ Some x → x.weight ≤ 1000) → unsigned_abs (tail_part n f tail) ≤ 1000 * (2 * (n * m))
 unfolding tail_part
 tail_part_small n m f None h w = omega arith
 tail_part_small n m f (Some tail) h w =
     let s = sum_below-within n m (λ k. f (k + 1)) (λ k l. h (k + 1)) in
     let p = abs-product (pos n) (least_over f tail.places) n m (omega arith) (least_over_small f m tail.places h) in
-    abs-product (pos tail.weight) (pos n *ℤ least_over f tail.places -ℤ sum_below n (λ k. f (k + 1))) 1000 (2 * (n * m)) (w tail refl) (less (pos n *ℤ least_over f tail.places) (sum_below n (λ k. f (k + 1))) (n * m) p s)
+    abs-product (pos tail.weight) (pos n *ℤ least_over f tail.places -ℤ sum_below n (λ k. f (k + 1))) 1000 (2 * (n * m))
+    (w tail refl) (less (pos n *ℤ least_over f tail.places) (sum_below n (λ k. f (k + 1))) (n * m) p s)
   where
     less : (a b : ℤ) (m : ℕ) → unsigned_abs a ≤ m → unsigned_abs b ≤ m → unsigned_abs (a -ℤ b) ≤ 2 * m
     less a b m h k = omega (arith, signed_arith, h, k)
 
-weighed_small : (alpha n m : ℕ) (f : ℕ → ℤ) (tail : Option Tail) → alpha ≤ 1_000_000 → ((k : ℕ) → unsigned_abs (f k) ≤ m) → ((x : Tail) → tail ≡ Some x → x.weight ≤ 1000) → unsigned_abs (weighed alpha n f tail) ≤ 3_000_000_000 * (n * m)
+weighed_small : (alpha n m : ℕ) (f : ℕ → ℤ) (tail : Option Tail) → alpha ≤ 1_000_000
+    → ((k : ℕ) → unsigned_abs (f k) ≤ m) → ((x : Tail) → tail ≡ Some x → x.weight ≤ 1000)
+    → unsigned_abs (weighed alpha n f tail) ≤ 3_000_000_000 * (n * m)
 unfolding weighed
 weighed_small alpha n m f tail ha h w =
     let s = sum_below-within n m (λ k. f (k + 1)) (λ k l. h (k + 1)) in
     let p = tail_part_small n m f tail h w in
-    let x = abs-product (pos (1000 * alpha)) (sum_below n (λ k. f (k + 1))) 1_000_000_000 (n * m) (omega (arith, ha)) s in
-    let y = abs-product (pos (1_000_000 - alpha)) (tail_part n f tail) 1_000_000 (1000 * (2 * (n * m))) (omega arith) p in
-    let t = abs-sum (pos (1000 * alpha) *ℤ sum_below n (λ k. f (k + 1))) (pos (1_000_000 - alpha) *ℤ tail_part n f tail) in
+    let x = abs-product (pos (1000 * alpha)) (sum_below n (λ k. f (k + 1))) 1_000_000_000 (n * m)
+    (omega (arith, ha)) s in
+    let y =
+    abs-product (pos (1_000_000 - alpha)) (tail_part n f tail) 1_000_000 (1000 * (2 * (n * m))) (omega arith) p in
+    let t =
+    abs-sum (pos (1000 * alpha) *ℤ sum_below n (λ k. f (k + 1))) (pos (1_000_000 - alpha) *ℤ tail_part n f tail) in
     omega (arith, x, y, t)
 
-pub term_of_small : (inst : Tables) (tail : Option Tail) (i s t : ℕ) → IsFitting inst → 1 ≤ t → t ≤ inst.periods → ((x : Tail) → tail ≡ Some x → x.weight ≤ 1000) → unsigned_abs (term_of inst tail i s t) ≤ 300_000_000_000_000_000_000_000_000
+pub term_of_small : (inst : Tables) (tail : Option Tail) (i s t : ℕ) → IsFitting inst → 1 ≤ t → t ≤ inst.periods
+    → ((x : Tail) → tail ≡ Some x → x.weight ≤ 1000)
+    → unsigned_abs (term_of inst tail i s t) ≤ 300_000_000_000_000_000_000_000_000
 unfolding term_of
 term_of_small inst tail i s t fit one few w =
     let n = scenarios_of inst t in
     let some = scenarios_of_small inst t fit one few in
-    let z = weighed_small inst.alpha n 100_000_000_000_000_000_000 (risk_of inst i s t) tail fit.alpha (λ k. weaken (unsigned_abs (risk_of inst i s t k)) (risk_of_small inst i s t k fit)) w in
-    floor_within (weighed inst.alpha n (risk_of inst i s t) tail) (1000 * n) 300_000_000_000_000_000_000_000_000 (omega (arith, some)) (omega (arith, z))
+    let z = weighed_small inst.alpha n 100_000_000_000_000_000_000 (risk_of inst i s t) tail fit.alpha
+    (λ k. weaken (unsigned_abs (risk_of inst i s t k)) (risk_of_small inst i s t k fit)) w in
+    floor_within (weighed inst.alpha n (risk_of inst i s t) tail) (1000 * n) 300_000_000_000_000_000_000_000_000
+    (omega (arith, some)) (omega (arith, z))
   where
     weaken : (n : ℕ) → n < 100_000_000_000_000_000_000 → n ≤ 100_000_000_000_000_000_000
     weaken n h = omega (arith, h)
@@ -175,19 +219,22 @@ term_of_small inst tail i s t fit one few w =
 abbrev pub share_at : Tables → (ℕ → Option Tail) → ℕ → ℕ → ℕ → ℤ
 share_at inst tails i s u = cond (in_run inst i s (u + 1)) (term_of inst (tails (u + 1)) i s (u + 1)) (pos 0)
 
-pub share_running : (inst : Tables) (tails : ℕ → Option Tail) (tail : Option Tail) (i s t : ℕ) (r : ℤ) → 1 ≤ t → in_run inst i s t ≡ true → tail ≡ tails t → r ≡ term_of inst tail i s t → r ≡ share_at inst tails i s (t - 1)
+pub share_running : (inst : Tables) (tails : ℕ → Option Tail) (tail : Option Tail) (i s t : ℕ) (r : ℤ) → 1 ≤ t
+    → in_run inst i s t ≡ true → tail ≡ tails t → r ≡ term_of inst tail i s t → r ≡ share_at inst tails i s (t - 1)
 share_running inst tails tail i s t r some h e d =
     let back : t - 1 + 1 ≡ t = omega (arith, some) in
     d ∙ ap (λ (x : Option Tail). term_of inst x i s t) e ∙ sym (rw (back, h) refl)
 
-pub share_idle : (inst : Tables) (tails : ℕ → Option Tail) (i s u : ℕ) → in_run inst i s (u + 1) ≡ false → share_at inst tails i s u ≡ pos 0
+pub share_idle : (inst : Tables) (tails : ℕ → Option Tail) (i s u : ℕ) → in_run inst i s (u + 1) ≡ false
+    → share_at inst tails i s u ≡ pos 0
 share_idle inst tails i s u h = rw h refl
 
 -- a sum of nothing, and one behind which nothing comes
 pub sum_below-idle : (n : ℕ) (f : ℕ → ℤ) → ((k : ℕ) → k < n → f k ≡ pos 0) → sum_below n f ≡ pos 0
 sum_below-idle n f h = sum_below_same n f (λ k. pos 0) h ∙ sum_below-none n
 
-pub sum_below_ends : (m n : ℕ) (f : ℕ → ℤ) → m ≤ n → ((k : ℕ) → m ≤ k → k < n → f k ≡ pos 0) → sum_below m f ≡ sum_below n f
+pub sum_below_ends : (m n : ℕ) (f : ℕ → ℤ) → m ≤ n → ((k : ℕ) → m ≤ k → k < n → f k ≡ pos 0)
+    → sum_below m f ≡ sum_below n f
 sum_below_ends m n f l h = at (n - m) n (omega (arith, l)) h
   where
     none : (z : ℤ) → z ≡ z +ℤ pos 0
@@ -199,4 +246,5 @@ sum_below_ends m n f l h = at (n - m) n (omega (arith, l)) h
         let p : m + suc d ≡ suc (m + d) = omega arith in
         let ih : sum_below m f ≡ sum_below (m + d) f = at d (m + d) refl (λ k a b. h k a (omega (arith, b, e))) in
         let last : f (m + d) ≡ pos 0 = h (m + d) (omega arith) (omega (arith, e)) in
-        ih ∙ none (sum_below (m + d) f) ∙ sym (ap (λ (z : ℤ). sum_below (m + d) f +ℤ z) last) ∙ sym (sum_below-suc (m + d) f) ∙ ap (λ (j : ℕ). sum_below j f) (sym p ∙ e)
+        ih ∙ none (sum_below (m + d) f) ∙ sym (ap (λ (z : ℤ). sum_below (m + d) f +ℤ z) last)
+        ∙ sym (sum_below-suc (m + d) f) ∙ ap (λ (j : ℕ). sum_below j f) (sym p ∙ e)

@@ -1,5 +1,6 @@
 -- Price lists that are changed in one place stay in range.
-use Rattle.std.proofs.Common.{◌≡◌, ℕ, ◌-◌, ◌*◌, ◌<◌, ◌≤◌, refl, sym, ◌∙◌, subst, arith, List, [], length, get_or, set, replicate, Option, Some, None, Bool, true, false, eqb, ◌≢◌}
+use Rattle.std.proofs.Common.{◌≡◌, ℕ, ◌-◌, ◌*◌, ◌<◌, ◌≤◌, refl, sym, ◌∙◌, subst, arith, List, [], length, get_or, set}
+use Rattle.std.proofs.Common.{replicate, Option, Some, None, Bool, true, false, eqb, ◌≢◌}
 use Rattle.std.proofs.lemmas.Bool.Decides.{nat_tests}
 use Rattle.std.proofs.lemmas.List.{length-replicate, get_or-replicate, get_or-set_same, get_or-set_other}
 use Rattle.std.proofs.Math.ListN.{length-set}
@@ -26,14 +27,19 @@ zero_in_range inst =
       ex_ascend = λ i j d l h. absurd (omega (arith, h));
     }
   where
-    no_tail : (t : ℕ) → t - 1 < inst.periods → (tail : Tail) → get_or (replicate inst.periods None) (t - 1) None ≡ Some tail → ⊥
+    no_tail : (t : ℕ) → t - 1 < inst.periods → (tail : Tail)
+        → get_or (replicate inst.periods None) (t - 1) None ≡ Some tail → ⊥
     no_tail t l tail e = let none = get_or-replicate {A = Option Tail} inst.periods (t - 1) None None l in cc (none, e)
 
-pub zero_list_is : (inst : Tables) (up lo : List ℕ) (tails : List (Option Tail)) (ex : List ExPrice) → up ≡ replicate (length inst.resource_names * inst.periods) 0 → lo ≡ replicate (length inst.resource_names * inst.periods) 0 → tails ≡ replicate inst.periods None → ex ≡ [] → ◌≡◌ {A = PriceList} (record { up = up; lo = lo; tails = tails; ex = ex }) (zero_list inst)
+pub zero_list_is : (inst : Tables) (up lo : List ℕ) (tails : List (Option Tail)) (ex : List ExPrice)
+    → up ≡ replicate (length inst.resource_names * inst.periods) 0
+    → lo ≡ replicate (length inst.resource_names * inst.periods) 0 → tails ≡ replicate inst.periods None → ex ≡ []
+    → ◌≡◌ {A = PriceList} (record { up = up; lo = lo; tails = tails; ex = ex }) (zero_list inst)
 unfolding zero_list
 zero_list_is inst up lo tails ex a b c d = rw (a, b, c, d) refl
 
-pub up_in_range : (inst : Tables) (prices : PriceList) (i v : ℕ) → IsPriceList inst prices → v ≤ 1_000_000_000 → IsPriceList inst (record prices { up = set prices.up i v })
+pub up_in_range : (inst : Tables) (prices : PriceList) (i v : ℕ) → IsPriceList inst prices → v ≤ 1_000_000_000
+    → IsPriceList inst (record prices { up = set prices.up i v })
 up_in_range inst prices i v h small =
     record {
       up_each = length-set prices.up i v ∙ h.up_each;
@@ -46,7 +52,8 @@ up_in_range inst prices i v h small =
       ex_ascend = h.ex_ascend;
     }
 
-pub lo_in_range : (inst : Tables) (prices : PriceList) (i v : ℕ) → IsPriceList inst prices → v ≤ 1_000_000_000 → IsPriceList inst (record prices { lo = set prices.lo i v })
+pub lo_in_range : (inst : Tables) (prices : PriceList) (i v : ℕ) → IsPriceList inst prices → v ≤ 1_000_000_000
+    → IsPriceList inst (record prices { lo = set prices.lo i v })
 lo_in_range inst prices i v h small =
     record {
       up_each = h.up_each;
@@ -59,7 +66,9 @@ lo_in_range inst prices i v h small =
       ex_ascend = h.ex_ascend;
     }
 
-pub tail_in_range : (inst : Tables) (prices : PriceList) (t : ℕ) (tail : Option Tail) → IsPriceList inst prices → 1 ≤ t → t ≤ inst.periods → ((some : Tail) → tail ≡ Some some → IsTail inst t some) → IsPriceList inst (record prices { tails = set prices.tails (t - 1) tail })
+pub tail_in_range : (inst : Tables) (prices : PriceList) (t : ℕ) (tail : Option Tail) → IsPriceList inst prices → 1 ≤ t
+    → t ≤ inst.periods → ((some : Tail) → tail ≡ Some some → IsTail inst t some)
+    → IsPriceList inst (record prices { tails = set prices.tails (t - 1) tail })
 tail_in_range inst prices t tail h one few good =
     record {
       up_each = h.up_each;
@@ -72,13 +81,15 @@ tail_in_range inst prices t tail h one few good =
       ex_ascend = h.ex_ascend;
     }
   where
-    at : (u : ℕ) → 1 ≤ u → u ≤ inst.periods → (other : Tail) → get_or (set prices.tails (t - 1) tail) (u - 1) None ≡ Some other → (b : Bool) → eqb (u - 1) (t - 1) ≡ b → IsTail inst u other
+    at : (u : ℕ) → 1 ≤ u → u ≤ inst.periods → (other : Tail) → get_or (set prices.tails (t - 1) tail) (u - 1) None
+        ≡ Some other → (b : Bool) → eqb (u - 1) (t - 1) ≡ b → IsTail inst u other
     at u from to other e true b =
         let same : u - 1 ≡ t - 1 = grind (arith, nat_tests) in
         let period : u ≡ t = omega arith in
         let here : t - 1 < length prices.tails = omega (arith, h.tails_each) in
         let read = get_or-set_same prices.tails (t - 1) tail None here in
-        let is : tail ≡ Some other = sym read ∙ subst (λ (k : ℕ). get_or (set prices.tails (t - 1) tail) k None ≡ Some other) same e in
+        let is : tail ≡ Some other =
+        sym read ∙ subst (λ (k : ℕ). get_or (set prices.tails (t - 1) tail) k None ≡ Some other) same e in
         subst (λ (k : ℕ). IsTail inst k other) (sym period) (good other is)
     at u from to other e false b =
         let apart : u - 1 ≢ t - 1 = grind (arith, nat_tests) in

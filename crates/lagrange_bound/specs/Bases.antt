@@ -13,12 +13,15 @@ tail_part n f (Some tail) = pos tail.weight *ℤ (pos n *ℤ least_over f tail.p
 
 -- 1000 n times the weighted mean and tail, for the numbers f 1, .., f n, alpha in millionths
 unfoldable pub weighed : ℕ → ℕ → (ℕ → ℤ) → Option Tail → ℤ
-weighed alpha n f tail = (pos (1000 * alpha) *ℤ sum_below n (λ k. f (k + 1))) +ℤ (pos (1_000_000 - alpha) *ℤ tail_part n f tail)
+weighed alpha n f tail =
+    (pos (1000 * alpha) *ℤ sum_below n (λ k. f (k + 1))) +ℤ (pos (1_000_000 - alpha) *ℤ tail_part n f tail)
 
 -- the term of intervention i at start s in period t: one floor of the whole fraction
 unfoldable pub term_of : Tables → Option Tail → ℕ → ℕ → ℕ → ℤ
-term_of inst tail i s t = floor_of (weighed inst.alpha (scenarios_of inst t) (risk_of inst i s t) tail) (1000 * scenarios_of inst t)
+term_of inst tail i s t =
+    floor_of (weighed inst.alpha (scenarios_of inst t) (risk_of inst i s t) tail) (1000 * scenarios_of inst t)
 
 -- the base of a start under tails by period: the sum of its terms over its run
 unfoldable pub base_of : Tables → (ℕ → Option Tail) → ℕ → ℕ → ℤ
-base_of inst tails i s = sum_below inst.periods (λ u. if in_run inst i s (u + 1) then term_of inst (tails (u + 1)) i s (u + 1) else pos 0)
+base_of inst tails i s =
+    sum_below inst.periods (λ u. if in_run inst i s (u + 1) then term_of inst (tails (u + 1)) i s (u + 1) else pos 0)

@@ -15,5 +15,7 @@ pub record StandsAt (xs : List ExPrice) (e t k : ℕ) : Type 0 where
 -- exclusion e has no price in period t, and one belongs at k
 pub record BelongsAt (xs : List ExPrice) (e t k : ℕ) : Type 0 where
   pub within : k ≤ length xs
-  pub before : (j : ℕ) (d : ExPrice) → j < k → PairBefore (slice_index_or xs j d).exclusion (slice_index_or xs j d).period e t
-  pub after : (j : ℕ) (d : ExPrice) → k ≤ j → j < length xs → PairBefore e t (slice_index_or xs j d).exclusion (slice_index_or xs j d).period
+  pub before : (j : ℕ) (d : ExPrice) → j < k
+      → PairBefore (slice_index_or xs j d).exclusion (slice_index_or xs j d).period e t
+  pub after : (j : ℕ) (d : ExPrice) → k ≤ j → j < length xs
+      → PairBefore e t (slice_index_or xs j d).exclusion (slice_index_or xs j d).period

@@ -1,5 +1,6 @@
 -- Sums of the prices of exclusions, by intervention and period.
-use Rattle.std.specs.Prelude.{◌≡◌, ℕ, ◌+◌, ◌-◌, ◌*◌, ◌<◌, ◌≤◌, List, [], ◌∷◌, length, nat_le, ◌==◌, if◌then◌else◌, slice_index}
+use Rattle.std.specs.Prelude.{◌≡◌, ℕ, ◌+◌, ◌-◌, ◌*◌, ◌<◌, ◌≤◌, List, [], ◌∷◌, length, nat_le, ◌==◌, if◌then◌else◌}
+use Rattle.std.specs.Prelude.{slice_index}
 use Rattle.instance_model.specs.Naturals.{count_sum}
 use Rattle.instance_model.specs.Tables.{Tables, exclusion_of}
 use Rattle.lagrange_bound.specs.declared.ex_price.ExPrice.{ExPrice}
@@ -30,7 +31,8 @@ sum_place inst i t = i * inst.periods + (t - 1)
 -- the sums are those of these prices
 pub record AreExSums (inst : Tables) (xs : List ExPrice) (sums : List ℕ) : Type 0 where
   pub each : length sums ≡ length inst.names * inst.periods
-  pub at : (i t : ℕ) → i < length inst.names → 1 ≤ t → t ≤ inst.periods → slice_index sums (sum_place inst i t) ≡ ex_at inst xs i t
+  pub at : (i t : ℕ) → i < length inst.names → 1 ≤ t → t ≤ inst.periods
+      → slice_index sums (sum_place inst i t) ≡ ex_at inst xs i t
 
 -- the sums of the numbers from a place on: of none, of the first, of the first two, .., of the first n
 pub record ArePrefixes (n : ℕ) (numbers : List ℕ) (from : ℕ) (prefixes : List ℕ) : Type 0 where

@@ -19,7 +19,9 @@ PlanValue = Tables → List ℕ → ℤ
 -- the law of a goal: whatever the prices are, the bases of a plan's starts add up to at most its value
 abbrev pub BasesBoundValue : Bases → PlanValue → Type 0
 BasesBoundValue base value =
-    (inst : Tables) (prices : PriceList) (starts : List ℕ) → IsFitting inst → IsPriceList inst prices → AreAllowedStarts inst starts → sum_below (length inst.names) (λ i. base inst prices i (slice_index starts i)) ≤ℤ value inst starts
+    (inst : Tables) (prices : PriceList) (starts : List ℕ) → IsFitting inst → IsPriceList inst prices
+    → AreAllowedStarts inst starts
+    → sum_below (length inst.names) (λ i. base inst prices i (slice_index starts i)) ≤ℤ value inst starts
 
 -- the bases of the goal of the score
 abbrev pub risk_base : Bases

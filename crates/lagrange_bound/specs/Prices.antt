@@ -1,6 +1,7 @@
 -- Price lists: two prices for each resource and period, one on its upper and one on its lower limit, a tail or none for
 -- each period, and prices on exclusions in periods of their seasons.
-use Rattle.std.specs.Prelude.{◌≡◌, ℕ, ◌+◌, ◌-◌, ◌*◌, ◌<◌, ◌≤◌, Bool, ◌&&◌, List, [], ◌∷◌, length, Option, Some, None, All, AllPairs, IsTrue, ◌⊎◌, slice_index, slice_index_or, ◌==◌, if◌then◌else◌, replicate}
+use Rattle.std.specs.Prelude.{◌≡◌, ℕ, ◌+◌, ◌-◌, ◌*◌, ◌<◌, ◌≤◌, Bool, ◌&&◌, List, [], ◌∷◌, length, Option, Some, None}
+use Rattle.std.specs.Prelude.{All, AllPairs, IsTrue, ◌⊎◌, slice_index, slice_index_or, ◌==◌, if◌then◌else◌, replicate}
 use Rattle.std.specs.List.{AllByRecursion}
 use Rattle.instance_model.specs.Tables.{Tables, scenarios_of, rank_of, in_season_of, exclusion_of}
 use Rattle.lagrange_bound.specs.declared.tail.Tail.{Tail}
@@ -37,7 +38,8 @@ ex_of (x ∷ xs) e t = if is_price_of e t x then x.value else ex_of xs e t
 
 -- ---- in range
 
--- a tail that period t may have: a weight in thousandths, and at least n - k + 1 of its n scenarios, where k is the rank of the quantile
+-- a tail that period t may have: a weight in thousandths, and at least n - k + 1 of its n
+-- scenarios, where k is the rank of the quantile
 pub record IsTail (inst : Tables) (t : ℕ) (tail : Tail) : Type 0 where
   pub some_weight : 1 ≤ tail.weight
   pub weight : tail.weight ≤ 1000

@@ -1,5 +1,7 @@
--- Prices as a table: one entry per intervention and start from 1 to tmax, and what the prices add whatever the starts are.
-use Rattle.std.specs.Prelude.{◌≡◌, ℕ, ◌+◌, ◌-◌, ◌<◌, ◌≤◌, ℤ, pos, ◌+ℤ◌, List, [], length, map, filter, Option, Some, None, is_some, unwrap_or, slice_index_or, if◌then◌else◌}
+-- Prices as a table: one entry per intervention and start from 1 to tmax, and
+-- what the prices add whatever the starts are.
+use Rattle.std.specs.Prelude.{◌≡◌, ℕ, ◌+◌, ◌-◌, ◌<◌, ◌≤◌, ℤ, pos, ◌+ℤ◌, List, [], length, map, filter, Option, Some}
+use Rattle.std.specs.Prelude.{None, is_some, unwrap_or, slice_index_or, if◌then◌else◌}
 use Rattle.std.specs.List.{range_with_len}
 use Rattle.fixed_num.specs.Sums.{sum_below}
 use Rattle.instance_model.specs.Tables.{Tables, tmax, is_allowed}
@@ -51,4 +53,5 @@ pub record IsPricedBox (table : PriceRows) (box : List Span) : Type 0 where
 
 -- the least price of each interval, and the part that is fixed
 unfoldable pub worth_in : PriceRows → List Span → ℤ
-worth_in table box = sum_below (length table.rows) (λ i. least_over (λ s. unwrap_or (entry_of table i s) (pos 0)) (priced_in table i (span_of box i))) +ℤ table.fixed
+worth_in table box = sum_below (length table.rows) (λ i. least_over (λ s. unwrap_or (entry_of table i s) (pos 0))
+    (priced_in table i (span_of box i))) +ℤ table.fixed

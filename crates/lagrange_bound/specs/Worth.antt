@@ -1,5 +1,6 @@
 -- The price of a start and the worth of a box, for bases by intervention and start.
-use Rattle.std.specs.Prelude.{ℕ, ◌+◌, ◌*◌, ℤ, pos, ◌+ℤ◌, ◌-ℤ◌, ◌*ℤ◌, ◌≤ℤ◌, List, [], ◌∷◌, length, Some, ◌==◌, if◌then◌else◌}
+use Rattle.std.specs.Prelude.{ℕ, ◌+◌, ◌*◌, ℤ, pos, ◌+ℤ◌, ◌-ℤ◌, ◌*ℤ◌, ◌≤ℤ◌, List, [], ◌∷◌, length, Some, ◌==◌}
+use Rattle.std.specs.Prelude.{if◌then◌else◌}
 use Rattle.fixed_num.specs.Sums.{sum_below}
 use Rattle.instance_model.specs.declared.parts.Exclusion.{Exclusion}
 use Rattle.instance_model.specs.Tables.{Tables, in_run, upper_of, lower_of, exclusion_of}
@@ -32,31 +33,38 @@ ex_total (x ∷ xs) = x.value + ex_total xs
 
 -- what the prices on the limits of resource c in period t add at a start
 abbrev pub band_share : Tables → PriceList → ℕ → ℕ → ℕ → ℕ → ℤ
-band_share inst prices i s c t = (pos (up_of inst prices c t) -ℤ pos (lo_of inst prices c t)) *ℤ load_at inst c t i (Some s)
+band_share inst prices i s c t =
+    (pos (up_of inst prices c t) -ℤ pos (lo_of inst prices c t)) *ℤ load_at inst c t i (Some s)
 
 -- what all of them add
 unfoldable pub band_part : Tables → PriceList → ℕ → ℕ → ℤ
-band_part inst prices i s = sum_below (length inst.resource_names) (λ c. sum_below inst.periods (λ u. band_share inst prices i s c (u + 1)))
+band_part inst prices i s =
+    sum_below (length inst.resource_names) (λ c. sum_below inst.periods (λ u. band_share inst prices i s c (u + 1)))
 
 -- the price of a start
 unfoldable pub price_of : (ℕ → ℕ → ℤ) → Tables → PriceList → ℕ → ℕ → ℤ
-price_of base inst prices i s = (base i s +ℤ band_part inst prices i s) +ℤ pos (1_000_000_000_000 * ex_part inst prices.ex i s)
+price_of base inst prices i s =
+    (base i s +ℤ band_part inst prices i s) +ℤ pos (1_000_000_000_000 * ex_part inst prices.ex i s)
 
 -- what the limits of resource c in period t are worth
 abbrev pub limit_share : Tables → PriceList → ℕ → ℕ → ℤ
-limit_share inst prices c t = (pos (lo_of inst prices c t) *ℤ lower_of inst c t) -ℤ (pos (up_of inst prices c t) *ℤ upper_of inst c t)
+limit_share inst prices c t =
+    (pos (lo_of inst prices c t) *ℤ lower_of inst c t) -ℤ (pos (up_of inst prices c t) *ℤ upper_of inst c t)
 
 -- what the prices add whatever the starts are
 unfoldable pub fixed_part : Tables → PriceList → ℤ
 fixed_part inst prices =
-    sum_below (length inst.resource_names) (λ c. sum_below inst.periods (λ u. limit_share inst prices c (u + 1))) -ℤ pos (1_000_000_000_000 * ex_total prices.ex)
+    sum_below (length inst.resource_names) (λ c. sum_below inst.periods (λ u. limit_share inst prices c (u + 1)))
+    -ℤ pos (1_000_000_000_000 * ex_total prices.ex)
 
 -- the worth of a box: the least price of each interval, and what the prices add whatever the starts are
 unfoldable pub worth_of : (ℕ → ℕ → ℤ) → Tables → PriceList → List Span → ℤ
 worth_of base inst prices box =
-    sum_below (length inst.names) (λ i. least_over (price_of base inst prices i) (starts_in inst i (span_of box i))) +ℤ fixed_part inst prices
+    sum_below (length inst.names) (λ i. least_over (price_of base inst prices i) (starts_in inst i (span_of box i)))
+    +ℤ fixed_part inst prices
 
 -- weak duality: no feasible plan in a box has a value below the worth of the box, whatever the prices are
 abbrev pub WorthBoundsPlans : Bases → PlanValue → Type 0
 WorthBoundsPlans base value =
-    (inst : Tables) (prices : PriceList) (box : List Span) (starts : List ℕ) → IsFitting inst → IsPriceList inst prices → IsPlanIn inst box starts → worth_of (base inst prices) inst prices box ≤ℤ value inst starts
+    (inst : Tables) (prices : PriceList) (box : List Span) (starts : List ℕ) → IsFitting inst → IsPriceList inst prices
+    → IsPlanIn inst box starts → worth_of (base inst prices) inst prices box ≤ℤ value inst starts

@@ -1,5 +1,6 @@
 //! Prices of exclusions in strict order: where one stands or belongs, and changes at a place.
-ghost use Rattle.std.specs.Prelude.{◌≡◌, ◌≤◌, ◌<◌, ◌↔◌, ◌&&◌, ◌==◌, not, length, vec_len, IfOk, IfErr, IsOk, IsTrue, is_ok, AllPairs, slice_set, if◌then◌else◌};
+ghost use Rattle.std.specs.Prelude.{◌≡◌, ◌≤◌, ◌<◌, ◌↔◌, ◌&&◌, ◌==◌, not, length, vec_len, IfOk, IfErr, IsOk, IsTrue};
+ghost use Rattle.std.specs.Prelude.{is_ok, AllPairs, slice_set, if◌then◌else◌};
 ghost use Rattle.std.specs.List.{insert, remove};
 ghost use Rattle.lagrange_bound.specs.Prices.{ExBefore};
 ghost use Rattle.lagrange_bound.specs.ExLists.{PairBefore, StandsAt, BelongsAt};
@@ -14,7 +15,8 @@ fn is_before(d: u32, u: u32, e: u32, t: u32) -> bool
     d < e || (d == e && u < t)
 }
 
-/// The place of the price of exclusion `e` in period `t`, or, where there is none, the place where it belongs. By bisection.
+/// The place of the price of exclusion `e` in period `t`, or, where there is none,
+/// the place where it belongs. By bisection.
 pub(crate) fn ex_place(ex: &[ExPrice], e: u32, t: u32) -> Result<usize, usize>
     requires { AllPairs ExBefore ex.now }
     ensures found { IfOk result (StandsAt ex.now e t) }
@@ -53,7 +55,8 @@ pub(crate) fn replace_at(ex: &mut Vec<ExPrice>, place: usize, x: ExPrice)
 /// Inserts a price that isn't 0.
 pub(crate) fn insert_at(ex: &mut Vec<ExPrice>, place: usize, x: ExPrice) -> Result<(), AllocError>
     requires { place ≤ vec_len ex.old }
-    ensures inserted { ex.new.items ≡ (if is_ok result && not (x.value == 0) then insert ex.old.items place x else ex.old.items) }
+    ensures inserted { ex.new.items
+        ≡ (if is_ok result && not (x.value == 0) then insert ex.old.items place x else ex.old.items) }
     ensures zero { x.value ≡ 0 → IsOk result }
 {
     if x.value != 0 {

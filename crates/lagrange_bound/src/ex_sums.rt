@@ -23,7 +23,8 @@ fn add_price(inst: &Instance, sums: &mut [u64], x: ExPrice)
     requires each { length sums.old ≡ length inst.now.names * inst.now.periods }
     requires small { (k : ℕ) → slice_index sums.old k ≤ 2 ^ 62 }
     ensures added { (i t : ℕ) → i < length inst.now.names → 1 ≤ t → t ≤ inst.now.periods →
-        slice_index sums.new (sum_place inst.now i t) ≡ slice_index sums.old (sum_place inst.now i t) + value_at inst.now x i t }
+        slice_index sums.new (sum_place inst.now i t) ≡ slice_index sums.old (sum_place inst.now i t)
+        + value_at inst.now x i t }
     ensures grown { (k : ℕ) → slice_index sums.new k ≤ slice_index sums.old k + 2_000_000_000 }
 {
     let exclusion = inst.exclusion(x.exclusion);

@@ -9,7 +9,8 @@ use crate::Prices;
 use instance_model::Instance;
 use std::alloc::{AllocError, Global};
 
-/// What plans are to make small: a value for each plan, and for each price list the share of it that a start has at least.
+/// What plans are to make small: a value for each plan, and for each price list
+/// the share of it that a start has at least.
 pub trait Goal {
     /// The base of each start under each price list.
     ghost base_gives: { Self → Bases };

@@ -1,4 +1,4 @@
-// What prices prove.
+//! What prices prove.
 ghost use Rattle.lagrange_bound.specs.Worth.{WorthBoundsPlans};
 
 use crate::Goal;

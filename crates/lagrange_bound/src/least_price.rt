@@ -1,5 +1,6 @@
 //! The least price over an interval of starts.
-ghost use Rattle.std.specs.Prelude.{◌≡◌, ℕ, ◌<◌, ◌≤◌, ◌-◌, ◌*◌, ◌^◌, length, pos, None, unsigned_abs, unwrap_or, slice_index_or};
+ghost use Rattle.std.specs.Prelude.{◌≡◌, ℕ, ◌<◌, ◌≤◌, ◌-◌, ◌*◌, ◌^◌, length, pos, None, unsigned_abs, unwrap_or};
+ghost use Rattle.std.specs.Prelude.{slice_index_or};
 ghost use Rattle.lagrange_bound.specs.Lesser.{lesser_of, least_entry, IsSmallPrice};
 
 use crate::Span;
@@ -26,7 +27,8 @@ pub(crate) fn least_price(row: &[Option<i128>], span: Span) -> i128
     requires from { 1 ≤ span.from }
     requires to { span.to ≤ length row.now }
     requires small { (k : ℕ) → IsSmallPrice (slice_index_or row.now k None) }
-    ensures value { result ≡ unwrap_or (least_entry (λ k. slice_index_or row.now k None) (span.from - 1) (span.to - (span.from - 1))) (pos 0) }
+    ensures value { result ≡ unwrap_or (least_entry (λ k. slice_index_or row.now k None) (span.from - 1)
+        (span.to - (span.from - 1))) (pos 0) }
     ensures small { unsigned_abs result < 2_000_000_000_000_000_000_000_000_000_000_000 }
 {
     let mut best = None;

@@ -73,7 +73,8 @@ pub(crate) fn price_rows<G: Goal>(
 ) -> Result<Vec<Vec<Option<i128>>>, AllocError>
     requires { IsPriceList inst.now prices.now }
     ensures value { IfOk result (λ rows. map (λ row. row.items) rows.items
-        ≡ map (price_row_of (G.base_gives goal.now inst.now prices.now) inst.now prices.now) (range_with_len 0 (length inst.now.names))) }
+        ≡ map (price_row_of (G.base_gives goal.now inst.now prices.now) inst.now prices.now)
+        (range_with_len 0 (length inst.now.names))) }
     ensures small { IfOk result (λ rows. (i k : ℕ) →
         IsSmallPrice (slice_index_or (slice_index_or (map (λ row. row.items) rows.items) i []) k None)) }
 {

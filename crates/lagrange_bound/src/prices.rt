@@ -1,5 +1,6 @@
 //! A price list: contracts see the prices by place, as `PriceList`.
-ghost use Rattle.std.specs.Prelude.{◌≡◌, ◌≤◌, ◌<◌, ◌+◌, ◌-◌, ◌*◌, length, IfOk, OnOk, OnErr, IsOk, IsSomeAnd, option_map, Some, None, replicate};
+ghost use Rattle.std.specs.Prelude.{◌≡◌, ◌≤◌, ◌<◌, ◌+◌, ◌-◌, ◌*◌, length, IfOk, OnOk, OnErr, IsOk, IsSomeAnd};
+ghost use Rattle.std.specs.Prelude.{option_map, Some, None, replicate};
 ghost use Rattle.instance_model.specs.Tables.{Tables};
 ghost use Rattle.lagrange_bound.specs.Prices.{IsPriceList, IsTail, zero_list, up_of, lo_of, tail_of, ex_of};
 ghost use Rattle.lagrange_bound.specs.Changes.{with_up, with_lo, with_tail, IsExSet, IsBandPlace, IsExPlace};
@@ -130,7 +131,8 @@ impl Prices {
         self.tails[t as usize - 1] = tail;
     }
 
-    /// Sets the price of exclusion `e` in period `t`, which belongs to its season. A list that is refused is left as it was.
+    /// Sets the price of exclusion `e` in period `t`, which belongs to its season. A
+    /// list that is refused is left as it was.
     pub fn set_ex(&mut self, inst: &Instance, e: u32, t: u32, v: u32) -> Result<(), AllocError>
         requires prices { IsPriceList inst.now self.old }
         requires place { IsExPlace inst.now e t }

@@ -18,8 +18,8 @@ use std::marker::Model;
 
 /// The prices of all allowed starts, and what the prices add whatever the starts are.
 ///
-/// Seen as one entry per intervention and start from 1 to tmax, the price or nothing where the start isn't allowed, beside
-/// one number.
+/// Seen as one entry per intervention and start from 1 to tmax, the price or nothing where
+/// the start isn't allowed, beside one number.
 #[derive(Drop)]
 pub struct PriceTable {
     rows: Vec<Vec<Option<i128>>>,

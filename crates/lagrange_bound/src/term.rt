@@ -1,5 +1,6 @@
 //! What one period of a run adds to the base of a start.
-ghost use Rattle.std.specs.Prelude.{◌≡◌, ℕ, ◌+◌, ◌-◌, ◌*◌, ◌^◌, ◌<◌, ◌≤◌, pos, ◌+ℤ◌, ◌-ℤ◌, ◌*ℤ◌, All, Some, length, IsTrue, option_map, unsigned_abs};
+ghost use Rattle.std.specs.Prelude.{◌≡◌, ℕ, ◌+◌, ◌-◌, ◌*◌, ◌^◌, ◌<◌, ◌≤◌, pos, ◌+ℤ◌, ◌-ℤ◌, ◌*ℤ◌, All, Some, length};
+ghost use Rattle.std.specs.Prelude.{IsTrue, option_map, unsigned_abs};
 ghost use Rattle.fixed_num.specs.Sums.{sum_below};
 ghost use Rattle.instance_model.specs.Tables.{is_allowed, in_run, risk_of, scenarios_of};
 ghost use Rattle.lagrange_bound.specs.Least.{least_over};
@@ -67,7 +68,8 @@ fn weighted_gap(weight: u32, n: u32, least: i128, sum: i128) -> i128
     weight as i128 * (n as i128 * least - sum)
 }
 
-/// What a tail adds: its weight times `n` times the least over its places less the sum, for the `n` scenarios of period `t`.
+/// What a tail adds: its weight times `n` times the least over its places less the
+/// sum, for the `n` scenarios of period `t`.
 fn part_of<L: Ledger>(
     inst: &Instance,
     tail: Option<&Tail>,
@@ -85,7 +87,8 @@ fn part_of<L: Ledger>(
     requires tail { (some : _) → tail ≡ Some some → IsTail inst.now t some.now }
     requires sum { sum ≡ sum_below (scenarios_of inst.now t) (λ k. risk_of inst.now i s t (k + 1)) }
     requires small { unsigned_abs sum ≤ 1024 * 10 ^ 20 }
-    ensures value { result ≡ tail_part (scenarios_of inst.now t) (risk_of inst.now i s t) (option_map (λ tail. tail.now) tail.entry) }
+    ensures value { result
+        ≡ tail_part (scenarios_of inst.now t) (risk_of inst.now i s t) (option_map (λ tail. tail.now) tail.entry) }
     ensures small { unsigned_abs result ≤ 1000 * 2 * 1024 * 10 ^ 20 }
 {
     let Some(tail) = tail else {
@@ -95,7 +98,8 @@ fn part_of<L: Ledger>(
     weighted_gap(tail.weight, inst.scenarios(t), least, sum)
 }
 
-/// The sum weighted by `alpha` in millionths, and a tail's part by the rest, a thousand times where the part counts thousandths.
+/// The sum weighted by `alpha` in millionths, and a tail's part by the rest, a
+/// thousand times where the part counts thousandths.
 fn fraction_of(alpha: u32, sum: i128, part: i128) -> i128
     requires alpha { alpha ≤ 1_000_000 }
     requires sum { unsigned_abs sum ≤ 1024 * 10 ^ 20 }

@@ -1,5 +1,6 @@
 -- Which fault a text has that spells no script: that of its first line with one. Lines count from 1.
-use Rattle.std.specs.Prelude.{◌≡◌, ◌≢◌, ◌⊎◌, ℕ, ◌-◌, ◌<◌, ◌≤◌, List, [], length, codes, Contains, slice_index_or, Result, Err}
+use Rattle.std.specs.Prelude.{◌≡◌, ◌≢◌, ◌⊎◌, ℕ, ◌-◌, ◌<◌, ◌≤◌, List, [], length, codes, Contains, slice_index_or}
+use Rattle.std.specs.Prelude.{Result, Err}
 use Rattle.text_lines.specs.Lines.{lines_of}
 use Rattle.plan_moves.specs.declared.script_line.ScriptLine.{ScriptLine}
 use Rattle.move_script.specs.declared.fault.ScriptFault.{ScriptFault}
@@ -8,7 +9,8 @@ use Rattle.move_script.specs.Spelling.{MovesTo, Exchanges, Spells}
 
 -- the line is a move or a swap that has the name
 abbrev pub Names : List ℕ → List ℕ → Type 0
-Names line name = ((start : ℕ) × MovesTo line name start) ⊎ ((other : List ℕ) × (Exchanges line name other ⊎ Exchanges line other name))
+Names line name = ((start : ℕ) × MovesTo line name start)
+    ⊎ ((other : List ℕ) × (Exchanges line name other ⊎ Exchanges line other name))
 
 -- the line has none of the three forms
 pub record IsBadLine (line : List ℕ) : Type 0 where

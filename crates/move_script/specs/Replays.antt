@@ -1,5 +1,6 @@
 -- What a replay says, and where it fails.
-use Rattle.std.specs.Prelude.{◌≡◌, ◌≢◌, ℕ, ◌+◌, ◌-◌, ◌<◌, ⊤, List, [], ◌∷◌, ◌++◌, length, take, slice_index_or, codes, decimal, Result, Ok, Err}
+use Rattle.std.specs.Prelude.{◌≡◌, ◌≢◌, ℕ, ◌+◌, ◌-◌, ◌<◌, ⊤, List, [], ◌∷◌, ◌++◌, length, take, slice_index_or, codes}
+use Rattle.std.specs.Prelude.{decimal, Result, Ok, Err}
 use Rattle.std.specs.Fmt.{signed_decimal}
 use Rattle.plan_desk.specs.Desk.{Shown, ShowsSame, after_say}
 use Rattle.instance_model.specs.Tables.{Tables}
@@ -10,9 +11,11 @@ use Rattle.plan_moves.specs.Scripts.{keys_of, FailsAt}
 use Rattle.move_script.specs.declared.replay_fault.ReplayFault.{ReplayFault}
 use Rattle.move_script.specs.declared.replay_fault.ReplayFault.TheVariants.{NotAllowed, NothingToUndo, Failed, Memory}
 
--- the line that is said of a key: the number of the script's line, 0 for the opening, the violation in counts and the score
+-- the line that is said of a key: the number of the script's line, 0 for the
+-- opening, the violation in counts and the score
 abbrev pub key_line : ℕ → Key → List ℕ
-key_line n key = decimal n ++ codes " " ++ signed_decimal key.violation ++ codes " " ++ signed_decimal key.score ++ codes "\n"
+key_line n key =
+    decimal n ++ codes " " ++ signed_decimal key.violation ++ codes " " ++ signed_decimal key.score ++ codes "\n"
 
 -- the lines of keys, numbered from n
 abbrev pub key_lines : ℕ → List Key → List ℕ

@@ -1,6 +1,8 @@
--- How move scripts are written as text: what a line spells, which script a text spells, and the one text that is written.
--- A line feed is the byte 10, a blank 32. A name is the list of its bytes. A script has interventions by their places among the names.
-use Rattle.std.specs.Prelude.{◌≡◌, ◌≢◌, ℕ, ◌<◌, ◌^◌, ⊤, List, [], ◌∷◌, ◌++◌, length, All, codes, decimal, slice_index_or}
+-- How move scripts are written as text: what a line spells, which script a text spells, and the one text that
+-- is written. A line feed is the byte 10, a blank 32. A name is the list of its bytes. A script has
+-- interventions by their places among the names.
+use Rattle.std.specs.Prelude.{◌≡◌, ◌≢◌, ℕ, ◌<◌, ◌^◌, ⊤, List, [], ◌∷◌, ◌++◌, length, All, codes, decimal}
+use Rattle.std.specs.Prelude.{slice_index_or}
 use Rattle.std.specs.List.{flat_map}
 use Rattle.text_lines.specs.Lines.{lines_of}
 use Rattle.plan_moves.specs.declared.change.Change.{Change}
@@ -47,7 +49,8 @@ Spells names text Undo = text ≡ codes "undo"
 -- the text spells the script: line by line
 pub record IsScript (names : List (List ℕ)) (text : List ℕ) (script : List ScriptLine) : Type 0 where
   pub each : length script ≡ length (lines_of text)
-  pub spelled : (k : ℕ) → k < length script → Spells names (slice_index_or (lines_of text) k []) (slice_index_or script k Undo)
+  pub spelled : (k : ℕ) → k < length script
+      → Spells names (slice_index_or (lines_of text) k []) (slice_index_or script k Undo)
 
 -- the line that is written for a change
 abbrev pub change_line : List (List ℕ) → Change → List ℕ

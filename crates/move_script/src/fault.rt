@@ -1,4 +1,4 @@
-// Why a text is no script.
+//! Why a text is no script.
 ghost use Rattle.std.specs.Prelude.{◌≡◌};
 ghost use Rattle.move_script.specs.declared.fault.ScriptFault.TheVariants.{Memory};
 

@@ -1,4 +1,4 @@
-// The line that is said of a key.
+//! The line that is said of a key.
 ghost use Rattle.std.specs.Prelude.{◌≡◌, ◌+◌, ◌≤◌, ◌++◌, length};
 ghost use Rattle.arrayvec.specs.ArrayVec.{array_vec_len};
 ghost use Rattle.plan_desk.specs.Written.{SaysText};

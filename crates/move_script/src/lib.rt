@@ -1,7 +1,8 @@
 //! Move scripts: their text, both ways, and what they say of a plan.
 //!
-//! Contracts see a script as the list of its lines, and a text as its bytes: `IsScript` says which script a text spells,
-//! `HasScriptFault` which fault it has if it spells none, and `moves_text` is the one text that is written for changes.
+//! Contracts see a script as the list of its lines, and a text as its bytes: `IsScript` says which
+//! script a text spells, `HasScriptFault` which fault it has if it spells none, and `moves_text` is
+//! the one text that is written for changes.
 #![tactic(auto)]
 
 mod fault;

@@ -1,4 +1,4 @@
-// What a line of a script says.
+//! What a line of a script says.
 ghost use Rattle.std.specs.Prelude.{ℕ, List, IfSome, IfNone};
 ghost use Rattle.move_script.specs.Spelling.{MovesTo, Exchanges};
 

@@ -1,4 +1,4 @@
-// A script is read from its text.
+//! A script is read from its text.
 ghost use Rattle.std.specs.Prelude.{◌≡◌, ◌≢◌, [], List, Ok, Err, IfOk, IfErr, All, Contains, slice_index_or};
 ghost use Rattle.plan_moves.specs.Scripts.{NamesKnown};
 ghost use Rattle.plan_moves.specs.declared.script_line.ScriptLine.{ScriptLine};
@@ -19,11 +19,13 @@ use text_lines::{find_name, split_line};
 pub fn read_script(alloc: Global, inst: &Instance, bytes: &[u8]) -> Result<Script, ScriptFault>
     // What is read is spelled so, and what is spelled is read.
     ensures read { IfOk result (λ script. IsScript inst.now.names bytes.now script) }
-    ensures complete { (script : List ScriptLine) → IsScript inst.now.names bytes.now script → Answers result (Ok script) }
+    ensures complete { (script : List ScriptLine) → IsScript inst.now.names bytes.now script
+        → Answers result (Ok script) }
 
     // Each fault is the text's first, and a text with a fault is refused by it.
     ensures fault { IfErr result (λ fault. fault ≢ ScriptFault.Memory → HasScriptFault inst.now.names bytes.now fault) }
-    ensures refused { (fault : ScriptFault) → HasScriptFault inst.now.names bytes.now fault → Answers result (Err fault) }
+    ensures refused { (fault : ScriptFault) → HasScriptFault inst.now.names bytes.now fault
+        → Answers result (Err fault) }
 
     // Each name that is read is an intervention's.
     ensures known { IfOk result (All (NamesKnown inst.now)) }

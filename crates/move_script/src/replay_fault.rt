@@ -1,4 +1,4 @@
-// Why a replay comes to no end.
+//! Why a replay comes to no end.
 ghost use Rattle.std.specs.Prelude.{◌≡◌};
 ghost use Rattle.move_script.specs.declared.replay_fault.ReplayFault.TheVariants as fault;
 

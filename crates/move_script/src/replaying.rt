@@ -1,5 +1,6 @@
-// A script is replayed from an opening plan.
-ghost use Rattle.std.specs.Prelude.{◌≡◌, ◌≢◌, ◌+◌, ◌<◌, ◌≤◌, ◌&&◌, ℕ, [], ◌∷◌, length, slice_index, All, Some, None, IfSome, IfOk, IfErr, Err, OnOk, OnErr, IsErrOf};
+//! A script is replayed from an opening plan.
+ghost use Rattle.std.specs.Prelude.{◌≡◌, ◌≢◌, ◌+◌, ◌<◌, ◌≤◌, ◌&&◌, ℕ, [], ◌∷◌, length, slice_index, All, Some, None};
+ghost use Rattle.std.specs.Prelude.{IfSome, IfOk, IfErr, Err, OnOk, OnErr, IsErrOf};
 ghost use Rattle.plan_desk.specs.Faults.{Rose, IsFaultOf};
 ghost use Rattle.plan_desk.specs.declared.call.DeskCall.{DeskCall};
 ghost use Rattle.instance_model.specs.Tables.{is_allowed};
@@ -32,11 +33,14 @@ pub fn replay<R: Row, D: Desk>(
     requires allowed { AreAllowedStarts inst.now starts.now }
     requires known { All (NamesKnown inst.now) script.now }
     ensures ok { OnOk result (Succeeds inst.now starts.now script.now) }
-    ensures not_allowed { (n : ℕ) → result ≡ Err (ReplayFault.NotAllowed n) → FailsByStart inst.now starts.now script.now n }
-    ensures nothing_to_undo { (n : ℕ) → result ≡ Err (ReplayFault.NothingToUndo n) → FailsByUndo inst.now starts.now script.now n }
+    ensures not_allowed { (n : ℕ) → result ≡ Err (ReplayFault.NotAllowed n)
+        → FailsByStart inst.now starts.now script.now n }
+    ensures nothing_to_undo { (n : ℕ) → result ≡ Err (ReplayFault.NothingToUndo n)
+        → FailsByUndo inst.now starts.now script.now n }
     ensures said { SaysKeys result (replay_text inst.now starts.now script.now) (D.shows desk.old) (D.shows desk.new) }
     ensures later { (D.shows desk.old).faults ≤ (D.shows desk.new).faults }
-    ensures failed { IsErrOf result ReplayFault.Failed → Rose (D.shows desk.old).faults (D.shows desk.new).faults × IfSome (D.shows desk.new).last (IsFaultOf DeskCall.Say (Some [])) }
+    ensures failed { IsErrOf result ReplayFault.Failed → Rose (D.shows desk.old).faults (D.shows desk.new).faults
+        × IfSome (D.shows desk.new).last (IsFaultOf DeskCall.Say (Some [])) }
     ensures same { (result ≢ Err ReplayFault.Failed) → (D.shows desk.new).last ≡ (D.shows desk.old).last }
 {
     let lines = script.as_slice();
@@ -73,11 +77,15 @@ fn replay_lines<R: Row, L: Ledger, D: Desk>(
     requires room { length script.now ≤ kept.old.spare }
     requires known { All (NamesKnown kept.old.instance) script.now }
     ensures ok { OnOk result (Succeeds kept.old.instance (present kept.old.plans) script.now) }
-    ensures not_allowed { (n : ℕ) → result ≡ Err (ReplayFault.NotAllowed n) → FailsByStart kept.old.instance (present kept.old.plans) script.now n }
-    ensures nothing_to_undo { (n : ℕ) → result ≡ Err (ReplayFault.NothingToUndo n) → FailsByUndo kept.old.instance (present kept.old.plans) script.now n }
-    ensures said { SaysKeys result (replay_text kept.old.instance (present kept.old.plans) script.now) (D.shows desk.old) (D.shows desk.new) }
+    ensures not_allowed { (n : ℕ) → result ≡ Err (ReplayFault.NotAllowed n)
+        → FailsByStart kept.old.instance (present kept.old.plans) script.now n }
+    ensures nothing_to_undo { (n : ℕ) → result ≡ Err (ReplayFault.NothingToUndo n)
+        → FailsByUndo kept.old.instance (present kept.old.plans) script.now n }
+    ensures said { SaysKeys result (replay_text kept.old.instance (present kept.old.plans) script.now)
+        (D.shows desk.old) (D.shows desk.new) }
     ensures later { (D.shows desk.old).faults ≤ (D.shows desk.new).faults }
-    ensures failed { IsErrOf result ReplayFault.Failed → Rose (D.shows desk.old).faults (D.shows desk.new).faults × IfSome (D.shows desk.new).last (IsFaultOf DeskCall.Say (Some [])) }
+    ensures failed { IsErrOf result ReplayFault.Failed → Rose (D.shows desk.old).faults (D.shows desk.new).faults
+        × IfSome (D.shows desk.new).last (IsFaultOf DeskCall.Say (Some [])) }
     ensures same { (result ≢ Err ReplayFault.Failed) → (D.shows desk.new).last ≡ (D.shows desk.old).last }
 {
     let mut steps = Steps::<L>::zero(blank);

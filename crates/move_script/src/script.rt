@@ -1,3 +1,4 @@
+//! The lines of a script.
 ghost use Rattle.std.specs.Prelude.{◌≡◌};
 
 use plan_moves::ScriptLine;

@@ -1,4 +1,4 @@
-// Changes are written as a script.
+//! Changes are written as a script.
 ghost use Rattle.std.specs.Prelude.{[], ◌∷◌, ◌++◌, map, All, IsTrue};
 ghost use Rattle.plan_desk.specs.Written.{WritesText};
 ghost use Rattle.plan_moves.specs.Scripts.{NamesKnown, line_of};
@@ -9,7 +9,8 @@ use instance_model::Instance;
 use plan_desk::{Desk, Failed, write_pieces};
 use plan_moves::{Change, Moves};
 
-/// Writes the changes as lines of a script to the end of the file that is open, each line with a line feed. Takes no memory.
+/// Writes the changes as lines of a script to the end of the file that is open,
+/// each line with a line feed. Takes no memory.
 pub fn write_moves<D: Desk>(inst: &Instance, moves: &Moves, desk: &mut D) -> Result<(), Failed>
     requires opened { IsTrue (D.shows desk.old).output.opened }
     requires known { All (λ change. NamesKnown inst.now (line_of change)) moves.now }
@@ -53,7 +54,8 @@ fn write_words<D: Desk>(
     desk: &mut D,
 ) -> Result<(), Failed>
     requires opened { IsTrue (D.shows desk.old).output.opened }
-    ensures { WritesText (words_text verb.now first.now second.now ++ 10 ∷ []) (D.shows desk.old) (D.shows desk.new) result }
+    ensures { WritesText (words_text verb.now first.now second.now ++ 10 ∷ []) (D.shows desk.old)
+        (D.shows desk.new) result }
 {
     write_pieces(desk, &[verb, first, b" ", second, b"\n"])
 }

@@ -2,7 +2,8 @@
 use Rattle.std.specs.Prelude.{◌≡◌, ℕ, ◌<◌, ◌≤◌, List, [], length, take, Some, Result, IfOk, OnOk, OnErr, IfSome}
 use Rattle.plan_desk.specs.declared.call.DeskCall.TheVariants.{TakeIn, Read, PutOut, Write, FinishOut, Say}
 use Rattle.plan_desk.specs.declared.call.Failed.{Failed}
-use Rattle.plan_desk.specs.Desk.{Shown, ShowsSame, after_take_in, after_failed_take_in, after_read, after_put_out, after_failed_put_out, after_write, after_finish_out, after_say}
+use Rattle.plan_desk.specs.Desk.{Shown, ShowsSame, after_take_in, after_failed_take_in, after_read, after_put_out}
+use Rattle.plan_desk.specs.Desk.{after_failed_put_out, after_write, after_finish_out, after_say}
 use Rattle.plan_desk.specs.Contents.{HoldsBytes}
 use Rattle.plan_desk.specs.Faults.{CountsFault, IsFaultOf}
 

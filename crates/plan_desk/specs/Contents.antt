@@ -26,10 +26,11 @@ Says text old new = new.said ≡ option_map (λ said. said ++ text) old.said
 -- first bytes of it were read
 abbrev pub StopsReading : List ℕ → (old new : Shown) → Type 0
 StopsReading name old new = ShowsSame new (after_failed_take_in old)
-    ⊎ ((bytes : List ℕ) × ((count : ℕ) × (HoldsBytes old name bytes × ShowsSame new (after_take_in name (drop count bytes) old))))
+    ⊎ ((bytes : List ℕ)
+    × ((count : ℕ) × (HoldsBytes old name bytes × ShowsSame new (after_take_in name (drop count bytes) old))))
 
--- How many bytes of a file were read by a loop that came to no end: no more than the limit; where the file is too long, past the limit by
--- no more than one piece, of at most 2 ^ 16 bytes
+-- How many bytes of a file were read by a loop that came to no end: no more than the limit; where the file is too long,
+-- past the limit by no more than one piece, of at most 2 ^ 16 bytes
 abbrev pub IsCountAt : (limit : ℕ) → ReadFault → ℕ → Type 0
 IsCountAt limit TooLong count = (limit < count) × (count ≤ limit + 2 ^ 16)
 IsCountAt limit Failed count = count ≤ limit
@@ -38,7 +39,10 @@ IsCountAt limit Memory count = count ≤ limit
 -- where such a loop stops: its file was not taken in, or so many first bytes of it were read
 abbrev pub StopsAt : List ℕ → (limit : ℕ) → (old new : Shown) → ReadFault → Type 0
 StopsAt name limit old new fault = ((fault ≡ Failed) × ShowsSame new (after_failed_take_in old))
-    ⊎ ((bytes : List ℕ) × ((count : ℕ) × (IsCountAt limit fault count × (HoldsBytes old name bytes × ShowsSame new (after_take_in name (drop count bytes) old)))))
+    ⊎ ((bytes : List ℕ)
+    × ((count : ℕ)
+    × (IsCountAt limit fault count
+    × (HoldsBytes old name bytes × ShowsSame new (after_take_in name (drop count bytes) old)))))
 
 -- a call that only reads: what files hold and what was said is as before, and the count of faults never falls
 pub record OnlyReads (old new : Shown) : Type 0 where

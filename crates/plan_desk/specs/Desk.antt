@@ -1,6 +1,7 @@
 -- What a desk shows: the file that is read, the files that are written, what was said, and what has failed;
 -- and what it shows after each of its calls.
-use Rattle.std.specs.Prelude.{◌≡◌, ◌⊎◌, ℕ, Bool, true, false, List, [], ◌++◌, drop, Option, Some, None, IsSome, option_map, if◌then◌else◌, ◌&&◌, bytes_eq}
+use Rattle.std.specs.Prelude.{◌≡◌, ◌⊎◌, ℕ, Bool, true, false, List, [], ◌++◌, drop, Option, Some, None, IsSome}
+use Rattle.std.specs.Prelude.{option_map, if◌then◌else◌, ◌&&◌, bytes_eq}
 use Rattle.plan_desk.specs.declared.call.DeskCall.{DeskCall}
 
 -- a call that failed, and the name of its file, which is empty for `say`
@@ -104,7 +105,9 @@ same_name a b = false
 -- these bytes were written to the file that is open: where it is the one that is taken in, they are unread there
 abbrev pub input_after_write : List ℕ → Output → Input → Input
 input_after_write bytes o i =
-    record i { unread = if i.taken && same_name i.name o.name then option_map (λ xs. xs ++ bytes) i.unread else i.unread }
+    record i {
+      unread = if i.taken && same_name i.name o.name then option_map (λ xs. xs ++ bytes) i.unread else i.unread;
+    }
 
 -- the file of this name was taken in, and these bytes of it are unread
 abbrev pub after_take_in : List ℕ → List ℕ → Shown → Shown
@@ -132,7 +135,8 @@ after_failed_put_out s = record s { input = none_taken s.input; output = none_op
 
 -- these bytes were written to the file that is open
 abbrev pub after_write : List ℕ → Shown → Shown
-after_write bytes s = record s { input = input_after_write bytes s.output s.input; output = output_after_write bytes s.output }
+after_write bytes s =
+    record s { input = input_after_write bytes s.output s.input; output = output_after_write bytes s.output }
 
 -- the file that was open is ended
 abbrev pub after_finish_out : Shown → Shown

@@ -1,5 +1,6 @@
 -- When a call or a loop over a desk fails, and what the desk then tells of it.
-use Rattle.std.specs.Prelude.{◌≡◌, ◌⊎◌, ℕ, ◌+◌, ◌-◌, ◌^◌, ◌<◌, ◌≤◌, Bool, List, Option, Some, Result, Ok, Err, OnOk, OnErr, IfSome, min, if◌then◌else◌}
+use Rattle.std.specs.Prelude.{◌≡◌, ◌⊎◌, ℕ, ◌+◌, ◌-◌, ◌^◌, ◌<◌, ◌≤◌, Bool, List, Option, Some, Result, Ok, Err, OnOk}
+use Rattle.std.specs.Prelude.{OnErr, IfSome, min, if◌then◌else◌}
 use Rattle.plan_desk.specs.declared.call.DeskCall.{DeskCall}
 use Rattle.plan_desk.specs.declared.call.DeskCall.TheVariants.{TakeIn, Read}
 use Rattle.plan_desk.specs.declared.call.Failed.{Failed}

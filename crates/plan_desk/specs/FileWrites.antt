@@ -32,4 +32,5 @@ StopsFile file Say old new = ⊥
 -- of these files the first n were written, and the write of the next one stopped at this call
 pub record StopsWrites (files : List FileWrite) (n : ℕ) (call : DeskCall) (old new : Shown) : Type 0 where
   pub within : n < length files
-  pub stops : StopsFile (slice_index_or files n (record { name = []; bytes = [] })) call (after_writes (take n files) old) new
+  pub stops : StopsFile (slice_index_or files n (record { name = []; bytes = [] })) call
+      (after_writes (take n files) old) new

@@ -1,5 +1,7 @@
 -- Files in memory: what a desk of them is, what it shows, and which of its calls fail.
-use Rattle.std.specs.Prelude.{◌≡◌, ℕ, zero, suc, ◌+◌, ◌-◌, ◌^◌, ◌<◌, ◌≤◌, Bool, true, false, ◌==◌, ◌&&◌, List, [], ◌∷◌, length, drop, slice_index, slice_set, min, Option, Some, None, option_map, is_some, Result, is_err, if◌then◌else◌, bytes_eq, ⊤}
+use Rattle.std.specs.Prelude.{◌≡◌, ℕ, zero, suc, ◌+◌, ◌-◌, ◌^◌, ◌<◌, ◌≤◌, Bool, true, false, ◌==◌, ◌&&◌, List, [], ◌∷◌}
+use Rattle.std.specs.Prelude.{length, drop, slice_index, slice_set, min, Option, Some, None, option_map, is_some}
+use Rattle.std.specs.Prelude.{Result, is_err, if◌then◌else◌, bytes_eq, ⊤}
 use Rattle.std.specs.List.{list_any}
 use Rattle.plan_desk.specs.declared.files.Place.{Place}
 use Rattle.plan_desk.specs.declared.files.Listed.{Listed}
@@ -79,7 +81,11 @@ unread_of files (Some p) = drop p.from (file_at files p.file).bytes
 -- what is shown of the file that is taken in
 abbrev pub mem_input : List Stored → Option Place → Input
 mem_input files None = record { taken = false; name = Some []; unread = Some [] }
-mem_input files (Some p) = record { taken = true; name = Some (file_at files p.file).name; unread = Some (drop p.from (file_at files p.file).bytes) }
+mem_input files (Some p) = record {
+  taken = true;
+  name = Some (file_at files p.file).name;
+  unread = Some (drop p.from (file_at files p.file).bytes);
+}
 
 -- the name of the file that is open
 abbrev pub open_name : List Stored → Option ℕ → List ℕ
@@ -119,7 +125,8 @@ IsOpenAt files (Some i) = IsAt files i (file_at files i).name
 -- the place is that of the first file of its name, and no more was read of it than it holds
 abbrev pub IsTakenAt : List Stored → Option Place → Type 0
 IsTakenAt files None = ⊤
-IsTakenAt files (Some p) = IsAt files p.file (file_at files p.file).name × (p.from ≤ length (file_at files p.file).bytes)
+IsTakenAt files (Some p) =
+    IsAt files p.file (file_at files p.file).name × (p.from ≤ length (file_at files p.file).bytes)
 
 -- a fault that was kept with a place is that of a file
 abbrev pub IsLastAt : List Stored → Option LastFault → Type 0
@@ -129,7 +136,8 @@ IsLastAt files (Some (OfFile call i)) = i < length files
 IsLastAt files (Some Said) = ⊤
 
 -- what is true of every desk in memory
-pub record IsConsistent (files : List Stored) (taken : Option Place) (writing : Option ℕ) (last : Option LastFault) (most : ℕ) : Type 0 where
+pub record IsConsistent (files : List Stored) (taken : Option Place) (writing : Option ℕ) (last : Option LastFault)
+    (most : ℕ) : Type 0 where
   pub taken_at : IsTakenAt files taken
   pub open_at : IsOpenAt files writing
   pub last_at : IsLastAt files last

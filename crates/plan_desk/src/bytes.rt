@@ -1,4 +1,4 @@
-// The bytes of a file that was read.
+//! The bytes of a file that was read.
 ghost use Rattle.std.specs.Prelude.{◌≡◌};
 
 use std::marker::Model;

@@ -1,4 +1,4 @@
-// The calls of a desk, and the one answer of a call that failed.
+//! The calls of a desk, and the one answer of a call that failed.
 
 /// The kinds of calls of a desk.
 #[derive(Clone, Copy, Debug, PartialEq, Eq)]

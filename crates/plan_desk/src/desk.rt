@@ -1,4 +1,4 @@
-// What reads files, writes files and speaks.
+//! What reads files, writes files and speaks.
 ghost use Rattle.std.specs.Prelude.{IsTrue};
 ghost use Rattle.plan_desk.specs.Desk.{Shown, TellsNames};
 ghost use Rattle.plan_desk.specs.Calls.{TakesIn, Reads, PutsOut, Writes, FinishesOut, Speaks};
@@ -30,8 +30,8 @@ pub trait Desk {
     fn put_out(&mut self, name: &str) -> Result<(), Failed>
         ensures { PutsOut name.now (shows self.old) (shows self.new) result };
 
-    /// Writes the first bytes of the piece to the file that is open, and answers how many: at least one, where the piece
-    /// has one. After a failure nothing was written, and the file is still open.
+    /// Writes the first bytes of the piece to the file that is open, and answers how many: at least one, where the
+    /// piece has one. After a failure nothing was written, and the file is still open.
     fn write(&mut self, piece: &[u8]) -> Result<usize, Failed>
         requires opened { IsTrue (shows self.old).output.opened }
         ensures { Writes piece.now (shows self.old) (shows self.new) result };

@@ -1,4 +1,4 @@
-// Which call is to fail.
+//! Which call is to fail.
 ghost use Rattle.std.specs.Prelude.{◌≡◌, ◌+◌, ◌-◌, ◌<◌, ◌^◌, ◌==◌, ◌&&◌, ℕ, slice_index, slice_set};
 ghost use Rattle.std.specs.List.{list_any};
 ghost use Rattle.plan_desk.specs.Mem.{next_of, number_of};
@@ -8,7 +8,8 @@ use crate::files::Listed;
 
 /// Counts a call of this kind, and says whether it is to fail.
 pub fn is_listed(made: &mut [u64; 6], listed: &[Listed], call: DeskCall) -> bool
-    ensures due { result ≡ list_any (λ l. (number_of l.call == number_of call) && (l.nth == next_of made.old call)) listed.now }
+    ensures due { result
+        ≡ list_any (λ l. (number_of l.call == number_of call) && (l.nth == next_of made.old call)) listed.now }
     ensures counted { made.new ≡ slice_set made.old (number_of call) (next_of made.old call) }
 {
     let kind = number(call);

@@ -1,4 +1,4 @@
-// How faults are counted and kept.
+//! How faults are counted and kept.
 ghost use Rattle.std.specs.Prelude.{◌≡◌, ◌≤◌, ◌↔◌, List, length, IfSome, IsSome, true};
 ghost use Rattle.plan_desk.specs.Desk.{Fault};
 ghost use Rattle.plan_desk.specs.Faults.{Rose, count_after};
@@ -33,7 +33,10 @@ pub fn fail(faults: &mut u64, last: &mut Option<LastFault>, fault: Option<LastFa
 /// What is kept of a fault at this name: nothing, where the name is too long. It takes no memory.
 pub fn named(call: DeskCall, name: &str) -> Option<LastFault>
     ensures told { IsSome result ↔ (length name.now ≤ 255) }
-    ensures fault { IfSome result (λ l. (files : List Stored) → fault_of files l ≡ record { call = call; name = name.now }) }
+    ensures fault { IfSome result (λ l. (files : List Stored) → fault_of files l ≡ record {
+      call = call;
+      name = name.now;
+    }) }
     ensures kept { (files : List Stored) → IsLastAt files result }
 {
     match ArrayString::from(name) {

@@ -1,4 +1,4 @@
-// Files in memory, and what a desk of them keeps beside.
+//! Files in memory, and what a desk of them keeps beside.
 
 use crate::DeskCall;
 use arrayvec::ArrayString;

@@ -1,5 +1,7 @@
-// The file of a name, and changes to it.
-ghost use Rattle.std.specs.Prelude.{◌≡◌, ◌+◌, ◌-◌, ◌^◌, ◌<◌, ◌≤◌, take, drop, length, min, MatchOption, OnOk, OnErr, IfOk, IsOk, IsSome, None, bytes_eq, vec_len, ◌++◌, [], List, ◌∷◌, slice_set, option_copied};
+//! The file of a name, and changes to it.
+ghost use Rattle.std.specs.Prelude.{◌≡◌, ◌+◌, ◌-◌, ◌^◌, ◌<◌, ◌≤◌, take, drop, length, min, MatchOption, OnOk, OnErr};
+ghost use Rattle.std.specs.Prelude.{IfOk, IsOk, IsSome, None, bytes_eq, vec_len, ◌++◌, [], List, ◌∷◌, slice_set};
+ghost use Rattle.std.specs.Prelude.{option_copied};
 ghost use Rattle.plan_desk.specs.Mem.{held_by, IsAt, IsPut, file_at};
 
 use crate::files::MemFile;
@@ -42,7 +44,10 @@ pub fn copy_part(files: &[MemFile], at: usize, from: usize, most: usize, buf: &m
 /// Adds bytes at the end of a file.
 pub fn append(files: &mut Vec<MemFile>, at: usize, piece: &[u8]) -> Result<(), AllocError>
     requires { at < vec_len files.old }
-    ensures ok { OnOk result (files.new.items ≡ slice_set files.old.items at (record (file_at files.old.items at) { bytes = (file_at files.old.items at).bytes ++ piece.now })) }
+    ensures ok { OnOk result
+        (files.new.items ≡ slice_set files.old.items at (record (file_at files.old.items at) {
+          bytes = (file_at files.old.items at).bytes ++ piece.now;
+        })) }
     ensures err { OnErr result (files.new.items ≡ files.old.items) }
 {
     let file = &mut files[at];
@@ -60,7 +65,9 @@ pub fn put(
     bytes: Vec<u8>,
     put_out: bool,
 ) -> Result<usize, AllocError>
-    ensures ok { IfOk result (λ at. IsPut files.old.items files.new.items at (record { name = name.now; bytes = bytes.items; put_out = put_out })) }
+    ensures ok { IfOk result
+        (λ at. IsPut files.old.items files.new.items at
+        (record { name = name.now; bytes = bytes.items; put_out = put_out })) }
     ensures err { OnErr result (files.new.items ≡ files.old.items) }
     ensures there { IsSome (held_by files.old.items name.now) → IsOk result }
 {
@@ -81,7 +88,11 @@ pub fn put(
 
 fn replace(files: &mut Vec<MemFile>, at: usize, bytes: Vec<u8>, put_out: bool)
     requires { at < vec_len files.old }
-    ensures { files.new.items ≡ slice_set files.old.items at (record { name = (file_at files.old.items at).name; bytes = bytes.items; put_out = put_out }) }
+    ensures { files.new.items ≡ slice_set files.old.items at (record {
+      name = (file_at files.old.items at).name;
+      bytes = bytes.items;
+      put_out = put_out;
+    }) }
 {
     let file = &mut files[at];
     file.bytes = bytes;
@@ -95,7 +106,11 @@ fn add(
     bytes: Vec<u8>,
     put_out: bool,
 ) -> Result<(), AllocError>
-    ensures ok { OnOk result (files.new.items ≡ files.old.items ++ record { name = name.now; bytes = bytes.items; put_out = put_out } ∷ []) }
+    ensures ok { OnOk result (files.new.items ≡ files.old.items ++ record {
+      name = name.now;
+      bytes = bytes.items;
+      put_out = put_out;
+    } ∷ []) }
     ensures err { OnErr result (files.new.items ≡ files.old.items) }
 {
     let name = String::from_str(alloc, name)?;

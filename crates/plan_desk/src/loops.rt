@@ -1,5 +1,6 @@
-// Loops over a desk, until a file is read or a piece is taken whole.
-ghost use Rattle.std.specs.Prelude.{◌≡◌, ℕ, ◌+◌, ◌<◌, ◌≤◌, List, [], ◌++◌, length, take, drop, vec_len, IfOk, OnOk, OnErr, IfErr, IfSome, IsErrOf, IsTrue};
+//! Loops over a desk, until a file is read or a piece is taken whole.
+ghost use Rattle.std.specs.Prelude.{◌≡◌, ℕ, ◌+◌, ◌<◌, ◌≤◌, List, [], ◌++◌, length, take, drop, vec_len, IfOk, OnOk};
+ghost use Rattle.std.specs.Prelude.{OnErr, IfErr, IfSome, IsErrOf, IsTrue};
 ghost use Rattle.std.specs.List.{flat_map};
 ghost use Rattle.plan_desk.specs.Desk.{ShowsSame, after_take_in, after_read, all_read};
 ghost use Rattle.plan_desk.specs.Faults.{CountsReadFault, IsFaultOf, IsReadFaultOf};
@@ -32,7 +33,8 @@ pub fn read_all<D: Desk>(
     ensures stops { IfErr result (StopsAt name.now limit (D.shows desk.old) (D.shows desk.new)) }
 
     // `TooLong` comes only for a longer file, and `Failed` only where faults rose.
-    ensures too_long { IsErrOf result ReadFault.TooLong → WhereToldHolds (D.shows desk.old) name.now (λ held. limit < length held) }
+    ensures too_long { IsErrOf result ReadFault.TooLong
+        → WhereToldHolds (D.shows desk.old) name.now (λ held. limit < length held) }
     ensures later { (D.shows desk.old).faults ≤ (D.shows desk.new).faults }
     ensures faults { CountsReadFault (D.shows desk.old) (D.shows desk.new) (IsReadFaultOf name.now) result }
 {
@@ -90,14 +92,17 @@ pub fn say_pieces<D: Desk>(desk: &mut D, pieces: &[&[u8]]) -> Result<(), Failed>
 fn read_rest<D: Desk>(desk: &mut D, bytes: &mut Vec<u8>, limit: u64) -> Result<(), ReadFault>
     requires taken { IsTrue (D.shows desk.old).input.taken }
     requires room { vec_len bytes.old ≤ limit }
-    ensures ok { OnOk result (IfSome (D.shows desk.old).input.unread (λ rest. bytes.new.items ≡ bytes.old.items ++ rest)) }
+    ensures ok { OnOk result
+        (IfSome (D.shows desk.old).input.unread (λ rest. bytes.new.items ≡ bytes.old.items ++ rest)) }
     ensures within { vec_len bytes.new ≤ limit }
-    ensures too_long { IsErrOf result ReadFault.TooLong → IfSome (D.shows desk.old).input.unread (λ rest. limit < vec_len bytes.old + length rest) }
+    ensures too_long { IsErrOf result ReadFault.TooLong
+        → IfSome (D.shows desk.old).input.unread (λ rest. limit < vec_len bytes.old + length rest) }
     ensures end { OnOk result (ShowsSame (D.shows desk.new) (all_read (D.shows desk.old))) }
     ensures stops { IfErr result (λ fault. (n : ℕ) × IsCountAt limit fault (vec_len bytes.old + n)
         × ShowsSame (D.shows desk.new) (after_read n (D.shows desk.old))) }
     ensures later { (D.shows desk.old).faults ≤ (D.shows desk.new).faults }
-    ensures faults { CountsReadFault (D.shows desk.old) (D.shows desk.new) (IsFaultOf DeskCall.Read (D.shows desk.old).input.name) result }
+    ensures faults { CountsReadFault (D.shows desk.old) (D.shows desk.new)
+        (IsFaultOf DeskCall.Read (D.shows desk.old).input.name) result }
 {
     let mut buf = [0u8; PIECE];
     'pieces: loop {

@@ -1,5 +1,6 @@
-// Files in memory.
-ghost use Rattle.std.specs.Prelude.{◌≡◌, ◌<◌, ◌≤◌, ◌↔◌, ◌-◌, ◌++◌, ◌∷◌, [], ◌||◌, drop, length, min, not, is_some, is_err, IfOk, OnOk, OnErr, IsErr, IsSome, IsTrue, option_copied};
+//! Files in memory.
+ghost use Rattle.std.specs.Prelude.{◌≡◌, ◌<◌, ◌≤◌, ◌↔◌, ◌-◌, ◌++◌, ◌∷◌, [], ◌||◌, drop, length, min, not, is_some};
+ghost use Rattle.std.specs.Prelude.{is_err, IfOk, OnOk, OnErr, IsErr, IsSome, IsTrue, option_copied};
 ghost use Rattle.plan_desk.specs.Calls.{TakesIn, Reads, PutsOut, Writes, FinishesOut, Speaks};
 ghost use Rattle.plan_desk.specs.declared.call.DeskCall.{DeskCall};
 
@@ -82,8 +83,8 @@ impl MemDesk {
         &self.spoken
     }
 
-    /// Makes the file of this name hold just these bytes, whether it was there or not, as one that was never put out. No
-    /// file is taken in or open after it.
+    /// Makes the file of this name hold just these bytes, whether it was there or not, as one that was never put out.
+    /// No file is taken in or open after it.
     pub fn put_file(&mut self, name: &str, bytes: &[u8]) -> Result<(), AllocError>
         ensures ok { OnOk result (mem_shows self.new ≡ after_put_file name.now bytes.now (mem_shows self.old)) }
         ensures err { OnErr result (self.new ≡ self.old) }
@@ -98,7 +99,8 @@ impl MemDesk {
 
     /// Lets the nth call of a kind fail, counted from 1 since `make`.
     pub fn fail_at(&mut self, call: DeskCall, nth: u32) -> Result<(), AllocError>
-        ensures ok { OnOk result (self.new ≡ record self.old { listed = self.old.listed ++ record { call = call; nth = nth } ∷ [] }) }
+        ensures ok { OnOk result
+            (self.new ≡ record self.old { listed = self.old.listed ++ record { call = call; nth = nth } ∷ [] }) }
         ensures err { OnErr result (self.new ≡ self.old) }
     {
         self.listed.push(Listed { call, nth })?;
@@ -124,7 +126,8 @@ impl Desk for MemDesk {
 
     fn take_in(&mut self, name: &str) -> Result<(), Failed>
         ensures call { TakesIn name.now (mem_shows self.old) (mem_shows self.new) result }
-        ensures exact { is_err result ≡ (is_due self.old DeskCall.TakeIn || not (is_some (held_by self.old.files name.now))) }
+        ensures exact { is_err result
+            ≡ (is_due self.old DeskCall.TakeIn || not (is_some (held_by self.old.files name.now))) }
         ensures told { OnErr result (IsSome self.new.last ↔ (length name.now ≤ 255)) }
         ensures count { CountsCall DeskCall.TakeIn self.old self.new result }
     {
@@ -143,7 +146,8 @@ impl Desk for MemDesk {
         requires taken { IsTrue (mem_shows self.old).input.taken }
         ensures call { Reads buf.new (mem_shows self.old) (mem_shows self.new) result }
         ensures exact { is_err result ≡ is_due self.old DeskCall.Read }
-        ensures piece { IfOk result (λ n. n ≡ min self.old.most (min (length (unread_of self.old.files self.old.taken)) (length buf.new))) }
+        ensures piece { IfOk result
+            (λ n. n ≡ min self.old.most (min (length (unread_of self.old.files self.old.taken)) (length buf.new))) }
         ensures behind { IfOk result (λ n. drop n buf.new ≡ drop n buf.old) }
         ensures kept { OnErr result (buf.new ≡ buf.old) }
         ensures told { OnErr result (IsSome self.new.last) }

@@ -1,4 +1,4 @@
-// The answers of a loop that reads a file whole.
+//! The answers of a loop that reads a file whole.
 ghost use Rattle.std.specs.Prelude.{◌≡◌};
 
 use crate::Failed;

@@ -1,4 +1,4 @@
-// Real files and standard output.
+//! Real files and standard output.
 ghost use Rattle.std.specs.Prelude.{◌≡◌, IsTrue, is_err};
 ghost use Rattle.plan_desk.specs.Calls.{TakesIn, Reads, PutsOut, Writes, FinishesOut, Speaks};
 ghost use Rattle.plan_desk.specs.Faults.{count_after};
@@ -13,8 +13,8 @@ use std::rt::Files;
 
 /// The files and the standard output of a runtime, which is trusted to pass on what the system did.
 ///
-/// It tells no contents, no names and no last fault: only whether a file is taken in, whether one is open, and its count
-/// of faults, to which each `Failed` adds one.
+/// It tells no contents, no names and no last fault: only whether a file is taken in, whether one is open, and its
+/// count of faults, to which each `Failed` adds one.
 #[derive(Drop)]
 pub struct RealDesk<R: Files + Print + Drop> {
     rt: R,

@@ -1,4 +1,4 @@
-// What no clause says: that calls succeed where memory is ample, and what the system does with real files.
+//! What no clause says: that calls succeed where memory is ample, and what the system does with real files.
 
 ghost use Rattle.std.specs.Prelude.{◌<◌, OnOk};
 ghost use Rattle.plan_desk.specs.Contents.{HoldsBytes};

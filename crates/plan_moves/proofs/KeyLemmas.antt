@@ -12,10 +12,18 @@ use Rattle.season_exclusion.proofs.CountLemmas.{count_sum-bits_small}
 
 pub clash_count_small : (inst : Tables) (plan : List (Option ℕ)) → IsFitting inst → clash_count inst plan ≤ 65_536
 unfolding clash_count
-clash_count_small inst plan f = omega (arith, count_sum-bits_small (length inst.exclusion_names) (λ e. is_some (clash_rule_at inst plan e)), f.exclusions.few)
+clash_count_small inst plan f = omega (
+  arith,
+  count_sum-bits_small (length inst.exclusion_names) (λ e. is_some (clash_rule_at inst plan e)),
+  f.exclusions.few,
+)
 
 -- a key of the two kinds of violation and the score, as the code hands its numbers on
-pub key_from_parts : (inst : Tables) (plan : List (Option ℕ)) (gaps violation score : ℤ) (broken : ℕ) → gaps ≡ band_gaps inst plan → broken ≡ clash_count inst plan → violation ≡ by_bits gaps +ℤ pos (1_000_000_000_000 * broken) → score ≡ score_of inst plan → unsigned_abs gaps < 10 ^ 37 → unsigned_abs violation < 2 * 10 ^ 37 → unsigned_abs score < 10 ^ 37 → record { violation = by_bits violation; score = by_bits score } ≡ key_of inst plan
+pub key_from_parts : (inst : Tables) (plan : List (Option ℕ)) (gaps violation score : ℤ) (broken : ℕ)
+    → gaps ≡ band_gaps inst plan → broken ≡ clash_count inst plan
+    → violation ≡ by_bits gaps +ℤ pos (1_000_000_000_000 * broken) → score ≡ score_of inst plan
+    → unsigned_abs gaps < 10 ^ 37 → unsigned_abs violation < 2 * 10 ^ 37 → unsigned_abs score < 10 ^ 37
+    → record { violation = by_bits violation; score = by_bits score } ≡ key_of inst plan
 unfolding violation_of
 key_from_parts inst plan gaps violation score broken g b v s near few small =
     let gaps_back = back_from_abs gaps (omega (arith, near)) in

@@ -12,7 +12,8 @@ pub record Board : Type 0 where
   pub starts : List ℕ
 
 -- the starts are allowed, and the scenario sums, the loads and the broken exclusions are kept of these starts
-pub record AreKeptOf (inst : Tables) (starts : List ℕ) (sums : RiskState) (loads : BoardLoads) (clashes : KeptClashes) : Type 0 where
+pub record AreKeptOf (inst : Tables) (starts : List ℕ) (sums : RiskState) (loads : BoardLoads)
+    (clashes : KeptClashes) : Type 0 where
   pub allowed : AreAllowedStarts inst starts
   pub sums_over : AreRowsOver inst sums
   pub sums_board : sums.board ≡ map Some starts

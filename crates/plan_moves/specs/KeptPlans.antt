@@ -37,7 +37,7 @@ pub record AreKeptPlans (kept : KeptPlans) : Type 0 where
   pub some : 0 < length kept.plans
   pub allowed : All (AreAllowedStarts kept.instance) kept.plans
 
--- the most steps of a change of one start, where one change in a row of n scenarios takes at most `most n`: those of the run that is
--- taken off, and of the one that is put on board
+-- the most steps of a change of one start, where one change in a row of n scenarios takes at most `most n`: those of
+-- the run that is taken off, and of the one that is put on board
 abbrev pub move_bound : Tables → (ℕ → ℕ) → (i old new : ℕ) → ℕ
 move_bound inst most i old new = run_bound inst most (delta_of inst i old + delta_of inst i new)

@@ -1,5 +1,6 @@
 -- The meaning of a move script: the lists of plans along its lines.
-use Rattle.std.specs.Prelude.{◌≡◌, ℕ, ◌+◌, ◌<◌, ◌≤◌, List, [], ◌∷◌, ◌++◌, length, map, ⊤, Option, Some, None, if◌then◌else◌, ◌&&◌, nat_lt, slice_index, slice_set}
+use Rattle.std.specs.Prelude.{◌≡◌, ℕ, ◌+◌, ◌<◌, ◌≤◌, List, [], ◌∷◌, ◌++◌, length, map, ⊤, Option, Some, None}
+use Rattle.std.specs.Prelude.{if◌then◌else◌, ◌&&◌, nat_lt, slice_index, slice_set}
 use Rattle.std.specs.List.{swap}
 use Rattle.instance_model.specs.Tables.{Tables, is_allowed}
 use Rattle.instance_model.specs.declared.key.Key.{Key}
@@ -9,9 +10,11 @@ use Rattle.plan_moves.specs.declared.script_line.ScriptLine.{ScriptLine}
 use Rattle.plan_moves.specs.declared.script_line.ScriptLine.TheVariants.{Move, Swap, Undo}
 use Rattle.plan_moves.specs.KeptPlans.{present, present_key, without_last}
 
--- The list of plans after a line. None where the line fails: a start that isn't allowed, or no plan but the first one to go back from.
+-- The list of plans after a line. None where the line fails: a start that isn't allowed, or
+-- no plan but the first one to go back from.
 abbrev pub after_line : Tables → List (List ℕ) → ScriptLine → Option (List (List ℕ))
-after_line inst plans (Move i s) = if is_allowed inst i s then Some (plans ++ slice_set (present plans) i s ∷ []) else None
+after_line inst plans (Move i s) =
+    if is_allowed inst i s then Some (plans ++ slice_set (present plans) i s ∷ []) else None
 after_line inst plans (Swap i j) =
     if is_allowed inst i (slice_index (present plans) j) && is_allowed inst j (slice_index (present plans) i)
     then Some (plans ++ swap (present plans) i j ∷ [])

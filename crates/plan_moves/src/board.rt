@@ -1,5 +1,6 @@
 //! The starts of a plan with all that is kept of them: contracts see the instance and the starts.
-ghost use Rattle.std.specs.Prelude.{◌≡◌, ◌+◌, ◌*◌, ◌^◌, ◌<◌, ◌≤◌, pos, ◌+ℤ◌, unsigned_abs, length, map, Some, IfOk, IfSome, IsSome, IsTrue, slice_index, slice_set, swap};
+ghost use Rattle.std.specs.Prelude.{◌≡◌, ◌+◌, ◌*◌, ◌^◌, ◌<◌, ◌≤◌, pos, ◌+ℤ◌, unsigned_abs, length, map, Some, IfOk};
+ghost use Rattle.std.specs.Prelude.{IfSome, IsSome, IsTrue, slice_index, slice_set, swap};
 ghost use Rattle.instance_model.specs.Tables.{is_allowed};
 ghost use Rattle.instance_model.specs.Plans.{AreAllowedStarts, start_of};
 ghost use Rattle.instance_model.specs.Keys.{key_of};

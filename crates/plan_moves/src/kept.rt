@@ -1,9 +1,11 @@
 //! A plan that is changed and undone: contracts see the list of plans that its changes made.
-ghost use Rattle.std.specs.Prelude.{◌≡◌, ◌+◌, ◌^◌, ◌<◌, ◌≤◌, ◌↔◌, max, [], ◌∷◌, length, swap, slice_index, slice_set, unsigned_abs, IfOk, OnOk, OnErr, IfSome, IsTrue};
+ghost use Rattle.std.specs.Prelude.{◌≡◌, ◌+◌, ◌^◌, ◌<◌, ◌≤◌, ◌↔◌, max, [], ◌∷◌, length, swap, slice_index, slice_set};
+ghost use Rattle.std.specs.Prelude.{unsigned_abs, IfOk, OnOk, OnErr, IfSome, IsTrue};
 ghost use Rattle.std.specs.Bool.{OnTrue, OnFalse};
 ghost use Rattle.instance_model.specs.Tables.{is_allowed};
 ghost use Rattle.instance_model.specs.Plans.{AreAllowedStarts};
-ghost use Rattle.plan_moves.specs.KeptPlans.{AreKeptPlans, present, present_key, with_plan, without_present, move_bound};
+ghost use Rattle.plan_moves.specs.KeptPlans.{AreKeptPlans, present, present_key, with_plan, without_present};
+ghost use Rattle.plan_moves.specs.KeptPlans.{move_bound};
 
 use crate::board::Board;
 use fixed_num::Steps;

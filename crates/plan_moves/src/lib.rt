@@ -1,7 +1,8 @@
-//! A plan of allowed starts that is changed one start or one exchange at a time, with its key kept and every change undone at will.
+//! A plan of allowed starts that is changed one start or one exchange at a time, with its
+//! key kept and every change undone at will.
 //!
-//! A contract sees what is kept as the list of plans that a start and its changes made, the present one last. Periods and
-//! starts count from 1; interventions count from 0.
+//! A contract sees what is kept as the list of plans that a start and its changes made, the present one last. Periods
+//! and starts count from 1; interventions count from 0.
 #![tactic(auto)]
 
 mod board;

@@ -1,6 +1,7 @@
 //! A line of a move script.
 
-/// A line of a move script: a change of the present plan, or the way back from the last one. Interventions count from 0.
+/// A line of a move script: a change of the present plan, or the way back from
+/// the last one. Interventions count from 0.
 #[derive(Clone, Copy, Debug, PartialEq, Eq)]
 pub enum ScriptLine {
     /// Intervention `i` starts at `s`.

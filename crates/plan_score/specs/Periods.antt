@@ -38,7 +38,8 @@ ceil_at inst f u = ceil_of (f (u + 1)) (scenarios_of inst (u + 1))
 
 -- the excess of the period after u, rounded down and less a count for each soft start, but not below 0
 abbrev pub excess_floor_at : Tables → List (Option ℕ) → ℕ → ℤ
-excess_floor_at inst plan u = int_max (pos 0) (floor_at inst (excess_of inst plan) u -ℤ pos (soft_count inst plan (u + 1)))
+excess_floor_at inst plan u =
+    int_max (pos 0) (floor_at inst (excess_of inst plan) u -ℤ pos (soft_count inst plan (u + 1)))
 
 -- the excess of the period after u, rounded up, and a count more for each soft start
 abbrev pub excess_ceil_at : Tables → List (Option ℕ) → ℕ → ℤ

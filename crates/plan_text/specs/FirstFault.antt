@@ -1,6 +1,7 @@
 -- Which fault a text has that spells no plan: that of its first line with one. Lines count from 1, and blank lines
 -- count too.
-use Rattle.std.specs.Prelude.{◌≡◌, ◌⊎◌, ℕ, ◌-◌, ◌<◌, ◌≤◌, List, [], length, take, Any, Contains, slice_index_or, Result, Err}
+use Rattle.std.specs.Prelude.{◌≡◌, ◌⊎◌, ℕ, ◌-◌, ◌<◌, ◌≤◌, List, [], length, take, Any, Contains, slice_index_or, Result}
+use Rattle.std.specs.Prelude.{Err}
 use Rattle.plan_text.specs.declared.fault.PlanFault.{PlanFault}
 use Rattle.plan_text.specs.declared.fault.PlanFault.TheVariants.{BadLine, UnknownName, Twice, Memory}
 use Rattle.plan_text.specs.Spelling.{lines_of, AreBlanks, Names}

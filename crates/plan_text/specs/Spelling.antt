@@ -1,7 +1,8 @@
 -- How plans are written as text: what a line says, which plan a text spells, and the one text that is written.
 -- A line feed is the byte 10, a carriage return 13, a blank 32. A name is the list of its bytes. A plan gives each
 -- name, in the order of the names, one start or none.
-use Rattle.std.specs.Prelude.{◌≡◌, ◌≢◌, ◌⊎◌, ℕ, ◌<◌, ◌≤◌, List, [], ◌∷◌, ◌++◌, length, map, Option, Some, None, slice_index_or, All, AllPairs, Any, Contains, decimal}
+use Rattle.std.specs.Prelude.{◌≡◌, ◌≢◌, ◌⊎◌, ℕ, ◌<◌, ◌≤◌, List, [], ◌∷◌, ◌++◌, length, map, Option, Some, None}
+use Rattle.std.specs.Prelude.{slice_index_or, All, AllPairs, Any, Contains, decimal}
 use Rattle.std.specs.List.{flat_map, zip}
 use Rattle.std.specs.Str.Lines.{strip_carriage_return}
 use Rattle.std.specs.Str.Parse.{IsNumeral, digits_value}
@@ -51,8 +52,10 @@ start_at plan i = slice_index_or plan i None
 -- the plan has, for each name, the start that one of the lines gives it, and none where no line does
 pub record HasStarts (names lines : List (List ℕ)) (plan : List (Option ℕ)) : Type 0 where
   pub each : length plan ≡ length names
-  pub given : (i start : ℕ) → i < length names → Any (λ line. Gives line (slice_index_or names i []) start) lines → start_at plan i ≡ Some start
-  pub only : (i start : ℕ) → start_at plan i ≡ Some start → Any (λ line. Gives line (slice_index_or names i []) start) lines
+  pub given : (i start : ℕ) → i < length names → Any (λ line. Gives line (slice_index_or names i []) start) lines
+      → start_at plan i ≡ Some start
+  pub only : (i start : ℕ) → start_at plan i ≡ Some start
+      → Any (λ line. Gives line (slice_index_or names i []) start) lines
 
 -- the text spells the plan: each line is blank, and skipped, or names one of the names; no two lines name the same;
 -- and the plan has the starts that the lines give

@@ -1,4 +1,4 @@
-// Why a text is no plan.
+//! Why a text is no plan.
 ghost use Rattle.std.specs.Prelude.{◌≡◌};
 ghost use Rattle.plan_text.specs.declared.fault.PlanFault.TheVariants.{Memory};
 

@@ -1,4 +1,4 @@
-// What a line of a plan text says.
+//! What a line of a plan text says.
 ghost use Rattle.std.specs.Prelude.{◌≡◌, ◌≢◌, ℕ, ◌<◌, ◌^◌, ◌↔◌, List, IsTrue, IfSome, IfNone};
 ghost use Rattle.std.specs.Char.{digit_value};
 ghost use Rattle.std.specs.Str.Lines.{strip_carriage_return};

@@ -1,4 +1,4 @@
-// A plan.
+//! A plan.
 ghost use Rattle.std.specs.Prelude.{◌≡◌, ◌<◌, ◌≤◌, ◌^◌, ℕ, List, Option, length, Some};
 ghost use Rattle.plan_text.specs.Spelling.{start_at};
 

@@ -1,4 +1,4 @@
-// A plan is written as text.
+//! A plan is written as text.
 ghost use Rattle.std.specs.Prelude.{◌≡◌, ◌<◌, ◌^◌, length, map, Some, All, IsTrue};
 ghost use Rattle.plan_desk.specs.Written.{WritesText};
 ghost use Rattle.plan_text.specs.Spelling.{IsPlan, plan_text, line_text};

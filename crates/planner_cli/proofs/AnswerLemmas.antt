@@ -1,5 +1,6 @@
 -- The bytes of the files of a command have one answer.
-use Rattle.std.proofs.Common.{◌≡◌, ℕ, inl, inr, List, [], ◌∷◌, ◌++◌, length, map, Option, Some, None, pos, refl, sym, ◌∙◌, ap, subst, arith}
+use Rattle.std.proofs.Common.{◌≡◌, ℕ, inl, inr, List, [], ◌∷◌, ◌++◌, length, map, Option, Some, None, pos, refl, sym}
+use Rattle.std.proofs.Common.{◌∙◌, ap, subst, arith}
 use Rattle.plan_text.proofs.LawLemmas.{one_plan, one_fault, not_both}
 use Rattle.plan_moves.specs.declared.script_line.ScriptLine.{ScriptLine}
 use Rattle.plan_moves.specs.Scripts.{Succeeds, FailsAt}
@@ -12,10 +13,12 @@ use Rattle.instance_model.specs.declared.rule.Rule.{Rule}
 use Rattle.instance_model.proofs.KeyLemmas.{has_allowed_start}
 use Rattle.instance_model.proofs.RuleLemmas.{first_start_rule-none}
 use Rattle.instance_shape.proofs.OneAnswer.{one_answer}
-use Rattle.planner_cli.specs.Lines.{instance_fault_line, plan_fault_line, script_fault_line, end_line, not_allowed_line, nothing_to_undo_line}
+use Rattle.planner_cli.specs.Lines.{instance_fault_line, plan_fault_line, script_fault_line, end_line, not_allowed_line}
+use Rattle.planner_cli.specs.Lines.{nothing_to_undo_line}
 use Rattle.planner_cli.specs.Reports.{infeasible_report}
 use Rattle.planner_cli.specs.Ending.{Answer, reply, IsOneAnswer}
-use Rattle.planner_cli.specs.Bytes.{Takes, TakesOne, IsRefusedInstance, RefusesInstance, Spells, IsRefusedPlan, RefusesPlan, SpellsScript, IsRefusedScript, RefusesScript}
+use Rattle.planner_cli.specs.Bytes.{Takes, TakesOne, IsRefusedInstance, RefusesInstance, Spells, IsRefusedPlan}
+use Rattle.planner_cli.specs.Bytes.{RefusesPlan, SpellsScript, IsRefusedScript, RefusesScript}
 use Rattle.planner_cli.specs.Bytes.RefusesInstance.{long_instance, faulty_instance}
 use Rattle.planner_cli.specs.Bytes.RefusesPlan.{long_plan, faulty_plan}
 use Rattle.planner_cli.specs.Bytes.RefusesScript.{long_script, faulty_script}
@@ -198,7 +201,8 @@ not_both_failures inst opening script n m a b =
     (one_failure inst opening script m n b.fails a.fails) b).undoes
 
 -- the same for another opening of the plan
-replayed_alike : (inst : Tables) (plan : List (Option ℕ)) (script : List ScriptLine) (a b : List ℕ) (line other : List ℕ)
+replayed_alike : (inst : Tables) (plan : List (Option ℕ)) (script : List ScriptLine)
+    (a b : List ℕ) (line other : List ℕ)
     → IsOpeningOf inst plan a → IsOpeningOf inst plan b → line ≡ other
     → replay_text inst a script ++ line ≡ replay_text inst b script ++ other
 replayed_alike inst plan script a b line other x y e =

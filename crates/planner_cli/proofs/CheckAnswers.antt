@@ -90,7 +90,8 @@ certificate_once limits inst word bytes Next next =
     (certificate_refused_once limits inst bytes) (λ x y s t. s.only y t.spells.text_of)
     (λ x a s r. text_accepted limits inst bytes x a s.spells r) next
 
-given_once : (limits : Limits) (inst : Tables) (word : ℕ) (bytes : Option (List ℕ)) (Next : Option (List (Option ℕ)) → Answer → Type 0)
+given_once : (limits : Limits) (inst : Tables) (word : ℕ) (bytes : Option (List ℕ))
+    (Next : Option (List (Option ℕ)) → Answer → Type 0)
     → ((plan : Option (List (Option ℕ))) → IsOneAnswer (Next plan))
     → IsOneAnswer (OnGiven limits inst by_bytes word bytes Next)
 given_once limits inst word None Next next a b x y = next None a b x y

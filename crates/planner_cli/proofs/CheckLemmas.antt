@@ -1,5 +1,6 @@
 -- What a plan that was given comes to, and what is answered on a certificate.
-use Rattle.std.proofs.Common.{◌≡◌, ℕ, ◌<◌, ◌^◌, List, length, Option, Some, None, true, false, ℤ, refl, sym, ◌∙◌, ap, subst}
+use Rattle.std.proofs.Common.{◌≡◌, ℕ, ◌<◌, ◌^◌, List, length, Option, Some, None, true, false, ℤ, refl, sym, ◌∙◌, ap}
+use Rattle.std.proofs.Common.{subst}
 use Rattle.std.specs.Prelude.{IfSome, is_some, unsigned_abs}
 use Rattle.instance_model.specs.Tables.{Tables}
 use Rattle.instance_model.specs.Plans.{RunsAreAllowed}
@@ -44,7 +45,12 @@ pub broken_stands : (inst : Tables) (plan seen : List (Option ℕ)) (rule : Rule
 broken_stands inst plan seen rule same first =
     let here : first_rule inst plan ≡ Some rule = subst
     (λ (p : List (Option ℕ)). first_rule inst p ≡ Some rule) same first in
-    record { plan = plan; given_is = refl; not_kept = λ keeps. some_breaks (first_rule inst plan) rule here (IsFeasible-from inst plan keeps); first = here }
+    record {
+      plan = plan;
+      given_is = refl;
+      not_kept = λ keeps. some_breaks (first_rule inst plan) rule here (IsFeasible-from inst plan keeps);
+      first = here;
+    }
 
 pub kept_stands : (inst : Tables) (plan seen other : List (Option ℕ)) (values : Values)
     → length plan ≡ length inst.names → seen ≡ plan → other ≡ plan → first_rule inst seen ≡ None
@@ -52,7 +58,11 @@ pub kept_stands : (inst : Tables) (plan seen other : List (Option ℕ)) (values 
     → unsigned_abs values.score < 10 ^ 36 → StandsAs inst (Some plan) (Kept (Some values.score))
 unfolding values_of
 kept_stands inst plan seen other values each same also none are small = (
-  record { each = each; keeps = KeepsRules-from inst plan (ap is_some (subst (λ (p : List (Option ℕ)). first_rule inst p ≡ None) same none)) },
+  record {
+    each = each;
+    keeps =
+        KeepsRules-from inst plan (ap is_some (subst (λ (p : List (Option ℕ)). first_rule inst p ≡ None) same none));
+  },
   ap Some (ap (λ (v : Values). v.score) are ∙ ap (score_of inst) also),
   small,
 )
@@ -62,14 +72,16 @@ pub broken_names : (inst : Tables) (given : Option (List (Option ℕ))) (g : Giv
 broken_names inst given g rule stands is =
     let b : IsBroken inst given rule = subst (StandsAs inst given) is stands in rule_names inst b.plan rule b.first
 
-pub broken_checks : (inst : Tables) (given : Option (List (Option ℕ))) (cert : Certificate) (g : Given) (rule : Rule) (text : List ℕ)
+pub broken_checks : (inst : Tables) (given : Option (List (Option ℕ))) (cert : Certificate) (g : Given)
+    (rule : Rule) (text : List ℕ)
     → StandsAs inst given g → g ≡ Broken rule → text ≡ infeasible_report inst rule
     → Checks inst given cert (reply 1 text)
 broken_checks inst given cert g rule text stands is report =
     let b : IsBroken inst given rule = subst (StandsAs inst given) is stands in subst
     (λ (t : List ℕ). Checks inst given cert (reply 1 t)) (sym report) (broken_plan rule b)
 
-pub kept_checks : (inst : Tables) (given : Option (List (Option ℕ))) (cert : Certificate) (g : Given) (score : Option ℤ) (s : ℕ) (t : List ℕ)
+pub kept_checks : (inst : Tables) (given : Option (List (Option ℕ))) (cert : Certificate) (g : Given)
+    (score : Option ℤ) (s : ℕ) (t : List ℕ)
     → StandsAs inst given g → g ≡ Kept score → ChecksFor inst score cert s t → Checks inst given cert (reply s t)
 kept_checks inst given cert g score s t stands is checks =
     let k : StandsAs inst given (Kept score) = subst (StandsAs inst given) is stands in checks given k.0 k.1
@@ -127,7 +139,8 @@ valid_checks inst score cert verdict text is v costs report given keeps same =
       keeps = keeps;
     }))
 
-pub leaf_checks : (inst : Tables) (score : Option ℤ) (cert : Certificate) (verdict : CertVerdict) (n : ℕ) (text : List ℕ)
+pub leaf_checks : (inst : Tables) (score : Option ℤ) (cert : Certificate) (verdict : CertVerdict)
+    (n : ℕ) (text : List ℕ)
     → verdict ≡ LeafFails n → Verdict inst cert verdict → text ≡ failing_leaf_line n → ChecksFor inst score cert 5 text
 leaf_checks inst score cert verdict n text is v report given keeps same =
     let right : IsFirstFailing risk_base risk_value inst cert n = subst

@@ -13,13 +13,15 @@ use Rattle.planner_cli.specs.Lines.{read_line}
 use Rattle.planner_cli.specs.Ending.{Answer, reply}
 use Rattle.planner_cli.specs.Bytes.{Spells, RefusesPlan, IsLongCertificate, SpellsOne, HasOneFault, RefusesCertificate}
 use Rattle.planner_cli.specs.Bytes.RefusesCertificate.{long_certificate, faulty_certificate}
-use Rattle.planner_cli.specs.Files.{reading, OnFile, OnInstance, OnGiven, OnCertificate, ReadsBytes, ReadsSuch, ReadsInstance, ReadsGiven, ReadsCertificate}
+use Rattle.planner_cli.specs.Files.{reading, OnFile, OnInstance, OnGiven, OnCertificate, ReadsBytes, ReadsSuch}
+use Rattle.planner_cli.specs.Files.{ReadsInstance, ReadsGiven, ReadsCertificate}
 use Rattle.planner_cli.specs.Files.OnFile.{unread, refused, stands}
 use Rattle.planner_cli.specs.Checking.{Checks, AnswersCheck}
 use Rattle.planner_cli.specs.declared.refusal.Refusal.{Refusal}
 use Rattle.planner_cli.specs.declared.refusal.Refusal.TheVariants as refusal
 use Rattle.planner_cli.specs.Refusals.{IsInstanceCause, IsGivenCause, IsCertificateCause, IsDueAs, AfterGiven}
-use Rattle.planner_cli.proofs.FileLemmas.{on_other, on_given_other, IsRead, read_given, before_reading, before_given, reads_before}
+use Rattle.planner_cli.proofs.FileLemmas.{on_other, on_given_other, IsRead, read_given, before_reading, before_given}
+use Rattle.planner_cli.proofs.FileLemmas.{reads_before}
 use Rattle.planner_cli.proofs.ReadLemmas.{long_refused, instance_cause_due, plan_cause_due, due_within, after_instance}
 
 -- ---- what the bytes of a certificate file stand for
@@ -61,9 +63,11 @@ err_not_ok : (answer : Result Certificate CertFault) (a : CertFault) (c : Certif
 err_not_ok answer a c e not (inl f) = ok_not_err answer c a f (inl e)
 err_not_ok answer a c e not (inr f) = not (one_err answer a Memory e f)
 
-pub reads_certificate : (name : List ℕ) (inst : Tables) (old : Shown) (bytes : List ℕ) (answer : Result Certificate CertFault) (cert : Certificate)
+pub reads_certificate : (name : List ℕ) (inst : Tables) (old : Shown) (bytes : List ℕ)
+    (answer : Result Certificate CertFault) (cert : Certificate)
     → length bytes ≤ standard_limits.certificate_bytes → ReadsBytes name old bytes
-    → Answered inst bytes answer → answer ≡ Ok cert → IsTextOf inst bytes cert → ReadsCertificate standard_limits name inst old cert
+    → Answered inst bytes answer → answer ≡ Ok cert → IsTextOf inst bytes cert
+    → ReadsCertificate standard_limits name inst old cert
 reads_certificate name inst old bytes answer cert within held answered is text =
     record {
       bytes = bytes;
@@ -75,9 +79,11 @@ reads_certificate name inst old bytes answer cert within held answered is text =
       };
     }
 
-pub reads_certificate_fault : (name : List ℕ) (inst : Tables) (old : Shown) (bytes : List ℕ) (answer : Result Certificate CertFault) (fault : CertFault)
+pub reads_certificate_fault : (name : List ℕ) (inst : Tables) (old : Shown) (bytes : List ℕ)
+    (answer : Result Certificate CertFault) (fault : CertFault)
     → length bytes ≤ standard_limits.certificate_bytes → ReadsBytes name old bytes
-    → Answered inst bytes answer → answer ≡ Err fault → fault ≢ Memory → HasCertFault inst bytes fault → ReadsSuch name old (λ b. HasOneFault standard_limits inst b fault)
+    → Answered inst bytes answer → answer ≡ Err fault → fault ≢ Memory → HasCertFault inst bytes fault
+    → ReadsSuch name old (λ b. HasOneFault standard_limits inst b fault)
 reads_certificate_fault name inst old bytes answer fault within held answered is not has =
     record {
       bytes = bytes;
@@ -91,7 +97,8 @@ reads_certificate_fault name inst old bytes answer fault within held answered is
 
 -- ---- a refusal is due
 
-certificate_cause_due : (word : ℕ) (name : List ℕ) (inst : Tables) (old new : Shown) (Next : Certificate → Answer → Type 0) (r : Refusal)
+certificate_cause_due : (word : ℕ) (name : List ℕ) (inst : Tables) (old new : Shown)
+    (Next : Certificate → Answer → Type 0) (r : Refusal)
     → IsCertificateCause word name inst old new r
     → IsDueAs (OnCertificate standard_limits inst (reading old new) word name Next) r
 certificate_cause_due word name inst old new Next (refusal.Unread w) (is, fails) =
@@ -110,7 +117,8 @@ certificate_cause_due word name inst old new Next (refusal.Plan fault) cause = a
 certificate_cause_due word name inst old new Next refusal.LongScript cause = absurd cause
 certificate_cause_due word name inst old new Next (refusal.Script fault) cause = absurd cause
 
-given_cause_due : (word : ℕ) (name : Option (List ℕ)) (inst : Tables) (old new : Shown) (Next : Option (List (Option ℕ)) → Answer → Type 0) (r : Refusal)
+given_cause_due : (word : ℕ) (name : Option (List ℕ)) (inst : Tables) (old new : Shown)
+    (Next : Option (List (Option ℕ)) → Answer → Type 0) (r : Refusal)
     → IsGivenCause word name inst old new r
     → IsDueAs (OnGiven standard_limits inst (reading old new) word name Next) r
 given_cause_due word None inst old new Next r cause = absurd cause
@@ -118,9 +126,11 @@ given_cause_due word (Some name) inst old new Next r cause =
     plan_cause_due word name inst old new (λ p. Next (Some p)) r cause
 
 -- the plan was read, if one is given, and then the next answer is due
-pub after_given : (word : ℕ) (name : Option (List ℕ)) (old mid new : Shown) (inst : Tables) (plan : Option (List (Option ℕ))) (Next : Option (List (Option ℕ)) → Answer → Type 0) (a : Answer)
+pub after_given : (word : ℕ) (name : Option (List ℕ)) (old mid new : Shown) (inst : Tables)
+    (plan : Option (List (Option ℕ))) (Next : Option (List (Option ℕ)) → Answer → Type 0) (a : Answer)
     → IsRead old mid
-    → ReadsGiven standard_limits name inst mid plan → Next plan a → OnGiven standard_limits inst (reading old new) word name Next a
+    → ReadsGiven standard_limits name inst mid plan → Next plan a
+    → OnGiven standard_limits inst (reading old new) word name Next a
 after_given word None old mid new inst None Next a read reads next = next
 after_given word None old mid new inst (Some plan) Next a read reads next = absurd reads
 after_given word (Some name) old mid new inst None Next a read reads next = absurd reads
@@ -136,9 +146,11 @@ abbrev pub OnChecked : List ℕ → Tables → (old new : Shown) → Option (Lis
 OnChecked cert_name inst old new given =
     OnCertificate standard_limits inst (reading old new) 4 cert_name (Checks inst given)
 
-pub check_refuses_plan : (source : Source) (name : Option (List ℕ)) (cert_name : List ℕ) (old mid new : Shown) (inst : Tables) (r : Refusal)
+pub check_refuses_plan : (source : Source) (name : Option (List ℕ)) (cert_name : List ℕ) (old mid new : Shown)
+    (inst : Tables) (r : Refusal)
     → ReadsInstance standard_limits source old inst → IsRead old mid
-    → IsGivenCause 3 name inst mid new r → IsDueAs (AnswersCheck standard_limits (reading old new) source.slack source.instance name cert_name) r
+    → IsGivenCause 3 name inst mid new r
+    → IsDueAs (AnswersCheck standard_limits (reading old new) source.slack source.instance name cert_name) r
 check_refuses_plan source name cert_name old mid new inst r reads read cause =
     due_within (OnGiven standard_limits inst (reading mid new) 3 name (OnChecked cert_name inst old new))
     (AnswersCheck standard_limits (reading old new) source.slack source.instance name cert_name) r
@@ -149,8 +161,10 @@ check_refuses_plan source name cert_name old mid new inst r reads read cause =
     (λ x b n. n) due))
     (given_cause_due 3 name inst mid new (OnChecked cert_name inst old new) r cause)
 
-pub check_refuses_certificate : (source : Source) (name : Option (List ℕ)) (cert_name : List ℕ) (old mid last new : Shown) (inst : Tables) (given : Option (List (Option ℕ))) (r : Refusal)
-    → ReadsInstance standard_limits source old inst → IsRead old mid → ReadsGiven standard_limits name inst mid given → mid.faults ≤ last.faults → AfterGiven name mid last → IsCertificateCause 4 cert_name inst last new r
+pub check_refuses_certificate : (source : Source) (name : Option (List ℕ)) (cert_name : List ℕ)
+    (old mid last new : Shown) (inst : Tables) (given : Option (List (Option ℕ))) (r : Refusal)
+    → ReadsInstance standard_limits source old inst → IsRead old mid → ReadsGiven standard_limits name inst mid given
+    → mid.faults ≤ last.faults → AfterGiven name mid last → IsCertificateCause 4 cert_name inst last new r
     → IsDueAs (AnswersCheck standard_limits (reading old new) source.slack source.instance name cert_name) r
 check_refuses_certificate source name cert_name old mid last new inst given r reads read reads_given later after cause =
     due_within (OnCertificate standard_limits inst (reading last new) 4 cert_name (Checks inst given))
@@ -163,10 +177,14 @@ check_refuses_certificate source name cert_name old mid last new inst given r re
     (before_reading cert_name old last new (read_given name old mid last read later after)) (λ x b n. n) due)))
     (certificate_cause_due 4 cert_name inst last new (Checks inst given) r cause)
 
-pub check_answers : (source : Source) (name : Option (List ℕ)) (cert_name : List ℕ) (old mid last new : Shown) (inst : Tables) (given : Option (List (Option ℕ))) (cert : Certificate) (a : Answer)
-    → ReadsInstance standard_limits source old inst → IsRead old mid → ReadsGiven standard_limits name inst mid given → mid.faults ≤ last.faults → AfterGiven name mid last
-    → ReadsCertificate standard_limits cert_name inst last cert → Checks inst given cert a → AnswersCheck standard_limits (reading old new) source.slack source.instance name cert_name a
-check_answers source name cert_name old mid last new inst given cert a reads read reads_given later after reads_cert checks =
+pub check_answers : (source : Source) (name : Option (List ℕ)) (cert_name : List ℕ) (old mid last new : Shown)
+    (inst : Tables) (given : Option (List (Option ℕ))) (cert : Certificate) (a : Answer)
+    → ReadsInstance standard_limits source old inst → IsRead old mid → ReadsGiven standard_limits name inst mid given
+    → mid.faults ≤ last.faults → AfterGiven name mid last
+    → ReadsCertificate standard_limits cert_name inst last cert → Checks inst given cert a
+    → AnswersCheck standard_limits (reading old new) source.slack source.instance name cert_name a
+check_answers source name cert_name old mid last new inst given cert a reads read reads_given later
+    after reads_cert checks =
     let here = reads_before cert_name old last (λ bytes. SpellsOne standard_limits inst bytes cert)
     (read_given name old mid last read later after) reads_cert in
     after_instance source old new inst

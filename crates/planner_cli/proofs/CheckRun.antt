@@ -1,5 +1,6 @@
 -- What a run of `check` promises follows from its end.
-use Rattle.std.proofs.Common.{◌≡◌, ℕ, ◌*◌, ◌≤◌, ◌⊎◌, inl, inr, List, Option, Some, None, ℤ, pos, ◌+ℤ◌, ◌-ℤ◌, ◌*ℤ◌, ◌≤ℤ◌, ◌<ℤ◌, refl, sym, ◌∙◌, ap, subst, arith}
+use Rattle.std.proofs.Common.{◌≡◌, ℕ, ◌*◌, ◌≤◌, ◌⊎◌, inl, inr, List, Option, Some, None, ℤ, pos, ◌+ℤ◌, ◌-ℤ◌, ◌*ℤ◌, ◌≤ℤ◌}
+use Rattle.std.proofs.Common.{◌<ℤ◌, refl, sym, ◌∙◌, ap, subst, arith}
 use Rattle.std.proofs.Math.Nat.{mul_comm}
 use borrow.Author.Differences.{same_in, product_is}
 use Rattle.fixed_num.proofs.SignedLemmas.{signed_arith}
@@ -20,16 +21,38 @@ use Rattle.branch_tree.specs.declared.certificate.Certificate.{Certificate}
 use Rattle.branch_tree.specs.Validity.{IsValid, IsFirstFailing}
 use Rattle.planner_cli.specs.Words.{Source}
 use Rattle.planner_cli.specs.Ending.{Answer, OrMemory, Ends}
-use Rattle.planner_cli.specs.Bytes.{TakesOne, RefusesInstance, Spells, IsRefusedPlan, RefusesPlan, SpellsCertificate, SpellsOne, IsRefusedCertificate, RefusesCertificate}
-use Rattle.planner_cli.specs.Files.{Meeting, reading, by_bytes, OnInstance, OnPlan, OnGiven, OnCertificate, ReadsInstance, ReadsGiven, ReadsCertificate, SaysUnread, SaysRefusal, TellsMissing, TellsInstance, TellsGiven, TellsCertificate}
+use Rattle.planner_cli.specs.Bytes.{TakesOne, RefusesInstance, Spells, IsRefusedPlan, RefusesPlan, SpellsCertificate}
+use Rattle.planner_cli.specs.Bytes.{SpellsOne, IsRefusedCertificate, RefusesCertificate}
+use Rattle.planner_cli.specs.Files.{Meeting, reading, by_bytes, OnInstance, OnPlan, OnGiven, OnCertificate}
+use Rattle.planner_cli.specs.Files.{ReadsInstance, ReadsGiven, ReadsCertificate, SaysUnread, SaysRefusal, TellsMissing}
+use Rattle.planner_cli.specs.Files.{TellsInstance, TellsGiven, TellsCertificate}
 use Rattle.planner_cli.specs.Files.OnFile.{unread, refused, stands}
-use Rattle.planner_cli.specs.Checking.{BoundsEveryPlan, exact_cost, IsBest, GivenKeeps, IsAccepted, Checks, AnswersCheck, DueCheck, ReadsCheck, BehindCheck, CheckedPlan, TellsChecked, ExpectsCheck, RunsCheck}
+use Rattle.planner_cli.specs.Checking.{BoundsEveryPlan, exact_cost, IsBest, GivenKeeps, IsAccepted, Checks}
+use Rattle.planner_cli.specs.Checking.{AnswersCheck, DueCheck, ReadsCheck, BehindCheck, CheckedPlan, TellsChecked}
+use Rattle.planner_cli.specs.Checking.{ExpectsCheck, RunsCheck}
 use Rattle.planner_cli.specs.Checking.Checks.{broken_plan, failing_leaf, accepted}
-use Rattle.planner_cli.specs.Checking.BehindCheck.{accepted as behind_accepted, broken_given as behind_broken_given, refused_certificate as behind_refused_certificate, refused_instance as behind_refused_instance, refused_leaf as behind_refused_leaf, refused_plan as behind_refused_plan, unread_certificate as behind_unread_certificate, unread_instance as behind_unread_instance, unread_plan as behind_unread_plan}
-use Rattle.planner_cli.specs.Checking.ExpectsCheck.{broken_plan as expects_broken_plan, failing_leaf as expects_failing_leaf, no_certificate as expects_no_certificate, no_instance as expects_no_instance, no_plan as expects_no_plan, refused_certificate as expects_refused_certificate, refused_instance as expects_refused_instance, refused_plan as expects_refused_plan, valid_certificate as expects_valid_certificate}
-use Rattle.planner_cli.proofs.FileLemmas.{Carries, CarriesGiven, on_other, on_given_other, Goes, later_reading, later_given, exact_reading, exact_given, OrUnread, missing_file, refused_file, told_file, then_next, then_more, say_refusal}
+use Rattle.planner_cli.specs.Checking.BehindCheck.{accepted as behind_accepted, broken_given as behind_broken_given}
+use Rattle.planner_cli.specs.Checking.BehindCheck.{refused_certificate as behind_refused_certificate}
+use Rattle.planner_cli.specs.Checking.BehindCheck.{refused_instance as behind_refused_instance}
+use Rattle.planner_cli.specs.Checking.BehindCheck.{refused_leaf as behind_refused_leaf}
+use Rattle.planner_cli.specs.Checking.BehindCheck.{refused_plan as behind_refused_plan}
+use Rattle.planner_cli.specs.Checking.BehindCheck.{unread_certificate as behind_unread_certificate}
+use Rattle.planner_cli.specs.Checking.BehindCheck.{unread_instance as behind_unread_instance}
+use Rattle.planner_cli.specs.Checking.BehindCheck.{unread_plan as behind_unread_plan}
+use Rattle.planner_cli.specs.Checking.ExpectsCheck.{broken_plan as expects_broken_plan}
+use Rattle.planner_cli.specs.Checking.ExpectsCheck.{failing_leaf as expects_failing_leaf}
+use Rattle.planner_cli.specs.Checking.ExpectsCheck.{no_certificate as expects_no_certificate}
+use Rattle.planner_cli.specs.Checking.ExpectsCheck.{no_instance as expects_no_instance, no_plan as expects_no_plan}
+use Rattle.planner_cli.specs.Checking.ExpectsCheck.{refused_certificate as expects_refused_certificate}
+use Rattle.planner_cli.specs.Checking.ExpectsCheck.{refused_instance as expects_refused_instance}
+use Rattle.planner_cli.specs.Checking.ExpectsCheck.{refused_plan as expects_refused_plan}
+use Rattle.planner_cli.specs.Checking.ExpectsCheck.{valid_certificate as expects_valid_certificate}
+use Rattle.planner_cli.proofs.FileLemmas.{Carries, CarriesGiven, on_other, on_given_other, Goes, later_reading}
+use Rattle.planner_cli.proofs.FileLemmas.{later_given, exact_reading, exact_given, OrUnread, missing_file, refused_file}
+use Rattle.planner_cli.proofs.FileLemmas.{told_file, then_next, then_more, say_refusal}
 use Rattle.planner_cli.proofs.AnswerLemmas.{instance_status, plan_status}
-use Rattle.planner_cli.proofs.CheckAnswers.{certificate_status, text_accepted, refused_apart, kept_or_broken, checked_files_once}
+use Rattle.planner_cli.proofs.CheckAnswers.{certificate_status, text_accepted, refused_apart, kept_or_broken}
+use Rattle.planner_cli.proofs.CheckAnswers.{checked_files_once}
 use Rattle.planner_cli.proofs.EndLemmas.{Stays, ends_quiet, ends_behind, ends_allowed, ends_exact}
 use Rattle.planner_cli.proofs.EvaluateRun.{on_taken, bad_instance, on_spelled, bad_plan}
 
@@ -78,7 +101,8 @@ OnChecked limits inst met cert plan = OnCertificate limits inst met 4 cert (Chec
 abbrev OnPlanned : Limits → Meeting → Option (List ℕ) → List ℕ → Tables → Answer → Type 0
 OnPlanned limits met plan cert inst = OnGiven limits inst met 3 plan (OnChecked limits inst met cert)
 
-check_other : (limits : Limits) (slack : ℕ) (met other : Meeting) (i : List ℕ) (p : Option (List ℕ)) (c j : List ℕ) (q : Option (List ℕ)) (d : List ℕ) (a : Answer)
+check_other : (limits : Limits) (slack : ℕ) (met other : Meeting) (i : List ℕ) (p : Option (List ℕ)) (c j : List ℕ)
+    (q : Option (List ℕ)) (d : List ℕ) (a : Answer)
     → Carries met i other j → CarriesGiven met p other q
     → Carries met c other d → AnswersCheck limits met slack i p c a → AnswersCheck limits other slack j q d a
 check_other limits slack met other i p c j q d a ci cp cd =
@@ -89,7 +113,8 @@ check_other limits slack met other i p c j q d a ci cp cd =
     (λ x e. on_other met other 4 c d (RefusesCertificate limits inst) (SpellsOne limits inst) (Checks inst x)
     (Checks inst x) e cd (λ y f checks. checks)))
 
-pub check_stays : (limits : Limits) (source : Source) (name : Option (List ℕ)) (cert_name : List ℕ) (old mid new : Shown)
+pub check_stays : (limits : Limits) (source : Source) (name : Option (List ℕ))
+    (cert_name : List ℕ) (old mid new : Shown)
     → old.faults ≤ mid.faults
     → Stays (λ at. AnswersCheck limits (reading old at) source.slack source.instance name cert_name) mid new
 check_stays limits source name cert_name old mid new first goes a =
@@ -100,8 +125,10 @@ check_stays limits source name cert_name old mid new first goes a =
 
 -- ---- what stands behind the status
 
-checked_behind : (limits : Limits) (source : Source) (name : Option (List ℕ)) (cert_name : List ℕ) (old new : Shown) (files : ReadsCheck limits source name cert_name old) (a : Answer)
-    → Checks files.inst files.plan files.cert a → Says a.text old new → BehindCheck limits source name cert_name old new a.status
+checked_behind : (limits : Limits) (source : Source) (name : Option (List ℕ)) (cert_name : List ℕ) (old new : Shown)
+    (files : ReadsCheck limits source name cert_name old) (a : Answer)
+    → Checks files.inst files.plan files.cert a → Says a.text old new
+    → BehindCheck limits source name cert_name old new a.status
 checked_behind limits source name cert_name old new files a (accepted all) says =
     behind_accepted
     (record {
@@ -114,12 +141,22 @@ checked_behind limits source name cert_name old new files a (accepted all) says 
       says = says;
     })
 checked_behind limits source name cert_name old new files a (broken_plan rule broken) says =
-    behind_broken_given (record { files = files; plan = broken.plan; given = broken.given_is; not_kept = broken.not_kept; rule = rule; first = broken.first; says = says })
+    behind_broken_given (record {
+      files = files;
+      plan = broken.plan;
+      given = broken.given_is;
+      not_kept = broken.not_kept;
+      rule = rule;
+      first = broken.first;
+      says = says;
+    })
 checked_behind limits source name cert_name old new files a (failing_leaf n leaf) says =
     behind_refused_leaf (record { files = files; keeps = leaf.keeps; n = n; first = leaf.first; says = says })
 
-certificate_behind : (limits : Limits) (source : Source) (name : Option (List ℕ)) (cert_name : List ℕ) (old new : Shown) (inst : Tables) (plan : Option (List (Option ℕ))) (a : Answer)
-    → ReadsInstance limits source old inst → ReadsGiven limits name inst old plan → OnChecked limits inst (reading old new) cert_name plan a → Says a.text old new
+certificate_behind : (limits : Limits) (source : Source) (name : Option (List ℕ)) (cert_name : List ℕ) (old new : Shown)
+    (inst : Tables) (plan : Option (List (Option ℕ))) (a : Answer)
+    → ReadsInstance limits source old inst → ReadsGiven limits name inst old plan
+    → OnChecked limits inst (reading old new) cert_name plan a → Says a.text old new
     → BehindCheck limits source name cert_name old new a.status
 certificate_behind limits source name cert_name old new inst plan a reads reads_plan (unread fails) says =
     behind_unread_certificate inst plan reads reads_plan (record { fails = fails; says = says })
@@ -128,12 +165,22 @@ certificate_behind limits source name cert_name old new inst plan a reads reads_
     (sym (certificate_status limits inst bytes b is))
     (behind_refused_certificate inst plan reads reads_plan
     (say_refusal cert_name (RefusesCertificate limits inst) old new bytes b held is says))
-certificate_behind limits source name cert_name old new inst plan a reads reads_plan (stands bytes cert b held spells checks) says =
+certificate_behind limits source name cert_name old new inst plan a reads reads_plan
+    (stands bytes cert b held spells checks) says =
     checked_behind limits source name cert_name old new
-    (record { inst = inst; reads = reads; plan = plan; reads_plan = reads_plan; cert = cert; reads_cert = record { bytes = bytes; held = held; such = spells } }) b checks says
+    (record {
+      inst = inst;
+      reads = reads;
+      plan = plan;
+      reads_plan = reads_plan;
+      cert = cert;
+      reads_cert = record { bytes = bytes; held = held; such = spells };
+    }) b checks says
 
-given_behind : (limits : Limits) (source : Source) (name : Option (List ℕ)) (cert_name : List ℕ) (old new : Shown) (inst : Tables) (a : Answer)
-    → ReadsInstance limits source old inst → OnPlanned limits (reading old new) name cert_name inst a → Says a.text old new → BehindCheck limits source name cert_name old new a.status
+given_behind : (limits : Limits) (source : Source) (name : Option (List ℕ)) (cert_name : List ℕ) (old new : Shown)
+    (inst : Tables) (a : Answer)
+    → ReadsInstance limits source old inst → OnPlanned limits (reading old new) name cert_name inst a
+    → Says a.text old new → BehindCheck limits source name cert_name old new a.status
 given_behind limits source None cert_name old new inst a reads due says =
     certificate_behind limits source None cert_name old new inst None a reads tt due says
 given_behind limits source (Some name) cert_name old new inst a reads (unread fails) says =
@@ -146,8 +193,10 @@ given_behind limits source (Some name) cert_name old new inst a reads (stands by
     certificate_behind limits source (Some name) cert_name old new inst (Some plan) b reads
     (record { bytes = bytes; held = held; such = spells }) due says
 
-check_behind : (limits : Limits) (source : Source) (name : Option (List ℕ)) (cert_name : List ℕ) (old new : Shown) (a : Answer)
-    → AnswersCheck limits (reading old new) source.slack source.instance name cert_name a → Says a.text old new → BehindCheck limits source name cert_name old new a.status
+check_behind : (limits : Limits) (source : Source) (name : Option (List ℕ)) (cert_name : List ℕ)
+    (old new : Shown) (a : Answer)
+    → AnswersCheck limits (reading old new) source.slack source.instance name cert_name a → Says a.text old new
+    → BehindCheck limits source name cert_name old new a.status
 check_behind limits source name cert_name old new a (unread fails) says =
     behind_unread_instance (record { fails = fails; says = says })
 check_behind limits source name cert_name old new a (refused bytes b held is) says =
@@ -160,7 +209,8 @@ check_behind limits source name cert_name old new a (stands bytes inst b held ta
 -- ---- which status comes
 
 -- where the plan is told, if one is given, the next answer is for it
-on_given : (limits : Limits) (inst : Tables) (name : Option (List ℕ)) (old new : Shown) (Next : Option (List (Option ℕ)) → Answer → Type 0) (plan : Option (List (Option ℕ))) (a : Answer)
+on_given : (limits : Limits) (inst : Tables) (name : Option (List ℕ)) (old new : Shown)
+    (Next : Option (List (Option ℕ)) → Answer → Type 0) (plan : Option (List (Option ℕ))) (a : Answer)
     → TellsGiven limits old name inst plan
     → OnGiven limits inst (reading old new) 3 name Next a → (a.status ≡ 7) ⊎ Next plan a
 on_given limits inst None old new Next None a tells due = inr due
@@ -170,13 +220,16 @@ on_given limits inst (Some name) old new Next (Some plan) a tells due =
     on_spelled limits inst name old new (λ p. Next (Some p)) plan a tells due
 
 -- what is answered to a plan that is named
-on_named : (limits : Limits) (inst : Tables) (name : Option (List ℕ)) (plan : List ℕ) (old new : Shown) (Next : Option (List (Option ℕ)) → Answer → Type 0) (a : Answer)
+on_named : (limits : Limits) (inst : Tables) (name : Option (List ℕ)) (plan : List ℕ) (old new : Shown)
+    (Next : Option (List (Option ℕ)) → Answer → Type 0) (a : Answer)
     → name ≡ Some plan
-    → OnGiven limits inst (reading old new) 3 name Next a → OnPlan limits inst (reading old new) 3 plan (λ p. Next (Some p)) a
+    → OnGiven limits inst (reading old new) 3 name Next a
+    → OnPlan limits inst (reading old new) 3 plan (λ p. Next (Some p)) a
 on_named limits inst name plan old new Next a is due =
     subst (λ (o : Option (List ℕ)). OnGiven limits inst (reading old new) 3 o Next a) is due
 
-broken_verdict : (inst : Tables) (given : Option (List (Option ℕ))) (cert : Certificate) (plan : List (Option ℕ)) (a : Answer)
+broken_verdict : (inst : Tables) (given : Option (List (Option ℕ))) (cert : Certificate)
+    (plan : List (Option ℕ)) (a : Answer)
     → given ≡ Some plan → (KeepsRules inst plan → ⊥) → Checks inst given cert a → OrUnread 1 a
 broken_verdict inst given cert plan a is breaks (broken_plan rule broken) = inr refl
 broken_verdict inst given cert plan a is breaks (failing_leaf n leaf) =
@@ -198,18 +251,23 @@ leaf_verdict inst given cert n a keeps first (broken_plan rule broken) =
 leaf_verdict inst given cert n a keeps first (failing_leaf m leaf) = inr refl
 leaf_verdict inst given cert n a keeps first (accepted all) = absurd (all.holds n first)
 
-on_planned : (limits : Limits) (source : Source) (name : Option (List ℕ)) (cert_name : List ℕ) (old new : Shown) (inst : Tables) (plan : Option (List (Option ℕ))) (a : Answer)
+on_planned : (limits : Limits) (source : Source) (name : Option (List ℕ)) (cert_name : List ℕ) (old new : Shown)
+    (inst : Tables) (plan : Option (List (Option ℕ))) (a : Answer)
     → TellsInstance limits old source inst
-    → TellsGiven limits old name inst plan → AnswersCheck limits (reading old new) source.slack source.instance name cert_name a → (a.status ≡ 7) ⊎ OnChecked limits inst (reading old new) cert_name plan a
+    → TellsGiven limits old name inst plan
+    → AnswersCheck limits (reading old new) source.slack source.instance name cert_name a
+    → (a.status ≡ 7) ⊎ OnChecked limits inst (reading old new) cert_name plan a
 on_planned limits source name cert_name old new inst plan a tells spells due =
     then_more (OnPlanned limits (reading old new) name cert_name inst a)
     (OnChecked limits inst (reading old new) cert_name plan a) a
     (on_given limits inst name old new (OnChecked limits inst (reading old new) cert_name) plan a spells)
     (on_taken limits source old new (OnPlanned limits (reading old new) name cert_name) inst a tells due)
 
-on_text : (limits : Limits) (source : Source) (name : Option (List ℕ)) (cert_name : List ℕ) (old new : Shown) (files : CheckedPlan) (a : Answer)
+on_text : (limits : Limits) (source : Source) (name : Option (List ℕ)) (cert_name : List ℕ) (old new : Shown)
+    (files : CheckedPlan) (a : Answer)
     → TellsChecked limits old source name cert_name files
-    → AnswersCheck limits (reading old new) source.slack source.instance name cert_name a → (a.status ≡ 7) ⊎ Checks files.inst files.plan files.cert a
+    → AnswersCheck limits (reading old new) source.slack source.instance name cert_name a
+    → (a.status ≡ 7) ⊎ Checks files.inst files.plan files.cert a
 on_text limits source name cert_name old new files a tells due =
     then_more (OnChecked limits files.inst (reading old new) cert_name files.plan a)
     (Checks files.inst files.plan files.cert a) a
@@ -220,7 +278,8 @@ on_text limits source name cert_name old new files a tells due =
     (λ bytes other spells one. sym (one.only files.cert spells.text_of)))
     (on_planned limits source name cert_name old new files.inst files.plan a tells.instance tells.plan due)
 
-check_expects : (limits : Limits) (source : Source) (name : Option (List ℕ)) (cert_name : List ℕ) (old new : Shown) (expected : ℕ)
+check_expects : (limits : Limits) (source : Source) (name : Option (List ℕ)) (cert_name : List ℕ)
+    (old new : Shown) (expected : ℕ)
     → ExpectsCheck limits source name cert_name old expected → (a : Answer)
     → AnswersCheck limits (reading old new) source.slack source.instance name cert_name a → OrUnread expected a
 check_expects limits source name cert_name old new expected (expects_no_instance missing) a due =
@@ -239,12 +298,14 @@ check_expects limits source name cert_name old new expected (expects_refused_pla
     (λ d. bad_plan limits inst plan old new (λ p. OnChecked limits inst (reading old new) cert_name (Some p)) a bad
     (on_named limits inst name plan old new (OnChecked limits inst (reading old new) cert_name) a is d))
     (on_taken limits source old new (OnPlanned limits (reading old new) name cert_name) inst a tells due)
-check_expects limits source name cert_name old new expected (expects_no_certificate inst plan tells spells missing) a due =
+check_expects limits source name cert_name old new expected
+    (expects_no_certificate inst plan tells spells missing) a due =
     then_next (OnChecked limits inst (reading old new) cert_name plan a) 7 a
     (λ d. inl (missing_file 4 cert_name old new (RefusesCertificate limits inst) (SpellsOne limits inst)
     (Checks inst plan) a missing d))
     (on_planned limits source name cert_name old new inst plan a tells spells due)
-check_expects limits source name cert_name old new expected (expects_refused_certificate inst plan tells spells bad) a due =
+check_expects limits source name cert_name old new expected
+    (expects_refused_certificate inst plan tells spells bad) a due =
     then_next (OnChecked limits inst (reading old new) cert_name plan a) 5 a
     (refused_file 4 cert_name old new (RefusesCertificate limits inst) (SpellsOne limits inst) (Checks inst plan) a
     (IsRefusedCertificate limits inst) 5 bad
@@ -265,7 +326,8 @@ check_expects limits source name cert_name old new expected (expects_failing_lea
 
 -- ---- a run
 
-pub check_runs : (limits : Limits) (source : Source) (name : Option (List ℕ)) (cert_name : List ℕ) (old new : Shown) (status : ℕ)
+pub check_runs : (limits : Limits) (source : Source) (name : Option (List ℕ)) (cert_name : List ℕ)
+    (old new : Shown) (status : ℕ)
     → Ends (DueCheck limits source name cert_name old) old new status → KeepsFiles old new
     → RunsCheck limits source name cert_name old new status
 check_runs limits source name cert_name old new status ends keeps =

@@ -4,7 +4,8 @@ use Rattle.std.specs.Prelude.{Result, Ok, Err, OnOk, IfOk, IfErr}
 use Rattle.plan_desk.specs.Desk.{Shown}
 use Rattle.plan_desk.specs.Contents.{Says, OnlyReads, KeepsFiles}
 use Rattle.planner_cli.specs.Lines.{memory_line}
-use Rattle.planner_cli.specs.Ending.{Answer, reply, OrMemory, IsQuiet, SayFails, IsUnsaid, Ends, Behind, IsAllowed, IsAnswered, NoFault}
+use Rattle.planner_cli.specs.Ending.{Answer, reply, OrMemory, IsQuiet, SayFails, IsUnsaid, Ends, Behind, IsAllowed}
+use Rattle.planner_cli.specs.Ending.{IsAnswered, NoFault}
 use Rattle.planner_cli.specs.Ending.OrMemory.{answers, no_memory}
 use Rattle.planner_cli.specs.Ending.Ends.{done, unsaid}
 use Rattle.planner_cli.specs.Ending.Behind.{of_command, unsaid as behind_unsaid, no_memory as behind_memory}
@@ -22,7 +23,11 @@ reads_none old = record { output = refl; said = refl; later = omega arith }
 
 pub reads_more : (old mid new : Shown) → OnlyReads old mid → OnlyReads mid new → OnlyReads old new
 reads_more old mid new first second =
-    record { output = second.output ∙ first.output; said = second.said ∙ first.said; later = omega (arith, first.later, second.later) }
+    record {
+      output = second.output ∙ first.output;
+      said = second.said ∙ first.said;
+      later = omega (arith, first.later, second.later);
+    }
 
 pub reads_keep : (old mid new : Shown) → OnlyReads old mid → KeepsFiles mid new → KeepsFiles old new
 reads_keep old mid new first second =
@@ -37,7 +42,8 @@ keeps_more old mid new first second =
 -- files were read, and then what is due was said, or saying it failed
 pub said_ends : (Due : Shown → Answer → Type 0) (old mid new : Shown) (due : ℕ) (text : List ℕ) (status : ℕ)
     → (Goes mid new → Due mid (reply due text) → Due new (reply due text)) → OnlyReads old mid → KeepsFiles mid new
-    → (due ≢ 7 → due ≢ 11 → mid.last ≡ old.last) → Due mid (reply due text) → SaysOrFails due text mid new status → Ends Due old new status
+    → (due ≢ 7 → due ≢ 11 → mid.last ≡ old.last) → Due mid (reply due text) → SaysOrFails due text mid new status
+    → Ends Due old new status
 said_ends Due old mid new due text status later reads keeps quiet is (inl all) =
     done status
     (record {
@@ -114,7 +120,8 @@ keeps_last old mid refusal.Memory kept n = kept
 -- a refusal that is due was said, or that memory ran out for its line
 pub refusal_ends : (Answers : Shown → Answer → Type 0) (old mid new : Shown) (r : Refusal) (status : ℕ)
     → Stays Answers mid new → OnlyReads old mid → KeepsFiles mid new
-    → KeepsLast old mid r → IsDueAs (Answers mid) r → SaysOrFails (status_of r) (line_of r) mid new status ⊎ SaysOrFails 11 memory_line mid new status
+    → KeepsLast old mid r → IsDueAs (Answers mid) r → SaysOrFails (status_of r) (line_of r) mid new status
+    ⊎ SaysOrFails 11 memory_line mid new status
     → Ends (λ at. OrMemory (Answers at)) old new status
 refusal_ends Answers old mid new r status stays reads keeps kept due (inr says) =
     memory_ends Answers old mid new status reads keeps says
@@ -126,10 +133,13 @@ refusal_ends Answers old mid new r status stays reads keeps kept (inr due) (inl 
     (λ a b. keeps_last old mid r kept a) due says
 
 -- a report was said, or why there is none
-pub report_ends : (Answers : Shown → Answer → Type 0) (old mid new : Shown) (report : Result Report Refusal) (status : ℕ)
+pub report_ends : (Answers : Shown → Answer → Type 0) (old mid new : Shown)
+    (report : Result Report Refusal) (status : ℕ)
     → Stays Answers mid new → OnlyReads old mid
-    → KeepsFiles mid new → OnOk report (mid.last ≡ old.last) → IfErr report (KeepsLast old mid) → IfOk report (λ r. Answers mid (reply r.status r.text))
-    → IfErr report (IsDueAs (Answers mid)) → SaysReport report mid new status → Ends (λ at. OrMemory (Answers at)) old new status
+    → KeepsFiles mid new → OnOk report (mid.last ≡ old.last) → IfErr report (KeepsLast old mid)
+    → IfOk report (λ r. Answers mid (reply r.status r.text))
+    → IfErr report (IsDueAs (Answers mid)) → SaysReport report mid new status
+    → Ends (λ at. OrMemory (Answers at)) old new status
 report_ends Answers old mid new (Ok report) status stays reads keeps same kept ok err says =
     command_ends Answers old mid new report.status report.text status stays reads keeps (λ a b. same) ok says
 report_ends Answers old mid new (Err r) status stays reads keeps same kept ok err says =
@@ -148,7 +158,8 @@ unsaid_fails Due old new u =
 
 -- the status of an answer that was given, or of want of memory
 pub ends_behind : (Answers : Shown → Answer → Type 0) (OfCommand : ℕ → Type 0) (old new : Shown) (status : ℕ)
-    → ((a : Answer) → Answers new a → Says a.text old new → OfCommand a.status) → Ends (λ at. OrMemory (Answers at)) old new status
+    → ((a : Answer) → Answers new a → Says a.text old new → OfCommand a.status)
+    → Ends (λ at. OrMemory (Answers at)) old new status
     → Behind OfCommand (λ at. OrMemory (Answers at)) old new status
 ends_behind Answers OfCommand old new status f (done n d) =
     subst (λ (m : ℕ). Behind OfCommand (λ at. OrMemory (Answers at)) old new m) (sym d.status_is)
@@ -180,6 +191,11 @@ pub ends_exact : (Answers : Shown → Answer → Type 0) (Exact : Answer → Typ
     → ((a : Answer) → Answers new a → Exact a)
     → NoFault old new → Ends (λ at. OrMemory (Answers at)) old new status → IsAnswered Exact old new status
 ends_exact Answers Exact old new status f calm (done n d) =
-    record { answer = d.answer; answers = or_memory_later (Answers new) Exact d.answer f d.due; status_is = d.status_is; says = d.says }
+    record {
+      answer = d.answer;
+      answers = or_memory_later (Answers new) Exact d.answer f d.due;
+      status_is = d.status_is;
+      says = d.says;
+    }
 ends_exact Answers Exact old new status f calm (unsaid u) =
     absurd (calm (unsaid_fails (λ at. OrMemory (Answers at)) old new u).rose)

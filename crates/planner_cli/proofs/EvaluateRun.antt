@@ -8,15 +8,25 @@ use Rattle.instance_model.specs.Rules.{KeepsRules}
 use Rattle.instance_shape.proofs.OwnReading.{own_numbers}
 use Rattle.planner_cli.specs.Words.{Source}
 use Rattle.planner_cli.specs.Ending.{Answer, OrMemory, Ends, IsAllowed, IsAnswered, NoFault}
-use Rattle.planner_cli.specs.Bytes.{Takes, TakesOne, IsRefusedInstance, RefusesInstance, Spells, IsRefusedPlan, RefusesPlan}
-use Rattle.planner_cli.specs.Files.{Meeting, reading, by_bytes, OnInstance, OnPlan, ReadsInstance, ReadsPlan, TellsInstance, TellsPlan, TellsBytes}
+use Rattle.planner_cli.specs.Bytes.{Takes, TakesOne, IsRefusedInstance, RefusesInstance, Spells, IsRefusedPlan}
+use Rattle.planner_cli.specs.Bytes.{RefusesPlan}
+use Rattle.planner_cli.specs.Files.{Meeting, reading, by_bytes, OnInstance, OnPlan, ReadsInstance, ReadsPlan}
+use Rattle.planner_cli.specs.Files.{TellsInstance, TellsPlan, TellsBytes}
 use Rattle.planner_cli.specs.Files.OnFile.{unread, refused, stands}
-use Rattle.planner_cli.specs.Evaluating.{Judges, AnswersEvaluate, DueEvaluate, BehindEvaluate, ExpectsEvaluate, RunsEvaluate}
+use Rattle.planner_cli.specs.Evaluating.{Judges, AnswersEvaluate, DueEvaluate, BehindEvaluate, ExpectsEvaluate}
+use Rattle.planner_cli.specs.Evaluating.{RunsEvaluate}
 use Rattle.planner_cli.specs.Evaluating.Judges.{feasible, infeasible}
-use Rattle.planner_cli.specs.Evaluating.BehindEvaluate.{feasible as behind_feasible, infeasible as behind_infeasible, refused_instance as behind_refused_instance, refused_plan as behind_refused_plan, unread_instance as behind_unread_instance, unread_plan as behind_unread_plan}
-use Rattle.planner_cli.specs.Evaluating.ExpectsEvaluate.{no_instance, refused_instance, no_plan, refused_plan, kept_plan, broken_plan}
-use Rattle.planner_cli.proofs.FileLemmas.{Carries, on_other, Goes, later_reading, exact_reading, OrUnread, missing_file, refused_file, told_file, then_next, then_more, say_refusal}
-use Rattle.planner_cli.proofs.AnswerLemmas.{same_instance, taken_sound, refused_instance_bytes, instance_status, same_plan, spelled_sound, refused_plan_bytes, plan_status, evaluated_once}
+use Rattle.planner_cli.specs.Evaluating.BehindEvaluate.{feasible as behind_feasible, infeasible as behind_infeasible}
+use Rattle.planner_cli.specs.Evaluating.BehindEvaluate.{refused_instance as behind_refused_instance}
+use Rattle.planner_cli.specs.Evaluating.BehindEvaluate.{refused_plan as behind_refused_plan}
+use Rattle.planner_cli.specs.Evaluating.BehindEvaluate.{unread_instance as behind_unread_instance}
+use Rattle.planner_cli.specs.Evaluating.BehindEvaluate.{unread_plan as behind_unread_plan}
+use Rattle.planner_cli.specs.Evaluating.ExpectsEvaluate.{no_instance, refused_instance, no_plan, refused_plan}
+use Rattle.planner_cli.specs.Evaluating.ExpectsEvaluate.{kept_plan, broken_plan}
+use Rattle.planner_cli.proofs.FileLemmas.{Carries, on_other, Goes, later_reading, exact_reading, OrUnread, missing_file}
+use Rattle.planner_cli.proofs.FileLemmas.{refused_file, told_file, then_next, then_more, say_refusal}
+use Rattle.planner_cli.proofs.AnswerLemmas.{same_instance, taken_sound, refused_instance_bytes, instance_status}
+use Rattle.planner_cli.proofs.AnswerLemmas.{same_plan, spelled_sound, refused_plan_bytes, plan_status, evaluated_once}
 use Rattle.planner_cli.proofs.EndLemmas.{Stays, ends_quiet, ends_behind, ends_allowed, ends_exact}
 
 evaluate_other : (limits : Limits) (slack : ℕ) (met other : Meeting) (i p j q : List ℕ) (a : Answer)
@@ -37,7 +47,8 @@ evaluate_stays limits source name old mid new first goes a =
 
 -- ---- what stands behind the status
 
-judged_behind : (limits : Limits) (source : Source) (name : List ℕ) (old new : Shown) (inst : Tables) (plan : List (Option ℕ)) (a : Answer)
+judged_behind : (limits : Limits) (source : Source) (name : List ℕ) (old new : Shown) (inst : Tables)
+    (plan : List (Option ℕ)) (a : Answer)
     → ReadsInstance limits source old inst → ReadsPlan limits name inst old plan
     → Judges inst plan a → Says a.text old new → BehindEvaluate limits source name old new a.status
 judged_behind limits source name old new inst plan a reads reads_plan (feasible keeps encloses) says =
@@ -57,7 +68,16 @@ judged_behind limits source name old new inst plan a reads reads_plan (feasible 
     })
 judged_behind limits source name old new inst plan a reads reads_plan (infeasible rule not_kept first) says =
     behind_infeasible
-    (record { inst = inst; reads = reads; plan = plan; reads_plan = reads_plan; not_kept = not_kept; rule = rule; first = first; says = says })
+    (record {
+      inst = inst;
+      reads = reads;
+      plan = plan;
+      reads_plan = reads_plan;
+      not_kept = not_kept;
+      rule = rule;
+      first = first;
+      says = says;
+    })
 
 evaluate_behind : (limits : Limits) (source : Source) (name : List ℕ) (old new : Shown) (a : Answer)
     → AnswersEvaluate limits (reading old new) source.slack source.instance name a
@@ -74,14 +94,16 @@ evaluate_behind limits source name old new a (stands bytes inst b held takes (re
     subst (λ (n : ℕ). BehindEvaluate limits source name old new n) (sym (plan_status limits inst xs c is))
     (behind_refused_plan inst (record { bytes = bytes; held = held; such = takes })
     (say_refusal name (RefusesPlan limits inst) old new xs c also is says))
-evaluate_behind limits source name old new a (stands bytes inst b held takes (stands xs plan c also spells judges)) says =
+evaluate_behind limits source name old new a
+    (stands bytes inst b held takes (stands xs plan c also spells judges)) says =
     judged_behind limits source name old new inst plan c (record { bytes = bytes; held = held; such = takes })
     (record { bytes = xs; held = also; such = spells }) judges says
 
 -- ---- which status comes
 
 -- where the instance is told, the next answer is for it
-pub on_taken : (limits : Limits) (source : Source) (old new : Shown) (Next : Tables → Answer → Type 0) (inst : Tables) (a : Answer)
+pub on_taken : (limits : Limits) (source : Source) (old new : Shown) (Next : Tables → Answer → Type 0)
+    (inst : Tables) (a : Answer)
     → TellsInstance limits old source inst
     → OnInstance limits source.slack (reading old new) 2 source.instance Next a → (a.status ≡ 7) ⊎ Next inst a
 on_taken limits source old new Next inst a tells =
@@ -99,7 +121,8 @@ bad_instance limits source old new Next a tells =
     (λ bytes x one. taken_sound limits source.slack bytes x one.takes) (instance_status limits)
 
 -- where the plan is told, the next answer is for it
-pub on_spelled : (limits : Limits) (inst : Tables) (name : List ℕ) (old new : Shown) (Next : List (Option ℕ) → Answer → Type 0) (plan : List (Option ℕ)) (a : Answer)
+pub on_spelled : (limits : Limits) (inst : Tables) (name : List ℕ) (old new : Shown)
+    (Next : List (Option ℕ) → Answer → Type 0) (plan : List (Option ℕ)) (a : Answer)
     → TellsPlan limits old name inst plan
     → OnPlan limits inst (reading old new) 3 name Next a → (a.status ≡ 7) ⊎ Next plan a
 on_spelled limits inst name old new Next plan a tells =
@@ -108,7 +131,8 @@ on_spelled limits inst name old new Next plan a tells =
     (λ bytes b spells is. spelled_sound limits inst bytes plan spells (refused_plan_bytes limits inst bytes b is))
     (λ bytes other spells also. same_plan limits inst bytes plan other spells also)
 
-pub bad_plan : (limits : Limits) (inst : Tables) (name : List ℕ) (old new : Shown) (Next : List (Option ℕ) → Answer → Type 0) (a : Answer)
+pub bad_plan : (limits : Limits) (inst : Tables) (name : List ℕ) (old new : Shown)
+    (Next : List (Option ℕ) → Answer → Type 0) (a : Answer)
     → TellsSuch old name (IsRefusedPlan limits inst)
     → OnPlan limits inst (reading old new) 3 name Next a → OrUnread 4 a
 bad_plan limits inst name old new Next a tells =

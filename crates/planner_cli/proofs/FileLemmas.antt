@@ -1,5 +1,6 @@
 -- Files as they are met: what carries over from one way to another, and what is answered where files are told.
-use Rattle.std.proofs.Common.{◌≡◌, ℕ, ◌≤◌, ◌⊎◌, inl, inr, List, [], Option, Some, None, refl, sym, ◌∙◌, ap, subst, arith}
+use Rattle.std.proofs.Common.{◌≡◌, ℕ, ◌≤◌, ◌⊎◌, inl, inr, List, [], Option, Some, None, refl, sym, ◌∙◌, ap, subst}
+use Rattle.std.proofs.Common.{arith}
 use Rattle.std.specs.Prelude.{⊤, IfSome, option_map}
 use Rattle.plan_desk.specs.Desk.{Shown, Fault, ShowsSame, after_take_in}
 use Rattle.plan_desk.specs.Faults.{IsReadFaultOf}
@@ -23,7 +24,8 @@ pub record Carries (met : Meeting) (name : List ℕ) (other : Meeting) (also : L
   pub fails : met.fails name → other.fails also
   pub holds : (bytes : List ℕ) → met.holds name bytes → other.holds also bytes
 
-pub on_other : {A : Type 0} (met other : Meeting) (word : ℕ) (name also : List ℕ) (R : List ℕ → Answer → Type 0) (S : List ℕ → A → Type 0)
+pub on_other : {A : Type 0} (met other : Meeting) (word : ℕ) (name also : List ℕ) (R : List ℕ → Answer → Type 0)
+    (S : List ℕ → A → Type 0)
     (Next Then : A → Answer → Type 0)
     (a : Answer) → Carries met name other also → ((x : A) (b : Answer) → Next x b → Then x b)
     → OnFile met word name R S Next a → OnFile other word also R S Then a
@@ -41,7 +43,8 @@ CarriesGiven _ _ _ _ = ⊥
 
 pub on_given_other : (limits : Limits) (inst : Tables) (met other : Meeting) (word : ℕ) (name also : Option (List ℕ))
     (Next Then : Option (List (Option ℕ)) → Answer → Type 0) (a : Answer) → CarriesGiven met name other also
-    → ((x : Option (List (Option ℕ))) (b : Answer) → Next x b → Then x b) → OnGiven limits inst met word name Next a → OnGiven limits inst other word also Then a
+    → ((x : Option (List (Option ℕ))) (b : Answer) → Next x b → Then x b) → OnGiven limits inst met word name Next a
+    → OnGiven limits inst other word also Then a
 on_given_other limits inst met other word None None Next Then a c f due = f None a due
 on_given_other limits inst met other word None (Some also) Next Then a c f due = absurd c
 on_given_other limits inst met other word (Some name) None Next Then a c f due = absurd c
@@ -115,7 +118,10 @@ pub before_reading : (name : List ℕ) (old mid new : Shown) → IsRead old mid
     → Carries (reading mid new) name (reading old new) name
 before_reading name old mid new read =
     record {
-      fails = λ fails. record { rose = rose_before old.faults mid.faults new.faults read.later fails.rose; own = fails.own };
+      fails = λ fails. record {
+        rose = rose_before old.faults mid.faults new.faults read.later fails.rose;
+        own = fails.own;
+      };
       holds = λ bytes held. held_before old mid name (λ h. h ≡ bytes) read held;
     }
 
@@ -127,7 +133,11 @@ before_given (Some name) old mid new read = before_reading name old mid new read
 pub reads_before : (name : List ℕ) (old mid : Shown) (P : List ℕ → Type 0) → IsRead old mid → ReadsSuch name mid P
     → ReadsSuch name old P
 reads_before name old mid P read reads =
-    record { bytes = reads.bytes; held = held_before old mid name (λ h. h ≡ reads.bytes) read reads.held; such = reads.such }
+    record {
+      bytes = reads.bytes;
+      held = held_before old mid name (λ h. h ≡ reads.bytes) read reads.held;
+      such = reads.such;
+    }
 
 -- ---- where files are told
 
@@ -135,7 +145,10 @@ reads_before name old mid P read reads =
 pub exact_reading : (name bytes : List ℕ) (old new : Shown) → TellsBytes old name bytes → NoFault old new
     → Carries (reading old new) name by_bytes bytes
 exact_reading name bytes old new tells calm =
-    record { fails = λ fails. calm fails.rose; holds = λ b held. sym (read_such old name b (λ c. c ≡ bytes) held tells) }
+    record {
+      fails = λ fails. calm fails.rose;
+      holds = λ b held. sym (read_such old name b (λ c. c ≡ bytes) held tells);
+    }
 
 pub exact_given : (name bytes : Option (List ℕ)) (old new : Shown) → TellsGivenBytes old name bytes → NoFault old new
     → CarriesGiven (reading old new) name by_bytes bytes
@@ -148,7 +161,8 @@ exact_given (Some name) (Some bytes) old new tells calm = exact_reading name byt
 abbrev pub OrUnread : ℕ → Answer → Type 0
 OrUnread expected a = (a.status ≡ 7) ⊎ (a.status ≡ expected)
 
-pub missing_file : {A : Type 0} (word : ℕ) (name : List ℕ) (old new : Shown) (R : List ℕ → Answer → Type 0) (S : List ℕ → A → Type 0)
+pub missing_file : {A : Type 0} (word : ℕ) (name : List ℕ) (old new : Shown) (R : List ℕ → Answer → Type 0)
+    (S : List ℕ → A → Type 0)
     (Next : A → Answer → Type 0) (a : Answer) → TellsMissing old name → OnFile (reading old new) word name R S Next a
     → a.status ≡ 7
 missing_file word name old new R S Next a missing (unread fails) = refl
@@ -157,9 +171,11 @@ missing_file word name old new R S Next a missing (refused bytes b held is) =
 missing_file word name old new R S Next a missing (stands bytes x b held is next) =
     absurd (told_missing old name (λ h. h ≡ bytes) missing held)
 
-pub refused_file : {A : Type 0} (word : ℕ) (name : List ℕ) (old new : Shown) (R : List ℕ → Answer → Type 0) (S : List ℕ → A → Type 0)
+pub refused_file : {A : Type 0} (word : ℕ) (name : List ℕ) (old new : Shown) (R : List ℕ → Answer → Type 0)
+    (S : List ℕ → A → Type 0)
     (Next : A → Answer → Type 0) (a : Answer) (P : List ℕ → Type 0) (expected : ℕ) → TellsSuch old name P
-    → ((bytes : List ℕ) (x : A) → S bytes x → P bytes → ⊥) → ((bytes : List ℕ) (b : Answer) → R bytes b → b.status ≡ expected)
+    → ((bytes : List ℕ) (x : A) → S bytes x → P bytes → ⊥)
+    → ((bytes : List ℕ) (b : Answer) → R bytes b → b.status ≡ expected)
     → OnFile (reading old new) word name R S Next a → OrUnread expected a
 refused_file word name old new R S Next a P expected tells apart status (unread fails) = inl refl
 refused_file word name old new R S Next a P expected tells apart status (refused bytes b held is) =
@@ -168,9 +184,11 @@ refused_file word name old new R S Next a P expected tells apart status (stands 
     absurd (apart bytes x is (read_such old name bytes P held tells))
 
 -- where it is told what the bytes stand for, the answer is the next one for that
-pub told_file : {A : Type 0} (word : ℕ) (name : List ℕ) (old new : Shown) (R : List ℕ → Answer → Type 0) (S : List ℕ → A → Type 0)
+pub told_file : {A : Type 0} (word : ℕ) (name : List ℕ) (old new : Shown) (R : List ℕ → Answer → Type 0)
+    (S : List ℕ → A → Type 0)
     (Next : A → Answer → Type 0) (a : Answer) (P : List ℕ → Type 0) (x : A) → TellsSuch old name P
-    → ((bytes : List ℕ) (b : Answer) → P bytes → R bytes b → ⊥) → ((bytes : List ℕ) (y : A) → P bytes → S bytes y → y ≡ x)
+    → ((bytes : List ℕ) (b : Answer) → P bytes → R bytes b → ⊥)
+    → ((bytes : List ℕ) (y : A) → P bytes → S bytes y → y ≡ x)
     → OnFile (reading old new) word name R S Next a → (a.status ≡ 7) ⊎ Next x a
 told_file word name old new R S Next a P x tells apart same (unread fails) = inl refl
 told_file word name old new R S Next a P x tells apart same (refused bytes b held is) =
@@ -190,8 +208,10 @@ then_more P Q a f (inr p) = f p
 
 -- ---- bytes have one answer
 
-pub one_of_file : {A : Type 0} (word : ℕ) (bytes : List ℕ) (R : List ℕ → Answer → Type 0) (S : List ℕ → A → Type 0) (Next : A → Answer → Type 0)
-    → IsOneAnswer (R bytes) → ((x y : A) → S bytes x → S bytes y → y ≡ x) → ((x : A) (a : Answer) → S bytes x → R bytes a → ⊥)
+pub one_of_file : {A : Type 0} (word : ℕ) (bytes : List ℕ) (R : List ℕ → Answer → Type 0) (S : List ℕ → A → Type 0)
+    (Next : A → Answer → Type 0)
+    → IsOneAnswer (R bytes) → ((x y : A) → S bytes x → S bytes y → y ≡ x)
+    → ((x : A) (a : Answer) → S bytes x → R bytes a → ⊥)
     → ((x : A) → IsOneAnswer (Next x)) → IsOneAnswer (OnFile by_bytes word bytes R S Next)
 one_of_file word bytes R S Next once same apart next a b (unread f) other = absurd f
 one_of_file word bytes R S Next once same apart next a b (refused xs c held is) (unread f) = absurd f

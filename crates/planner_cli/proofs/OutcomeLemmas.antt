@@ -34,7 +34,13 @@ refuses : (old new : Shown) (status : ℕ) → KeepsFiles old new → SaysOrFail
 refuses old new status keeps says =
     let ends : Ends DueRefusal old new status = said_ends DueRefusal old old new 2 words_line status (λ goes due. due)
     (reads_none old) keeps (λ a b. refl) refl says in
-    record { ends = ends; behind = refusal_behind old new status ends; output = keeps.output; quiet = ends_quiet DueRefusal old new status ends; later = keeps.later }
+    record {
+      ends = ends;
+      behind = refusal_behind old new status ends;
+      output = keeps.output;
+      quiet = ends_quiet DueRefusal old new status ends;
+      later = keeps.later;
+    }
 
 -- ---- one command
 
@@ -82,7 +88,8 @@ outcome_evaluate words source name old new status asked run =
       later = run.later;
     }
 
-pub outcome_replay : (words : List (List ℕ)) (source : Source) (name script_name : List ℕ) (old new : Shown) (status : ℕ)
+pub outcome_replay : (words : List (List ℕ)) (source : Source) (name script_name : List ℕ)
+    (old new : Shown) (status : ℕ)
     → Asks words (replay source name script_name)
     → RunsReplay standard_limits source name script_name old new status → Outcome words old new status
 unfolding OfCommand
@@ -98,7 +105,8 @@ outcome_replay words source name script_name old new status asked run =
       later = run.later;
     }
 
-pub outcome_check : (words : List (List ℕ)) (source : Source) (name : Option (List ℕ)) (cert_name : List ℕ) (old new : Shown) (status : ℕ)
+pub outcome_check : (words : List (List ℕ)) (source : Source) (name : Option (List ℕ)) (cert_name : List ℕ)
+    (old new : Shown) (status : ℕ)
     → Asks words (check source name cert_name)
     → RunsCheck standard_limits source name cert_name old new status → Outcome words old new status
 unfolding OfCommand

@@ -1,5 +1,6 @@
 -- What was read of the files of a command, and the verdict on a plan.
-use Rattle.std.proofs.Common.{◌≡◌, ℕ, ◌<◌, ◌≤◌, inl, inr, List, [], length, Option, Some, None, true, false, refl, sym, ◌∙◌, ap, subst, arith}
+use Rattle.std.proofs.Common.{◌≡◌, ℕ, ◌<◌, ◌≤◌, inl, inr, List, [], length, Option, Some, None, true, false, refl, sym}
+use Rattle.std.proofs.Common.{◌∙◌, ap, subst, arith}
 use Rattle.std.specs.Prelude.{ℤ, pos, is_some, All}
 use Rattle.plan_desk.specs.Desk.{Shown}
 use Rattle.plan_desk.specs.Contents.{WhereToldHolds}
@@ -26,18 +27,21 @@ use Rattle.planner_cli.specs.Words.{Source}
 use Rattle.planner_cli.specs.Lines.{read_line}
 use Rattle.planner_cli.specs.Reports.{values_report, feasible_report, infeasible_report, NamesOf}
 use Rattle.planner_cli.specs.Ending.{Answer, reply}
-use Rattle.planner_cli.specs.Bytes.{TakesOne, IsLongInstance, IsOneFault, RefusesInstance, IsLongPlan, Spells, RefusesPlan, IsLongScript, SpellsScript, RefusesScript}
+use Rattle.planner_cli.specs.Bytes.{TakesOne, IsLongInstance, IsOneFault, RefusesInstance, IsLongPlan, Spells}
+use Rattle.planner_cli.specs.Bytes.{RefusesPlan, IsLongScript, SpellsScript, RefusesScript}
 use Rattle.planner_cli.specs.Bytes.RefusesInstance.{long_instance, faulty_instance}
 use Rattle.planner_cli.specs.Bytes.RefusesPlan.{long_plan, faulty_plan}
 use Rattle.planner_cli.specs.Bytes.RefusesScript.{long_script, faulty_script}
-use Rattle.planner_cli.specs.Files.{Meeting, reading, OnFile, OnInstance, OnPlan, OnScript, ReadFails, ReadsBytes, ReadsSuch, ReadsInstance, ReadsPlan, ReadsScript}
+use Rattle.planner_cli.specs.Files.{Meeting, reading, OnFile, OnInstance, OnPlan, OnScript, ReadFails, ReadsBytes}
+use Rattle.planner_cli.specs.Files.{ReadsSuch, ReadsInstance, ReadsPlan, ReadsScript}
 use Rattle.planner_cli.specs.Files.OnFile.{unread, refused, stands}
 use Rattle.planner_cli.specs.Evaluating.{EnclosesEveryReading, Judges, AnswersEvaluate}
 use Rattle.planner_cli.specs.Evaluating.Judges.{feasible, infeasible}
 use Rattle.planner_cli.specs.Replaying.{Replays, AnswersReplay}
 use Rattle.planner_cli.specs.declared.refusal.Refusal.{Refusal}
 use Rattle.planner_cli.specs.declared.refusal.Refusal.TheVariants as refusal
-use Rattle.planner_cli.specs.Refusals.{KeepsLast, IsInstanceCause, IsPlanCause, IsScriptCause, IsDueAs, AreRead, line_or_memory}
+use Rattle.planner_cli.specs.Refusals.{KeepsLast, IsInstanceCause, IsPlanCause, IsScriptCause, IsDueAs, AreRead}
+use Rattle.planner_cli.specs.Refusals.{line_or_memory}
 use Rattle.planner_cli.proofs.ToldLemmas.{long_held}
 use Rattle.planner_cli.proofs.FileLemmas.{on_other, IsRead, read_both, before_reading, reads_before}
 use Rattle.planner_cli.proofs.RuleNames.{rule_names}
@@ -46,7 +50,8 @@ use Rattle.planner_cli.proofs.RuleNames.{rule_names}
 
 pub reads_instance : (source : Source) (old : Shown) (limits : Limits) (slack : ℤ) (inst : Tables)
     → limits ≡ standard_limits → slack ≡ pos source.slack
-    → ReadsFile source.instance limits.instance_bytes old (λ bytes. Defines limits slack bytes inst) → ReadsInstance standard_limits source old inst
+    → ReadsFile source.instance limits.instance_bytes old (λ bytes. Defines limits slack bytes inst)
+    → ReadsInstance standard_limits source old inst
 reads_instance source old limits slack inst standard same found =
     let read = subst (λ (l : Limits). ReadsFile source.instance l.instance_bytes old
     (λ bytes. Defines l slack bytes inst)) standard found in
@@ -64,8 +69,10 @@ reads_instance source old limits slack inst standard same found =
 
 -- the fault of an instance file is the only one
 pub reads_faulty : (name : List ℕ) (old : Shown) (limits : Limits) (fault : InstanceFault) → limits ≡ standard_limits
-    → ReadsFile name limits.instance_bytes old (λ bytes. (told : FileFault) × (fault_of fault ≡ Some told) × HasFileFault limits bytes told)
-    → (told : FileFault) × (fault_of fault ≡ Some told) × ReadsSuch name old (λ bytes. IsOneFault standard_limits bytes told)
+    → ReadsFile name limits.instance_bytes old
+    (λ bytes. (told : FileFault) × (fault_of fault ≡ Some told) × HasFileFault limits bytes told)
+    → (told : FileFault) × (fault_of fault ≡ Some told)
+    × ReadsSuch name old (λ bytes. IsOneFault standard_limits bytes told)
 reads_faulty name old limits fault standard found =
     let read = subst (λ (l : Limits). ReadsFile name l.instance_bytes old
     (λ bytes. (told : FileFault) × (fault_of fault ≡ Some told) × HasFileFault l bytes told)) standard found in (
@@ -92,12 +99,15 @@ reads_long name old limits standard long =
 -- ---- a refusal is due
 
 -- the file of a refusal is too long
-pub long_refused : {A : Type 0} (word : ℕ) (name : List ℕ) (old new : Shown) (R : List ℕ → Answer → Type 0) (S : List ℕ → A → Type 0) (Next : A → Answer → Type 0) (a : Answer) (most : ℕ)
-    → ((bytes : List ℕ) → most < length bytes → R bytes a) → WhereToldHolds old name (λ held. most < length held) → OnFile (reading old new) word name R S Next a
+pub long_refused : {A : Type 0} (word : ℕ) (name : List ℕ) (old new : Shown) (R : List ℕ → Answer → Type 0)
+    (S : List ℕ → A → Type 0) (Next : A → Answer → Type 0) (a : Answer) (most : ℕ)
+    → ((bytes : List ℕ) → most < length bytes → R bytes a) → WhereToldHolds old name (λ held. most < length held)
+    → OnFile (reading old new) word name R S Next a
 long_refused word name old new R S Next a most f held =
     let some = long_held old name most held in refused some.0 a some.1 (f some.0 some.2)
 
-pub instance_cause_due : (word slack : ℕ) (name : List ℕ) (old new : Shown) (Next : Tables → Answer → Type 0) (r : Refusal)
+pub instance_cause_due : (word slack : ℕ) (name : List ℕ) (old new : Shown)
+    (Next : Tables → Answer → Type 0) (r : Refusal)
     → IsInstanceCause word name old new r
     → IsDueAs (OnInstance standard_limits slack (reading old new) word name Next) r
 instance_cause_due word slack name old new Next (refusal.Unread w) (is, fails) =
@@ -118,7 +128,8 @@ instance_cause_due word slack name old new Next (refusal.Script fault) cause = a
 instance_cause_due word slack name old new Next refusal.LongCertificate cause = absurd cause
 instance_cause_due word slack name old new Next (refusal.Certificate fault) cause = absurd cause
 
-pub plan_cause_due : (word : ℕ) (name : List ℕ) (inst : Tables) (old new : Shown) (Next : List (Option ℕ) → Answer → Type 0) (r : Refusal)
+pub plan_cause_due : (word : ℕ) (name : List ℕ) (inst : Tables) (old new : Shown)
+    (Next : List (Option ℕ) → Answer → Type 0) (r : Refusal)
     → IsPlanCause word name inst old new r
     → IsDueAs (OnPlan standard_limits inst (reading old new) word name Next) r
 plan_cause_due word name inst old new Next (refusal.Unread w) (is, fails) =
@@ -137,7 +148,8 @@ plan_cause_due word name inst old new Next (refusal.Script fault) cause = absurd
 plan_cause_due word name inst old new Next refusal.LongCertificate cause = absurd cause
 plan_cause_due word name inst old new Next (refusal.Certificate fault) cause = absurd cause
 
-pub script_cause_due : (word : ℕ) (name : List ℕ) (inst : Tables) (old new : Shown) (Next : List ScriptLine → Answer → Type 0) (r : Refusal)
+pub script_cause_due : (word : ℕ) (name : List ℕ) (inst : Tables) (old new : Shown)
+    (Next : List ScriptLine → Answer → Type 0) (r : Refusal)
     → IsScriptCause word name inst old new r
     → IsDueAs (OnScript standard_limits inst (reading old new) word name Next) r
 script_cause_due word name inst old new Next (refusal.Unread w) (is, fails) =
@@ -183,9 +195,11 @@ pub after_instance : (source : Source) (old new : Shown) (inst : Tables) (Next :
 after_instance source old new inst Next a reads next = stands reads.bytes inst a reads.held reads.such next
 
 -- so was the plan
-pub after_plan : (name : List ℕ) (old mid new : Shown) (inst : Tables) (plan : List (Option ℕ)) (Next : List (Option ℕ) → Answer → Type 0) (a : Answer)
+pub after_plan : (name : List ℕ) (old mid new : Shown) (inst : Tables) (plan : List (Option ℕ))
+    (Next : List (Option ℕ) → Answer → Type 0) (a : Answer)
     → IsRead old mid
-    → ReadsPlan standard_limits name inst mid plan → Next plan a → OnPlan standard_limits inst (reading old new) 3 name Next a
+    → ReadsPlan standard_limits name inst mid plan → Next plan a
+    → OnPlan standard_limits inst (reading old new) 3 name Next a
 after_plan name old mid new inst plan Next a read reads next =
     let here = reads_before name old mid
     (λ bytes. Spells standard_limits inst bytes plan) read reads in stands here.bytes plan a here.held here.such
@@ -196,10 +210,12 @@ pub refuses_instance : (source : Source) (old new : Shown) (Next : Tables → An
     → IsDueAs (OnInstance standard_limits source.slack (reading old new) 2 source.instance Next) r
 refuses_instance source old new Next r cause = instance_cause_due 2 source.slack source.instance old new Next r cause
 
-pub refuses_plan : (source : Source) (name : List ℕ) (old mid new : Shown) (inst : Tables) (Next : Tables → List (Option ℕ) → Answer → Type 0) (r : Refusal)
+pub refuses_plan : (source : Source) (name : List ℕ) (old mid new : Shown) (inst : Tables)
+    (Next : Tables → List (Option ℕ) → Answer → Type 0) (r : Refusal)
     → ReadsInstance standard_limits source old inst
     → IsRead old mid → IsPlanCause 3 name inst mid new r
-    → IsDueAs (OnInstance standard_limits source.slack (reading old new) 2 source.instance (λ i. OnPlan standard_limits i (reading old new) 3 name (Next i))) r
+    → IsDueAs (OnInstance standard_limits source.slack (reading old new) 2 source.instance
+    (λ i. OnPlan standard_limits i (reading old new) 3 name (Next i))) r
 refuses_plan source name old mid new inst Next r reads read cause =
     due_within (OnPlan standard_limits inst (reading mid new) 3 name (Next inst))
     (OnInstance standard_limits source.slack (reading old new) 2 source.instance
@@ -210,14 +226,17 @@ refuses_plan source name old mid new inst Next r reads read cause =
     (Spells standard_limits inst) (Next inst) (Next inst) a (before_reading name old mid new read) (λ x b n. n) due))
     (plan_cause_due 3 name inst mid new (Next inst) r cause)
 
-pub evaluate_judges : (source : Source) (name : List ℕ) (old mid new : Shown) (inst : Tables) (plan : List (Option ℕ)) (a : Answer)
+pub evaluate_judges : (source : Source) (name : List ℕ) (old mid new : Shown) (inst : Tables)
+    (plan : List (Option ℕ)) (a : Answer)
     → ReadsInstance standard_limits source old inst → IsRead old mid
-    → ReadsPlan standard_limits name inst mid plan → Judges inst plan a → AnswersEvaluate standard_limits (reading old new) source.slack source.instance name a
+    → ReadsPlan standard_limits name inst mid plan → Judges inst plan a
+    → AnswersEvaluate standard_limits (reading old new) source.slack source.instance name a
 evaluate_judges source name old mid new inst plan a reads read reads_plan judges =
     after_instance source old new inst (λ i. OnPlan standard_limits i (reading old new) 3 name (Judges i)) a reads
     (after_plan name old mid new inst plan (Judges inst) a read reads_plan judges)
 
-pub replay_refuses_script : (source : Source) (name script : List ℕ) (old mid last new : Shown) (inst : Tables) (plan : List (Option ℕ)) (r : Refusal)
+pub replay_refuses_script : (source : Source) (name script : List ℕ) (old mid last new : Shown) (inst : Tables)
+    (plan : List (Option ℕ)) (r : Refusal)
     → ReadsInstance standard_limits source old inst → IsRead old mid
     → ReadsPlan standard_limits name inst mid plan → IsRead mid last → IsScriptCause 4 script inst last new r
     → IsDueAs (AnswersReplay standard_limits (reading old new) source.slack source.instance name script) r
@@ -234,11 +253,15 @@ replay_refuses_script source name script old mid last new inst plan r reads read
     (before_reading script old last new (read_both old mid last read read_plan)) (λ x b n. n) due)))
     (script_cause_due 4 script inst last new (Replays inst plan) r cause)
 
-pub replay_reads : (source : Source) (name script_name : List ℕ) (old mid last : Shown) (inst : Tables) (plan : List (Option ℕ)) (script : List ScriptLine)
+pub replay_reads : (source : Source) (name script_name : List ℕ) (old mid last : Shown) (inst : Tables)
+    (plan : List (Option ℕ)) (script : List ScriptLine)
     → ReadsInstance standard_limits source old inst → IsRead old mid
-    → ReadsPlan standard_limits name inst mid plan → IsRead mid last → ReadsScript standard_limits script_name inst last script → length plan ≡ length inst.names → All (NamesKnown inst) script
+    → ReadsPlan standard_limits name inst mid plan → IsRead mid last
+    → ReadsScript standard_limits script_name inst last script → length plan ≡ length inst.names
+    → All (NamesKnown inst) script
     → AreRead source name script_name old inst plan script
-replay_reads source name script_name old mid last inst plan script reads read reads_plan read_plan reads_script each known =
+replay_reads source name script_name old mid last inst plan script reads read reads_plan read_plan
+    reads_script each known =
     record {
       reads = reads;
       reads_plan = reads_before name old mid (λ bytes. Spells standard_limits inst bytes plan) read reads_plan;
@@ -283,7 +306,8 @@ pub record AreFound (inst : Tables) (plan : List (Option ℕ)) (values : Values)
 
 pub feasible_found : (inst : Tables) (plan : List (Option ℕ)) (v : Verdict) (values : Values) → v ≡ Feasible values
     → IfFeasible v (λ w. first_rule inst plan ≡ None)
-    → IfFeasible v (λ w. w ≡ values_of inst plan) → IfFeasible v (λ w. EnclosesEveryReading inst plan) → AreFound inst plan values
+    → IfFeasible v (λ w. w ≡ values_of inst plan) → IfFeasible v (λ w. EnclosesEveryReading inst plan)
+    → AreFound inst plan values
 feasible_found inst plan v values is none are encloses =
     record {
       none = subst (λ (x : Verdict). IfFeasible x (λ w. first_rule inst plan ≡ None)) is none;

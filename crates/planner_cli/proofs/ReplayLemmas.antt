@@ -1,5 +1,6 @@
 -- How a replay ends, and what is then due.
-use Rattle.std.proofs.Common.{◌≡◌, ◌≢◌, ℕ, suc, ◌+◌, ◌<◌, ◌≤◌, ◌⊎◌, inl, inr, ⊎_elim, List, [], ◌∷◌, ◌++◌, length, take, map, Option, Some, None, refl, sym, ◌∙◌, ap, subst, arith}
+use Rattle.std.proofs.Common.{◌≡◌, ◌≢◌, ℕ, suc, ◌+◌, ◌<◌, ◌≤◌, ◌⊎◌, inl, inr, ⊎_elim, List, [], ◌∷◌, ◌++◌, length, take}
+use Rattle.std.proofs.Common.{map, Option, Some, None, refl, sym, ◌∙◌, ap, subst, arith}
 use Rattle.std.specs.Prelude.{unwrap_or, slice_index, IsTrue, Result, Ok, Err}
 use Rattle.std.proofs.lemmas.List.{length-map, get_or-map}
 use Rattle.std.proofs.lemmas.Bool.{cases_lt}
@@ -48,7 +49,8 @@ own_opening inst opening allowed = record { starts = refl; allowed = allowed }
 
 -- a script succeeds or fails at a line
 pub completed : (inst : Tables) (opening : List ℕ) (script : List ScriptLine) → AreAllowedStarts inst opening
-    → (status : ℕ) × (tail : List ℕ) × Replays inst (map Some opening) script (reply status (replay_text inst opening script ++ tail))
+    → (status : ℕ) × (tail : List ℕ)
+    × Replays inst (map Some opening) script (reply status (replay_text inst opening script ++ tail))
 completed inst opening script allowed =
     ⊎_elim (λ fails. line (length (lists_of inst opening script))
     (record { within = omega (arith, fails); reached = refl })
@@ -58,18 +60,17 @@ completed inst opening script allowed =
     (cases_lt (length (lists_of inst opening script)) (length script + 1))
   where
     line : (n : ℕ) → FailsAt inst opening script n → (script_line script n ≢ Undo) ⊎ (script_line script n ≡ Undo)
-        → (status : ℕ) × (tail : List ℕ) × Replays inst (map Some opening) script (reply status (replay_text inst opening script ++ tail))
+        → (status : ℕ) × (tail : List ℕ)
+        × Replays inst (map Some opening) script (reply status (replay_text inst opening script ++ tail))
     line n fails (inl changes) = (
       6,
       not_allowed_line n,
-      not_allowed opening n (own_opening inst opening allowed)
-          (record { fails = fails; changes = changes }),
+      not_allowed opening n (own_opening inst opening allowed) (record { fails = fails; changes = changes }),
     )
     line n fails (inr undoes) = (
       6,
       nothing_to_undo_line n,
-      nothing_to_undo opening n (own_opening inst opening allowed)
-          (record { fails = fails; undoes = undoes }),
+      nothing_to_undo opening n (own_opening inst opening allowed) (record { fails = fails; undoes = undoes }),
     )
 
 -- ---- answers that are no failure of the desk
@@ -98,7 +99,8 @@ pub record KeysSaid (text : List ℕ) (old mid : Shown) : Type 0 where
 
 pub ended_answer : (inst : Tables) (opening : List ℕ) (script : List ScriptLine) (old mid new : Shown) (n status : ℕ)
     → AreAllowedStarts inst opening → KeysSaid (replay_text inst opening script) old mid
-    → Succeeds inst opening script → n ≡ length script → SaysOrFails 0 (end_line n) mid new status → SaysAnswer (Replays inst (map Some opening) script) old new status
+    → Succeeds inst opening script → n ≡ length script → SaysOrFails 0 (end_line n) mid new status
+    → SaysAnswer (Replays inst (map Some opening) script) old new status
 ended_answer inst opening script old mid new n status allowed keys done count says =
     inl (
       0,
@@ -109,9 +111,11 @@ ended_answer inst opening script old mid new n status allowed keys done count sa
           (subst (λ (m : ℕ). SaysOrFails 0 (end_line m) mid new status) count says),
     )
 
-pub not_allowed_answer : (inst : Tables) (opening : List ℕ) (script : List ScriptLine) (old mid new : Shown) (n status : ℕ)
+pub not_allowed_answer : (inst : Tables) (opening : List ℕ) (script : List ScriptLine)
+    (old mid new : Shown) (n status : ℕ)
     → AreAllowedStarts inst opening → KeysSaid (replay_text inst opening script) old mid
-    → FailsByStart inst opening script n → SaysOrFails 6 (not_allowed_line n) mid new status → SaysAnswer (Replays inst (map Some opening) script) old new status
+    → FailsByStart inst opening script n → SaysOrFails 6 (not_allowed_line n) mid new status
+    → SaysAnswer (Replays inst (map Some opening) script) old new status
 not_allowed_answer inst opening script old mid new n status allowed keys fails says =
     inl (
       6,
@@ -121,9 +125,11 @@ not_allowed_answer inst opening script old mid new n status allowed keys fails s
           (not_allowed_line n) old mid new 6 status keys.says keys.later keys.same says,
     )
 
-pub nothing_to_undo_answer : (inst : Tables) (opening : List ℕ) (script : List ScriptLine) (old mid new : Shown) (n status : ℕ)
+pub nothing_to_undo_answer : (inst : Tables) (opening : List ℕ) (script : List ScriptLine)
+    (old mid new : Shown) (n status : ℕ)
     → AreAllowedStarts inst opening → KeysSaid (replay_text inst opening script) old mid
-    → FailsByUndo inst opening script n → SaysOrFails 6 (nothing_to_undo_line n) mid new status → SaysAnswer (Replays inst (map Some opening) script) old new status
+    → FailsByUndo inst opening script n → SaysOrFails 6 (nothing_to_undo_line n) mid new status
+    → SaysAnswer (Replays inst (map Some opening) script) old new status
 nothing_to_undo_answer inst opening script old mid new n status allowed keys fails says =
     inl (
       6,
@@ -136,7 +142,8 @@ nothing_to_undo_answer inst opening script old mid new n status allowed keys fai
 -- saying the keys failed
 pub failed_answer : (inst : Tables) (opening : List ℕ) (script : List ScriptLine) (old new : Shown)
     → AreAllowedStarts inst opening
-    → (n : ℕ) × (n < length (replay_text inst opening script)) × ShowsSame new (after_say (take n (replay_text inst opening script)) old) → SayFails old new
+    → (n : ℕ) × (n < length (replay_text inst opening script))
+    × ShowsSame new (after_say (take n (replay_text inst opening script)) old) → SayFails old new
     → SaysAnswer (Replays inst (map Some opening) script) old new 8
 failed_answer inst opening script old new allowed (n, within, shows) fails =
     let due = completed inst opening script allowed in
@@ -153,14 +160,21 @@ pub memory_answer : (Due : Answer → Type 0) (old mid new : Shown) (status : �
     → old.faults ≤ mid.faults → mid.last ≡ old.last
     → SaysOrFails 11 memory_line mid new status → SaysAnswer Due old new status
 memory_answer Due old mid new status shows later same (inl all) =
-    inr (inl (record { status_is = all.status_is; says = says_before old mid new memory_line shows.said all.says; same = all.same ∙ same }))
+    inr (inl (record {
+      status_is = all.status_is;
+      says = says_before old mid new memory_line shows.said all.says;
+      same = all.same ∙ same;
+    }))
 memory_answer Due old mid new status shows later same (inr some) =
     inr (inr (record {
       status_is = some.status_is;
       part = some.part;
       within = some.within;
       says = says_before old mid new (take some.part memory_line) shows.said some.says;
-      fails = record { rose = rose_before old.faults mid.faults new.faults later some.fails.rose; own = some.fails.own };
+      fails = record {
+        rose = rose_before old.faults mid.faults new.faults later some.fails.rose;
+        own = some.fails.own;
+      };
     }))
 
 -- ---- the opening of a plan that breaks no rule on starts
@@ -194,7 +208,8 @@ opening_from inst plan each none =
 -- ---- what is due for the files that were read
 
 -- the report on a plan that breaks a rule on starts
-pub broken_answer : (inst : Tables) (plan : List (Option ℕ)) (script : List ScriptLine) (old new : Shown) (opening : Opening) (report text : List ℕ) (status : ℕ)
+pub broken_answer : (inst : Tables) (plan : List (Option ℕ)) (script : List ScriptLine) (old new : Shown)
+    (opening : Opening) (report text : List ℕ) (status : ℕ)
     → OpensAs inst plan opening → opening ≡ Broken report → text ≡ report
     → SaysOrFails 1 text old new status → SaysAnswer (Replays inst plan script) old new status
 broken_answer inst plan script old new opening report text status opens is same says =
@@ -203,13 +218,14 @@ broken_answer inst plan script old new opening report text status opens is same 
       1,
       infeasible_report inst found.0,
       broken_start found.0 found.1,
-      subst
-          (λ (t : List ℕ). SaysOrFails 1 t old new status) (same ∙ found.2) says,
+      subst (λ (t : List ℕ). SaysOrFails 1 t old new status) (same ∙ found.2) says,
     )
 
-pub read_answer : (source : Source) (name script_name : List ℕ) (old mid new : Shown) (inst : Tables) (plan : List (Option ℕ)) (script : List ScriptLine) (status : ℕ)
+pub read_answer : (source : Source) (name script_name : List ℕ) (old mid new : Shown) (inst : Tables)
+    (plan : List (Option ℕ)) (script : List ScriptLine) (status : ℕ)
     → AreRead source name script_name old inst plan script
-    → SaysAnswer (Replays inst plan script) mid new status → SaysAnswer (AnswersReplay standard_limits (reading old mid) source.slack source.instance name script_name) mid new status
+    → SaysAnswer (Replays inst plan script) mid new status → SaysAnswer (AnswersReplay standard_limits (reading old mid)
+    source.slack source.instance name script_name) mid new status
 read_answer source name script_name old mid new inst plan script status read (inl (due, text, is, says)) = inl (
   due,
   text,

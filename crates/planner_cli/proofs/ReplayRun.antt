@@ -11,16 +11,30 @@ use Rattle.instance_model.specs.Tables.{Tables}
 use Rattle.instance_model.specs.Rules.{first_start_rule}
 use Rattle.planner_cli.specs.Words.{Source}
 use Rattle.planner_cli.specs.Ending.{Answer, OrMemory, Ends}
-use Rattle.planner_cli.specs.Bytes.{TakesOne, RefusesInstance, Spells, RefusesPlan, SpellsScript, IsRefusedScript, RefusesScript}
-use Rattle.planner_cli.specs.Files.{Meeting, reading, by_bytes, OnInstance, OnPlan, OnScript, ReadsInstance, ReadsPlan, ReadsScript, TellsInstance, TellsPlan, TellsScript}
+use Rattle.planner_cli.specs.Bytes.{TakesOne, RefusesInstance, Spells, RefusesPlan, SpellsScript, IsRefusedScript}
+use Rattle.planner_cli.specs.Bytes.{RefusesScript}
+use Rattle.planner_cli.specs.Files.{Meeting, reading, by_bytes, OnInstance, OnPlan, OnScript, ReadsInstance, ReadsPlan}
+use Rattle.planner_cli.specs.Files.{ReadsScript, TellsInstance, TellsPlan, TellsScript}
 use Rattle.planner_cli.specs.Files.OnFile.{unread, refused, stands}
-use Rattle.planner_cli.specs.Replaying.{IsOpeningOf, Replays, AnswersReplay, DueReplay, ReadsReplay, BehindReplay, ScriptedPlan, TellsScripted, ExpectsReplay, RunsReplay}
+use Rattle.planner_cli.specs.Replaying.{IsOpeningOf, Replays, AnswersReplay, DueReplay, ReadsReplay, BehindReplay}
+use Rattle.planner_cli.specs.Replaying.{ScriptedPlan, TellsScripted, ExpectsReplay, RunsReplay}
 use Rattle.planner_cli.specs.Replaying.Replays.{broken_start, ended, not_allowed, nothing_to_undo}
 use Rattle.planner_cli.specs.Replaying.SaysFailure.{not_allowed as by_start, nothing_to_undo as by_undo}
-use Rattle.planner_cli.specs.Replaying.BehindReplay.{broken_start as behind_broken_start, ended as behind_ended, refused_instance as behind_refused_instance, refused_line as behind_refused_line, refused_plan as behind_refused_plan, refused_script as behind_refused_script, unread_instance as behind_unread_instance, unread_plan as behind_unread_plan, unread_script as behind_unread_script}
-use Rattle.planner_cli.specs.Replaying.ExpectsReplay.{no_instance, refused_instance, no_plan, refused_plan, no_script, refused_script, broken_opening, done_script, failing_line}
-use Rattle.planner_cli.proofs.FileLemmas.{Carries, on_other, Goes, later_reading, exact_reading, OrUnread, missing_file, refused_file, told_file, then_next, then_more, say_refusal}
-use Rattle.planner_cli.proofs.AnswerLemmas.{instance_status, plan_status, same_script, script_sound, refused_script_bytes, script_status, same_opening, no_broken_start, no_failure, replayed_files_once}
+use Rattle.planner_cli.specs.Replaying.BehindReplay.{broken_start as behind_broken_start, ended as behind_ended}
+use Rattle.planner_cli.specs.Replaying.BehindReplay.{refused_instance as behind_refused_instance}
+use Rattle.planner_cli.specs.Replaying.BehindReplay.{refused_line as behind_refused_line}
+use Rattle.planner_cli.specs.Replaying.BehindReplay.{refused_plan as behind_refused_plan}
+use Rattle.planner_cli.specs.Replaying.BehindReplay.{refused_script as behind_refused_script}
+use Rattle.planner_cli.specs.Replaying.BehindReplay.{unread_instance as behind_unread_instance}
+use Rattle.planner_cli.specs.Replaying.BehindReplay.{unread_plan as behind_unread_plan}
+use Rattle.planner_cli.specs.Replaying.BehindReplay.{unread_script as behind_unread_script}
+use Rattle.planner_cli.specs.Replaying.ExpectsReplay.{no_instance, refused_instance, no_plan, refused_plan, no_script}
+use Rattle.planner_cli.specs.Replaying.ExpectsReplay.{refused_script, broken_opening, done_script, failing_line}
+use Rattle.planner_cli.proofs.FileLemmas.{Carries, on_other, Goes, later_reading, exact_reading, OrUnread, missing_file}
+use Rattle.planner_cli.proofs.FileLemmas.{refused_file, told_file, then_next, then_more, say_refusal}
+use Rattle.planner_cli.proofs.AnswerLemmas.{instance_status, plan_status, same_script, script_sound}
+use Rattle.planner_cli.proofs.AnswerLemmas.{refused_script_bytes, script_status, same_opening, no_broken_start}
+use Rattle.planner_cli.proofs.AnswerLemmas.{no_failure, replayed_files_once}
 use Rattle.planner_cli.proofs.EndLemmas.{Stays, ends_quiet, ends_behind, ends_allowed, ends_exact}
 use Rattle.planner_cli.proofs.EvaluateRun.{on_taken, bad_instance, on_spelled, bad_plan}
 
@@ -54,24 +68,52 @@ replay_stays limits source name script_name old mid new first goes a =
 -- ---- what stands behind the status
 
 -- the files that were read
-abbrev files_read : (limits : Limits) (source : Source) (name script_name : List ℕ) (old : Shown) (inst : Tables) (plan : List (Option ℕ)) (script : List ScriptLine)
-    → ReadsInstance limits source old inst → ReadsPlan limits name inst old plan → ReadsScript limits script_name inst old script → ReadsReplay limits source name script_name old
+abbrev files_read : (limits : Limits) (source : Source) (name script_name : List ℕ) (old : Shown) (inst : Tables)
+    (plan : List (Option ℕ)) (script : List ScriptLine)
+    → ReadsInstance limits source old inst → ReadsPlan limits name inst old plan
+    → ReadsScript limits script_name inst old script → ReadsReplay limits source name script_name old
 files_read limits source name script_name old inst plan script reads reads_plan reads_script =
-    record { inst = inst; reads = reads; plan = plan; reads_plan = reads_plan; script = script; reads_script = reads_script }
+    record {
+      inst = inst;
+      reads = reads;
+      plan = plan;
+      reads_plan = reads_plan;
+      script = script;
+      reads_script = reads_script;
+    }
 
-replayed_behind : (limits : Limits) (source : Source) (name script_name : List ℕ) (old new : Shown) (files : ReadsReplay limits source name script_name old) (a : Answer)
-    → Replays files.inst files.plan files.script a → Says a.text old new → BehindReplay limits source name script_name old new a.status
+replayed_behind : (limits : Limits) (source : Source) (name script_name : List ℕ) (old new : Shown)
+    (files : ReadsReplay limits source name script_name old) (a : Answer)
+    → Replays files.inst files.plan files.script a → Says a.text old new
+    → BehindReplay limits source name script_name old new a.status
 replayed_behind limits source name script_name old new files a (broken_start rule first) says =
     behind_broken_start (record { files = files; rule = rule; first = first; says = says })
 replayed_behind limits source name script_name old new files a (ended opening opens done) says =
     behind_ended (record { files = files; opening = opening; opens = opens; succeeds = done; says = says })
 replayed_behind limits source name script_name old new files a (not_allowed opening n opens fails) says =
-    behind_refused_line (record { files = files; opening = opening; opens = opens; n = n; line = _; fails = by_start fails; says = says })
+    behind_refused_line (record {
+      files = files;
+      opening = opening;
+      opens = opens;
+      n = n;
+      line = _;
+      fails = by_start fails;
+      says = says;
+    })
 replayed_behind limits source name script_name old new files a (nothing_to_undo opening n opens fails) says =
-    behind_refused_line (record { files = files; opening = opening; opens = opens; n = n; line = _; fails = by_undo fails; says = says })
+    behind_refused_line (record {
+      files = files;
+      opening = opening;
+      opens = opens;
+      n = n;
+      line = _;
+      fails = by_undo fails;
+      says = says;
+    })
 
 replay_behind : (limits : Limits) (source : Source) (name script_name : List ℕ) (old new : Shown) (a : Answer)
-    → AnswersReplay limits (reading old new) source.slack source.instance name script_name a → Says a.text old new → BehindReplay limits source name script_name old new a.status
+    → AnswersReplay limits (reading old new) source.slack source.instance name script_name a → Says a.text old new
+    → BehindReplay limits source name script_name old new a.status
 replay_behind limits source name script_name old new a (unread fails) says =
     behind_unread_instance (record { fails = fails; says = says })
 replay_behind limits source name script_name old new a (refused bytes b held is) says =
@@ -84,15 +126,18 @@ replay_behind limits source name script_name old new a (stands bytes inst b held
     subst (λ (n : ℕ). BehindReplay limits source name script_name old new n) (sym (plan_status limits inst xs c is))
     (behind_refused_plan inst (record { bytes = bytes; held = held; such = takes })
     (say_refusal name (RefusesPlan limits inst) old new xs c also is says))
-replay_behind limits source name script_name old new a (stands bytes inst b held takes (stands xs plan c also spells (unread fails))) says =
+replay_behind limits source name script_name old new a
+    (stands bytes inst b held takes (stands xs plan c also spells (unread fails))) says =
     behind_unread_script inst plan (record { bytes = bytes; held = held; such = takes })
     (record { bytes = xs; held = also; such = spells }) (record { fails = fails; says = says })
-replay_behind limits source name script_name old new a (stands bytes inst b held takes (stands xs plan c also spells (refused ys d too is))) says =
+replay_behind limits source name script_name old new a
+    (stands bytes inst b held takes (stands xs plan c also spells (refused ys d too is))) says =
     subst (λ (n : ℕ). BehindReplay limits source name script_name old new n) (sym (script_status limits inst ys d is))
     (behind_refused_script inst plan (record { bytes = bytes; held = held; such = takes })
     (record { bytes = xs; held = also; such = spells })
     (say_refusal script_name (RefusesScript limits inst) old new ys d too is says))
-replay_behind limits source name script_name old new a (stands bytes inst b held takes (stands xs plan c also spells (stands ys script d too writes replays))) says =
+replay_behind limits source name script_name old new a
+    (stands bytes inst b held takes (stands xs plan c also spells (stands ys script d too writes replays))) says =
     replayed_behind limits source name script_name old new
     (files_read limits source name script_name old inst plan script
     (record { bytes = bytes; held = held; such = takes }) (record { bytes = xs; held = also; such = spells })
@@ -130,7 +175,8 @@ done_verdict inst plan script a opening opens done (nothing_to_undo other n also
     absurd (no_failure inst opening script n done
     (subst (λ o. FailsByUndo inst o script n) (same_opening inst plan other opening also opens) fails).fails)
 
-failing_verdict : (inst : Tables) (plan : List (Option ℕ)) (script : List ScriptLine) (a : Answer) (opening : List ℕ) (n : ℕ)
+failing_verdict : (inst : Tables) (plan : List (Option ℕ)) (script : List ScriptLine) (a : Answer)
+    (opening : List ℕ) (n : ℕ)
     → IsOpeningOf inst plan opening → FailsAt inst opening script n → Replays inst plan script a
     → OrUnread 6 a
 failing_verdict inst plan script a opening n opens fails (broken_start rule first) =
@@ -141,18 +187,22 @@ failing_verdict inst plan script a opening n opens fails (ended other also done)
 failing_verdict inst plan script a opening n opens fails (not_allowed other m also more) = inr refl
 failing_verdict inst plan script a opening n opens fails (nothing_to_undo other m also more) = inr refl
 
-on_planned : (limits : Limits) (source : Source) (name script_name : List ℕ) (old new : Shown) (inst : Tables) (plan : List (Option ℕ)) (a : Answer)
+on_planned : (limits : Limits) (source : Source) (name script_name : List ℕ) (old new : Shown) (inst : Tables)
+    (plan : List (Option ℕ)) (a : Answer)
     → TellsInstance limits old source inst → TellsPlan limits old name inst plan
-    → AnswersReplay limits (reading old new) source.slack source.instance name script_name a → (a.status ≡ 7) ⊎ OnReplayed limits inst (reading old new) script_name plan a
+    → AnswersReplay limits (reading old new) source.slack source.instance name script_name a
+    → (a.status ≡ 7) ⊎ OnReplayed limits inst (reading old new) script_name plan a
 on_planned limits source name script_name old new inst plan a tells spells due =
     then_more (OnPlanned limits (reading old new) name script_name inst a)
     (OnReplayed limits inst (reading old new) script_name plan a) a
     (on_spelled limits inst name old new (OnReplayed limits inst (reading old new) script_name) plan a spells)
     (on_taken limits source old new (OnPlanned limits (reading old new) name script_name) inst a tells due)
 
-on_scripted : (limits : Limits) (source : Source) (name script_name : List ℕ) (old new : Shown) (files : ScriptedPlan) (a : Answer)
+on_scripted : (limits : Limits) (source : Source) (name script_name : List ℕ) (old new : Shown)
+    (files : ScriptedPlan) (a : Answer)
     → TellsScripted limits old source name script_name files
-    → AnswersReplay limits (reading old new) source.slack source.instance name script_name a → (a.status ≡ 7) ⊎ Replays files.inst files.plan files.script a
+    → AnswersReplay limits (reading old new) source.slack source.instance name script_name a
+    → (a.status ≡ 7) ⊎ Replays files.inst files.plan files.script a
 on_scripted limits source name script_name old new files a tells due =
     then_more (OnReplayed limits files.inst (reading old new) script_name files.plan a)
     (Replays files.inst files.plan files.script a) a

@@ -1,5 +1,6 @@
 -- What was said, piece by piece.
-use Rattle.std.proofs.Common.{◌≡◌, ℕ, ◌+◌, ◌≤◌, inl, inr, List, ◌++◌, length, take, Option, Some, None, sym, ◌∙◌, ap, subst, arith, length-append, append_assoc}
+use Rattle.std.proofs.Common.{◌≡◌, ℕ, ◌+◌, ◌≤◌, inl, inr, List, ◌++◌, length, take, Option, Some, None, sym, ◌∙◌, ap}
+use Rattle.std.proofs.Common.{subst, arith, length-append, append_assoc}
 use Rattle.std.specs.Prelude.{option_map}
 use Rattle.std.proofs.Math.Seq.{take-append-add}
 use Rattle.std.proofs.lemmas.List.{take-append-le}
@@ -51,7 +52,10 @@ some_more a b old mid new status first later some =
       within = omega (arith, some.within, length-append a b);
       says = subst (λ (t : List ℕ). Says t old new) (sym (take-append-add a b some.part))
           (says_more a (take some.part b) old mid new first some.says);
-      fails = record { rose = rose_before old.faults mid.faults new.faults later some.fails.rose; own = some.fails.own };
+      fails = record {
+        rose = rose_before old.faults mid.faults new.faults later some.fails.rose;
+        own = some.fails.own;
+      };
     }
 
 pub or_more : (a b : List ℕ) (old mid new : Shown) (due status : ℕ) → Says a old mid → old.faults ≤ mid.faults

@@ -90,7 +90,8 @@ long_held s name most p = go s.input.unread s.output.holds p
 
     go : (u : Option (List ℕ)) (h : Option (List ℕ → Option (List ℕ)))
         → IfSome u (λ _. IfSome h (λ holds. IsSomeAnd (holds name) (λ held. most < length held)))
-        → (bytes : List ℕ) × IfSome u (λ _. IfSome h (λ holds. IsSomeAnd (holds name) (λ held. held ≡ bytes))) × (most < length bytes)
+        → (bytes : List ℕ) × IfSome u (λ _. IfSome h (λ holds. IsSomeAnd (holds name) (λ held. held ≡ bytes)))
+        × (most < length bytes)
     go None h q = (replicate (suc most) 0, tt, many)
     go (Some u) None q = (replicate (suc most) 0, tt, many)
     go (Some u) (Some holds) q = some (holds name) q

@@ -1,9 +1,12 @@
 -- The words of a command: their number, and that at most one parser answers.
-use Rattle.std.proofs.Common.{◌≡◌, ◌<◌, ℕ, List, [], ◌∷◌, length, Bool, true, false, Option, Some, None, refl, sym, ◌∙◌, ap, arith, codes}
+use Rattle.std.proofs.Common.{◌≡◌, ◌<◌, ℕ, List, [], ◌∷◌, length, Bool, true, false, Option, Some, None, refl, sym, ◌∙◌}
+use Rattle.std.proofs.Common.{ap, arith, codes}
 use Rattle.std.specs.Prelude.{bytes_eq, ◌&&◌, if◌then◌else◌}
 use Rattle.std.proofs.lemmas.Slice.Eq.{bytes_eq-Decides}
 use Rattle.instance_model.specs.Rules.{or_else}
-use Rattle.planner_cli.specs.Words.{Source, Command, evaluate, replay, check, is_file_word, slack_of, given_plan, evaluation, replaying, checking, evaluate_of, replay_of, check_of, command_of, IsOneCommand}
+use Rattle.planner_cli.specs.Words.{Source, Command, evaluate, replay, check, is_file_word, slack_of, given_plan}
+use Rattle.planner_cli.specs.Words.{evaluation, replaying, checking, evaluate_of, replay_of, check_of, command_of}
+use Rattle.planner_cli.specs.Words.{IsOneCommand}
 
 -- ---- too few words, and too many
 

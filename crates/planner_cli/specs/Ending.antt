@@ -2,25 +2,20 @@
 --
 -- `old` and `new` are what the desk shows before and after a run.
 use Rattle.std.specs.Prelude.{◌≡◌, ◌≢◌, ◌⊎◌, ℕ, ◌<◌, ◌≤◌, List, [], ◌∷◌, length, take, Some, IfSome}
-use Rattle.plan_desk.specs.Desk.{Shown, Output, file_open, output_after_write, none_open}
+use Rattle.plan_desk.specs.Desk.{Shown}
 use Rattle.plan_desk.specs.Faults.{Rose, IsFaultOf}
 use Rattle.plan_desk.specs.Contents.{Says}
+use Rattle.plan_desk.specs.FileWrites.{FileWrite, after_writes}
 use Rattle.plan_desk.specs.declared.call.DeskCall.TheVariants.{Say}
 use Rattle.planner_cli.specs.Lines.{memory_line}
 
 -- ---- answers
 
--- a file that is written: the number of its word, its name and its bytes
-pub record Write : Type 0 where
-  pub word : ℕ
-  pub name : List ℕ
-  pub bytes : List ℕ
-
 -- an answer: the status, the text that is said, and the files that are written, one after another
 pub record Answer : Type 0 where
   pub status : ℕ
   pub text : List ℕ
-  pub writes : List Write
+  pub writes : List FileWrite
 
 -- an answer that writes no file
 abbrev pub reply : ℕ → List ℕ → Answer
@@ -37,11 +32,6 @@ pub data OrMemory (Answers : Answer → Type 0) : Answer → Type 0 where
 
 -- ---- the end of a run
 
--- the files after these were opened, written whole and ended, one after another
-abbrev pub after_writes : List Write → Output → Output
-after_writes [] files = files
-after_writes (w ∷ ws) files = after_writes ws (none_open (output_after_write w.bytes (file_open w.name files)))
-
 -- The last fault is what it was, but where a file could not be read (7), what was due could not be said (8) or memory
 -- ran out (11).
 abbrev pub IsQuiet : ℕ → (old new : Shown) → Type 0
@@ -57,7 +47,7 @@ pub record IsDone (Due : Shown → Answer → Type 0) (old new : Shown) (status 
   pub answer : Answer
   pub due : Due new answer
   pub status_is : status ≡ answer.status
-  pub writes : new.output ≡ after_writes answer.writes old.output
+  pub writes : new.output ≡ (after_writes answer.writes old).output
   pub says : Says answer.text old new
   pub quiet : IsQuiet status old new
 
@@ -70,7 +60,7 @@ pub record IsUnsaid (Due : Shown → Answer → Type 0) (old new : Shown) : Type
   pub silent : before.said ≡ old.said
   pub later : old.faults ≤ before.faults
   pub quiet : IsQuiet answer.status old before
-  pub writes : new.output ≡ after_writes answer.writes old.output
+  pub writes : new.output ≡ (after_writes answer.writes old).output
   pub part : ℕ
   pub within : part < length answer.text
   pub says : Says (take part answer.text) old new

@@ -5,7 +5,8 @@ use Rattle.instance_shape.specs.declared.fault.Which.TheVariants as which
 use Rattle.instance_shape.specs.declared.fault.Flaw.{Flaw}
 use Rattle.instance_shape.specs.declared.fault.Flaw.TheVariants as flaw
 use Rattle.instance_shape.specs.Keys.{text_of}
-use Rattle.instance_shape.specs.CrossFaults.{CrossFault, scenario_list, band_length, bad_tmax, no_delta, unknown, no_risk, scenario_count}
+use Rattle.instance_shape.specs.CrossFaults.{CrossFault, scenario_list, band_length, bad_tmax, no_delta, unknown}
+use Rattle.instance_shape.specs.CrossFaults.{no_risk, scenario_count}
 use Rattle.instance_shape.specs.FileFaults.{FileFault, syntax, too_deep, shape, across}
 use Rattle.plan_text.specs.declared.fault.PlanFault.{PlanFault}
 use Rattle.plan_text.specs.declared.fault.PlanFault.TheVariants.{BadLine, UnknownName, Twice, Memory}

@@ -1,5 +1,6 @@
 -- The texts of reports. Each line ends with a line feed, names are printed as they are, and values have 12 decimals.
-use Rattle.std.specs.Prelude.{ℕ, ◌*◌, ℤ, ◌-ℤ◌, ◌<◌, List, [], ◌++◌, length, Option, Some, option_map, codes, decimal, slice_index_or}
+use Rattle.std.specs.Prelude.{ℕ, ◌*◌, ℤ, ◌-ℤ◌, ◌<◌, List, [], ◌++◌, length, Option, Some, option_map, codes, decimal}
+use Rattle.std.specs.Prelude.{slice_index_or}
 use Rattle.std.specs.Fmt.{signed_decimal}
 use Rattle.fixed_num.specs.Texts.{fixed_text}
 use Rattle.fixed_num.specs.Floors.{floor_of}

@@ -1,6 +1,7 @@
-// The command `check`: all files are read, the plan is judged if one is given, the certificate is checked, and the
-// report is said.
-ghost use Rattle.std.specs.Prelude.{◌≡◌, ◌<◌, ◌≤◌, ◌^◌, length, option_copied, Some, IfSome, IfOk, IfErr, OnOk, unsigned_abs};
+//! The command `check`: all files are read, the plan is judged if one is given, the certificate is checked, and the
+//! report is said.
+ghost use Rattle.std.specs.Prelude.{◌≡◌, ◌<◌, ◌≤◌, ◌^◌, length, option_copied, Some, IfSome, IfOk, IfErr, OnOk};
+ghost use Rattle.std.specs.Prelude.{unsigned_abs};
 ghost use Rattle.instance_model.specs.Limits.{standard_limits};
 ghost use Rattle.branch_tree.specs.Ranges.{IsInRange};
 ghost use Rattle.plan_desk.specs.Contents.{OnlyReads};

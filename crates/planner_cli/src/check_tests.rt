@@ -1,4 +1,4 @@
-// Checks of certificates over files in memory.
+//! Checks of certificates over files in memory.
 use crate::run;
 use crate::tests::{BANDED, BOTH, PLAIN, TIGHT, TOGETHER, desk, owned};
 use plan_desk::{DeskCall, MemDesk};
@@ -155,7 +155,8 @@ fn certificates_are_checked(rt: HostRuntime) -> Result<(), Fail> {
         ),
         (
             SURE_BANDED,
-            "mpcert 1\nbound 2000000000000000000\nlists 0\ntree\nsplit 1 1\nsplit 2 1\nband 1 1 over\ncost 0\ncost 0\ncost 0\n",
+            "mpcert 1\nbound 2000000000000000000\nlists 0\ntree\nsplit 1 1\nsplit 2 1\nband 1 1 over\n\
+                cost 0\ncost 0\ncost 0\n",
             5,
             "refused certificate bad line 10\n",
         ),
@@ -232,7 +233,8 @@ fn plans_are_compared_with_bounds(rt: HostRuntime) -> Result<(), Fail> {
             BOTH,
             "mpcert 1\nbound 666666000000000000\nlists 1\nprices\nup 1 1 333333\ntree\ncost 1\n",
             0,
-            "accepted\nbound 666666000000000000\nbound-cost 0.333333000000\nscore 2000000000000000000\ngap 1333334000000000000\nrounded 0\n",
+            "accepted\nbound 666666000000000000\nbound-cost 0.333333000000\nscore 2000000000000000000\n\
+                gap 1333334000000000000\nrounded 0\n",
         ),
         (
             SURE_EXCLUDED,

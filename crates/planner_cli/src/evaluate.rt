@@ -1,4 +1,4 @@
-// The command `evaluate`: both files are read, the plan is judged, and the report is said.
+//! The command `evaluate`: both files are read, the plan is judged, and the report is said.
 ghost use Rattle.std.specs.Prelude.{◌≡◌, ◌≤◌, length, IfOk, IfErr, OnOk};
 ghost use Rattle.instance_model.specs.Limits.{standard_limits};
 ghost use Rattle.plan_desk.specs.Contents.{OnlyReads};
@@ -22,7 +22,8 @@ use std::alloc::{AllocError, Global};
 /// Evaluates a plan, and says the report.
 pub fn evaluate_files<D: Desk>(alloc: Global, source: &Source<'_>, plan: &str, desk: &mut D) -> u8
     requires small { source.now.slack ≤ 1_000_000_000 }
-    ensures { RunsEvaluate standard_limits (source_view source.now) plan.now (D.shows desk.old) (D.shows desk.new) result }
+    ensures { RunsEvaluate standard_limits (source_view source.now) plan.now (D.shows desk.old)
+        (D.shows desk.new) result }
 {
     let report = evaluate(alloc, source, plan, desk);
     say_report(alloc, desk, report)

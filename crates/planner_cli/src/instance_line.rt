@@ -1,7 +1,8 @@
-// The line of a refused instance.
+//! The line of a refused instance.
 ghost use Rattle.std.specs.Prelude.{◌≡◌, ◌++◌, OnOk, IfSome};
 ghost use Rattle.instance_read.specs.Faults.{fault_of};
-ghost use Rattle.planner_cli.specs.Lines.{then_number, then_text, limit_word, fault_words, fault_place, instance_fault_line};
+ghost use Rattle.planner_cli.specs.Lines.{then_number, then_text, limit_word, fault_words, fault_place};
+ghost use Rattle.planner_cli.specs.Lines.{instance_fault_line};
 ghost use Rattle.planner_cli.specs.Refusals.{line_or_memory};
 
 use crate::refusal::MEMORY_LINE;

@@ -1,4 +1,4 @@
-// The files of a command are read. None is changed, and nothing is said.
+//! The files of a command are read. None is changed, and nothing is said.
 ghost use Rattle.std.specs.Prelude.{◌≡◌, ◌≤◌, [], length, pos, All, option_copied, IfSome, IfOk, IfErr, OnOk};
 ghost use Rattle.instance_model.specs.Limits.{standard_limits};
 ghost use Rattle.plan_desk.specs.Desk.{ShowsSame, after_take_in};
@@ -6,7 +6,8 @@ ghost use Rattle.plan_moves.specs.Scripts.{NamesKnown};
 ghost use Rattle.branch_tree.specs.Ranges.{IsInRange};
 ghost use Rattle.plan_desk.specs.Contents.{OnlyReads};
 ghost use Rattle.planner_cli.specs.Asked.{source_view};
-ghost use Rattle.planner_cli.specs.Files.{ReadsBytes, ReadsInstance, ReadsPlan, ReadsScript, ReadsGiven, ReadsCertificate};
+ghost use Rattle.planner_cli.specs.Files.{ReadsBytes, ReadsInstance, ReadsPlan, ReadsScript, ReadsGiven};
+ghost use Rattle.planner_cli.specs.Files.{ReadsCertificate};
 ghost use Rattle.planner_cli.specs.Refusals.{KeepsLast, IsReadCause, IsInstanceCause, IsPlanCause, IsScriptCause};
 ghost use Rattle.planner_cli.specs.Refusals.{IsGivenCause, IsCertificateCause, AfterGiven};
 
@@ -40,7 +41,8 @@ pub fn instance_of<D: Desk>(
     requires small { source.now.slack ≤ 1_000_000_000 }
     ensures ok { IfOk result (ReadsInstance standard_limits (source_view source.now) (D.shows desk.old)) }
     ensures err { IfErr result (IsInstanceCause word source.now.instance.now (D.shows desk.old) (D.shows desk.new)) }
-    ensures read { OnOk result (ShowsSame (D.shows desk.new) (after_take_in source.now.instance.now [] (D.shows desk.old))) }
+    ensures read { OnOk result
+        (ShowsSame (D.shows desk.new) (after_take_in source.now.instance.now [] (D.shows desk.old))) }
     ensures last { OnOk result ((D.shows desk.new).last ≡ (D.shows desk.old).last) }
     ensures kept { IfErr result (KeepsLast (D.shows desk.old) (D.shows desk.new)) }
     ensures only_reads { OnlyReads (D.shows desk.old) (D.shows desk.new) }
@@ -155,7 +157,8 @@ pub fn given_plan_of<D: Desk>(
 ) -> Result<Option<Plan>, Refusal>
     ensures ok { IfOk result (ReadsGiven standard_limits (option_copied name.entry) inst.now (D.shows desk.old)) }
     ensures each { IfOk result (λ given. IfSome given (λ plan. length plan ≡ length inst.now.names)) }
-    ensures err { IfErr result (IsGivenCause word (option_copied name.entry) inst.now (D.shows desk.old) (D.shows desk.new)) }
+    ensures err { IfErr result
+        (IsGivenCause word (option_copied name.entry) inst.now (D.shows desk.old) (D.shows desk.new)) }
     ensures read { OnOk result (AfterGiven (option_copied name.entry) (D.shows desk.old) (D.shows desk.new)) }
     ensures last { OnOk result ((D.shows desk.new).last ≡ (D.shows desk.old).last) }
     ensures kept { IfErr result (KeepsLast (D.shows desk.old) (D.shows desk.new)) }

@@ -1,6 +1,7 @@
-// Why a run refuses, and what it then says.
+//! Why a run refuses, and what it then says.
 ghost use Rattle.std.specs.Prelude.{◌≡◌, ◌++◌, IfOk, OnOk};
-ghost use Rattle.planner_cli.specs.Lines.{numbered_line, plan_fault_line, script_fault_line, certificate_fault_line, failing_leaf_line};
+ghost use Rattle.planner_cli.specs.Lines.{numbered_line, plan_fault_line, script_fault_line, certificate_fault_line};
+ghost use Rattle.planner_cli.specs.Lines.{failing_leaf_line};
 ghost use Rattle.planner_cli.specs.Refusals.{status_of, line_of};
 
 use crate::instance_line::push_instance_fault;

@@ -1,4 +1,4 @@
-// The command `replay`: all files are read, and the keys along the script are said.
+//! The command `replay`: all files are read, and the keys along the script are said.
 ghost use Rattle.std.specs.Prelude.{◌≡◌, ◌≤◌, length, map, All, Some, IfOk, IfErr, OnOk, unwrap_or};
 ghost use Rattle.instance_model.specs.Limits.{standard_limits};
 ghost use Rattle.instance_model.specs.Plans.{AreAllowedStarts};
@@ -85,7 +85,8 @@ fn read_files<D: Desk>(
 fn replay_read<R: Row, D: Desk>(alloc: Global, files: &Files, desk: &mut D) -> u8
     requires each { length files.now.plan ≡ length files.now.inst.names }
     requires known { All (NamesKnown files.now.inst) files.now.script }
-    ensures ends { SaysAnswer (Replays files.now.inst files.now.plan files.now.script) (D.shows desk.old) (D.shows desk.new) result }
+    ensures ends { SaysAnswer (Replays files.now.inst files.now.plan files.now.script) (D.shows desk.old)
+        (D.shows desk.new) result }
     ensures keeps { KeepsFiles (D.shows desk.old) (D.shows desk.new) }
 {
     match opening_of(alloc, &files.inst, &files.plan) {
@@ -125,7 +126,8 @@ fn replay_from<R: Row, D: Desk>(
 ) -> u8
     requires allowed { AreAllowedStarts inst.now starts.now }
     requires known { All (NamesKnown inst.now) script.now }
-    ensures ends { SaysAnswer (Replays inst.now (map Some starts.now) script.now) (D.shows desk.old) (D.shows desk.new) result }
+    ensures ends { SaysAnswer (Replays inst.now (map Some starts.now) script.now) (D.shows desk.old)
+        (D.shows desk.new) result }
     ensures keeps { KeepsFiles (D.shows desk.old) (D.shows desk.new) }
 {
     match replay::<R, D>(alloc, inst, starts, script, desk) {

@@ -1,4 +1,4 @@
-// Replays of scripts over files in memory.
+//! Replays of scripts over files in memory.
 use crate::run::run_with;
 use crate::tests::{BANDED, BOTH, LATE, PLAIN, PLAIN_REPORT, desk, owned};
 use fixed_num::{Steps, Sum};
@@ -73,14 +73,16 @@ fn scripts_are_replayed(rt: HostRuntime) -> Result<(), Fail> {
             BOTH,
             "swap I1 I2\nmove I2 2\nundo\nundo\nundo\n",
             6,
-            "0 0 2000000000000000000\n1 0 3500000000000000000\n2 2000000000000 3500000000000000000\n3 0 3500000000000000000\n4 0 2000000000000000000\nrefused script nothing to undo 5\n",
+            "0 0 2000000000000000000\n1 0 3500000000000000000\n2 2000000000000 3500000000000000000\n\
+                3 0 3500000000000000000\n4 0 2000000000000000000\nrefused script nothing to undo 5\n",
         ),
         (
             BANDED,
             BOTH,
             "swap I1 I2\nmove I2 2\nundo\nundo",
             0,
-            "0 0 2000000000000000000\n1 0 3500000000000000000\n2 2000000000000 3500000000000000000\n3 0 3500000000000000000\n4 0 2000000000000000000\nend 4\n",
+            "0 0 2000000000000000000\n1 0 3500000000000000000\n2 2000000000000 3500000000000000000\n\
+                3 0 3500000000000000000\n4 0 2000000000000000000\nend 4\n",
         ),
         (
             LATE,

@@ -1,7 +1,11 @@
-// The reports on plans.
-ghost use Rattle.std.specs.Prelude.{◌≡◌, ◌<◌, ◌≤◌, ◌^◌, ◌++◌, ℕ, List, Option, Some, IfOk, IfSome, OnOk, length, ℤ, codes, unsigned_abs};
+//! The reports on plans.
+ghost use Rattle.std.specs.Prelude.{◌≡◌, ◌<◌, ◌≤◌, ◌^◌, ◌++◌, ℕ, List, Option, Some, IfOk, IfSome, OnOk, length, ℤ};
+ghost use Rattle.std.specs.Prelude.{codes, unsigned_abs};
 ghost use Rattle.branch_tree.specs.Ranges.{IsBoundInRange};
-ghost use Rattle.planner_cli.specs.Reports.{values_report, infeasible_report, score_line, ranges_text, range_line, rounded_line, numbered, band_text, rule_text, pair_text, NamesOf, bound_line, fixed_line, cost_line, bound_lines, bound_text, bound_cost, gap_line, score_and_gap, gap_text, accepted_text};
+ghost use Rattle.planner_cli.specs.Reports.{values_report, infeasible_report, score_line, ranges_text, range_line};
+ghost use Rattle.planner_cli.specs.Reports.{rounded_line, numbered, band_text, rule_text, pair_text, NamesOf};
+ghost use Rattle.planner_cli.specs.Reports.{bound_line, fixed_line, cost_line, bound_lines, bound_text, bound_cost};
+ghost use Rattle.planner_cli.specs.Reports.{gap_line, score_and_gap, gap_text, accepted_text};
 
 use crate::text::Text;
 use branch_certificate::Bound;
@@ -166,7 +170,8 @@ fn push_mean(text: &mut Text, values: &Values) -> Result<(), AllocError>
 }
 
 fn push_excess(text: &mut Text, values: &Values) -> Result<(), AllocError>
-    ensures { OnOk result (text.new ≡ text.old ++ range_line (codes "excess") values.now.excess_low values.now.excess_high) }
+    ensures { OnOk result
+        (text.new ≡ text.old ++ range_line (codes "excess") values.now.excess_low values.now.excess_high) }
 {
     push_range(text, "excess", values.excess_low, values.excess_high)
 }

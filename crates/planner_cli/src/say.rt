@@ -35,7 +35,8 @@ pub fn say_report<D: Desk>(alloc: Global, desk: &mut D, report: Result<Report, R
 
 /// Says the line of a refusal, or that memory ran out for it.
 pub fn refuse<D: Desk>(alloc: Global, desk: &mut D, refusal: &Refusal) -> u8
-    ensures ends { SaysOrFails (status_of refusal.now) (line_of refusal.now) (D.shows desk.old) (D.shows desk.new) result
+    ensures ends { SaysOrFails (status_of refusal.now) (line_of refusal.now) (D.shows desk.old)
+        (D.shows desk.new) result
         ⊎ SaysOrFails 11 memory_line (D.shows desk.old) (D.shows desk.new) result }
     ensures keeps { KeepsFiles (D.shows desk.old) (D.shows desk.new) }
 {

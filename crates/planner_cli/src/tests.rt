@@ -1,4 +1,4 @@
-// Runs over files in memory.
+//! Runs over files in memory.
 use crate::run;
 use plan_desk::{DeskCall, MemDesk};
 use std::alloc::{AllocError, Global};
@@ -126,25 +126,32 @@ pub(crate) const BOTH: &str = "I1 1\nI2 2\n";
 pub(crate) const TOGETHER: &str = "I1 1\nI2 1\n";
 
 pub(crate) const PLAIN_REPORT: &str =
-    "feasible\nscore 2000000000000000000\ncost 1.000000000000 1.000000000000\nmean 2.000000000000 2.000000000000\nexcess 0.000000000000 0.000000000000\nrounded 0\n";
+    "feasible\nscore 2000000000000000000\ncost 1.000000000000 1.000000000000\n\
+        mean 2.000000000000 2.000000000000\nexcess 0.000000000000 0.000000000000\nrounded 0\n";
 
 const STEEP_REPORT: &str =
-    "feasible\nscore 3500000000000000000\ncost 1.750000000000 1.750000000000\nmean 2.000000000000 2.000000000000\nexcess 1.500000000000 1.500000000000\nrounded 0\n";
+    "feasible\nscore 3500000000000000000\ncost 1.750000000000 1.750000000000\n\
+        mean 2.000000000000 2.000000000000\nexcess 1.500000000000 1.500000000000\nrounded 0\n";
 
 const SURE_REPORT: &str =
-    "feasible\nscore 2000000000000000000\ncost 1.000000000000 1.000000000000\nmean 1.000000000000 1.000000000000\nexcess 0.000000000000 0.000000000000\nrounded 0\n";
+    "feasible\nscore 2000000000000000000\ncost 1.000000000000 1.000000000000\n\
+        mean 1.000000000000 1.000000000000\nexcess 0.000000000000 0.000000000000\nrounded 0\n";
 
 const NEGATIVE_REPORT: &str =
-    "feasible\nscore -1666666666666666667\ncost -1.666666666667 -1.666666666666\nmean -1.666666666667 -1.666666666666\nexcess 0.666666666666 0.666666666667\nrounded 0\n";
+    "feasible\nscore -1666666666666666667\ncost -1.666666666667 -1.666666666666\n\
+        mean -1.666666666667 -1.666666666666\nexcess 0.666666666666 0.666666666667\nrounded 0\n";
 
 const EMPTY_REPORT: &str =
-    "feasible\nscore 0\ncost 0.000000000000 0.000000000000\nmean 0.000000000000 0.000000000000\nexcess 0.000000000000 0.000000000000\nrounded 0\n";
+    "feasible\nscore 0\ncost 0.000000000000 0.000000000000\nmean 0.000000000000 0.000000000000\n\
+        excess 0.000000000000 0.000000000000\nrounded 0\n";
 
 const LOOSE_REPORT: &str =
-    "feasible\nscore 9250000000000000000\ncost 3.083333333333 3.083333333334\nmean 4.666666666666 4.666666666667\nexcess 1.500000000000 1.500000000000\nrounded 0\n";
+    "feasible\nscore 9250000000000000000\ncost 3.083333333333 3.083333333334\n\
+        mean 4.666666666666 4.666666666667\nexcess 1.500000000000 1.500000000000\nrounded 0\n";
 
 const ROUNDED_REPORT: &str =
-    "feasible\nscore 1500000000000500000\ncost 1.499999999999 1.500000000002\nmean 1.999999999999 2.000000000002\nexcess 0.999999999999 1.000000000002\nrounded 1\n";
+    "feasible\nscore 1500000000000500000\ncost 1.499999999999 1.500000000002\n\
+        mean 1.999999999999 2.000000000002\nexcess 0.999999999999 1.000000000002\nrounded 1\n";
 
 pub(crate) fn owned(alloc: Global, list: &[&str]) -> Result<Vec<String>, AllocError> {
     let mut words = Vec::new(alloc);

@@ -1,4 +1,4 @@
-// A text that is made piece by piece.
+//! A text that is made piece by piece.
 ghost use Rattle.std.specs.Prelude.{◌≡◌, [], ◌++◌, OnOk, decimal};
 ghost use Rattle.std.specs.Fmt.{signed_decimal};
 ghost use Rattle.fixed_num.specs.Texts.{fixed_text};

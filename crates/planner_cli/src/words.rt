@@ -1,6 +1,8 @@
-// The command line.
-ghost use Rattle.std.specs.Prelude.{◌≡◌, ◌≤◌, map, string_bytes, option_copied, IfSome, IfNone, Some, None, IsTrue, false};
-ghost use Rattle.planner_cli.specs.Words.{command_of, evaluate_of, replay_of, check_of, IsOneCommand, evaluation, replaying, checking};
+//! The command line.
+ghost use Rattle.std.specs.Prelude.{◌≡◌, ◌≤◌, map, string_bytes, option_copied, IfSome, IfNone, Some, None, IsTrue};
+ghost use Rattle.std.specs.Prelude.{false};
+ghost use Rattle.planner_cli.specs.Words.{command_of, evaluate_of, replay_of, check_of, IsOneCommand, evaluation};
+ghost use Rattle.planner_cli.specs.Words.{replaying, checking};
 ghost use Rattle.planner_cli.specs.Words.{given_plan, slack_in, slack_of, slack_count, fraction, are_decimals};
 ghost use Rattle.instance_model.specs.Rules.{or_else};
 ghost use Rattle.planner_cli.specs.Asked.{command_view};
@@ -52,9 +54,11 @@ pub fn command_of(words: &[String]) -> Option<Command<'_>>
 
 // The command of words that are not those of `evaluate`.
 fn of_three_files(words: &[String]) -> Option<Command<'_>>
-    ensures found { IfSome result (λ asked. or_else (replay_of (map string_bytes words.now)) (check_of (map string_bytes words.now))
+    ensures found { IfSome result
+        (λ asked. or_else (replay_of (map string_bytes words.now)) (check_of (map string_bytes words.now))
         ≡ Some (command_view asked)) }
-    ensures none { IfNone result (or_else (replay_of (map string_bytes words.now)) (check_of (map string_bytes words.now)) ≡ None) }
+    ensures none { IfNone result
+        (or_else (replay_of (map string_bytes words.now)) (check_of (map string_bytes words.now)) ≡ None) }
     ensures small { IfSome result (λ asked. slack_in (command_view asked) ≤ 1_000_000_000) }
 {
     match replay_of(words) {
@@ -141,7 +145,8 @@ fn evaluation<'a>(
     slack: Option<u32>,
 ) -> Option<Command<'a>>
     requires small { IfSome slack (λ count. count ≤ 1_000_000_000) }
-    ensures found { IfSome result (λ asked. evaluation name.now instance.now plan.now slack ≡ Some (command_view asked)) }
+    ensures found { IfSome result
+        (λ asked. evaluation name.now instance.now plan.now slack ≡ Some (command_view asked)) }
     ensures none { IfNone result (evaluation name.now instance.now plan.now slack ≡ None) }
     ensures small { IfSome result (λ asked. slack_in (command_view asked) ≤ 1_000_000_000) }
 {
@@ -164,7 +169,8 @@ fn replaying<'a>(
     slack: Option<u32>,
 ) -> Option<Command<'a>>
     requires small { IfSome slack (λ count. count ≤ 1_000_000_000) }
-    ensures found { IfSome result (λ asked. replaying name.now instance.now plan.now script.now slack ≡ Some (command_view asked)) }
+    ensures found { IfSome result
+        (λ asked. replaying name.now instance.now plan.now script.now slack ≡ Some (command_view asked)) }
     ensures none { IfNone result (replaying name.now instance.now plan.now script.now slack ≡ None) }
     ensures small { IfSome result (λ asked. slack_in (command_view asked) ≤ 1_000_000_000) }
 {
@@ -188,7 +194,8 @@ fn checking<'a>(
     slack: Option<u32>,
 ) -> Option<Command<'a>>
     requires small { IfSome slack (λ count. count ≤ 1_000_000_000) }
-    ensures found { IfSome result (λ asked. checking name.now instance.now plan.now certificate.now slack ≡ Some (command_view asked)) }
+    ensures found { IfSome result
+        (λ asked. checking name.now instance.now plan.now certificate.now slack ≡ Some (command_view asked)) }
     ensures none { IfNone result (checking name.now instance.now plan.now certificate.now slack ≡ None) }
     ensures small { IfSome result (λ asked. slack_in (command_view asked) ≤ 1_000_000_000) }
 {

@@ -1,5 +1,6 @@
 //! A row of scenario sums as a vector in order: contracts see the list of the sums.
-ghost use Rattle.std.specs.Prelude.{◌≡◌, ◌≢◌, ◌+◌, ◌-◌, ◌<◌, ◌≤◌, take, drop, length, IfOk, slice_set, slice_index_or, count_by, vec_len};
+ghost use Rattle.std.specs.Prelude.{◌≡◌, ◌≢◌, ◌+◌, ◌-◌, ◌<◌, ◌≤◌, take, drop, length, IfOk, slice_set, slice_index_or};
+ghost use Rattle.std.specs.Prelude.{count_by, vec_len};
 ghost use Rattle.std.specs.Prelude.{vec_capacity};
 ghost use Rattle.quantile_index.specs.Order.{AllEntries, IsBefore, IsOrdered, Inserts};
 ghost use Rattle.quantile_index.specs.Ranking.{IsRanking, has_scenario};

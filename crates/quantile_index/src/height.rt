@@ -5,7 +5,8 @@ ghost use Rattle.quantile_index.specs.HeightLimit.{IsHeightLimit, height_limit};
 use crate::row::Row;
 use crate::tree_row::TreeRow;
 
-/// What the bound of a `TreeRow` is: four times the height limit, and four more. The function does nothing: its contract is the law.
+/// What the bound of a `TreeRow` is: four times the height limit, and four more. The
+/// function does nothing: its contract is the law.
 pub fn height_limits()
     ensures most { ⟦<TreeRow as Row>⟧.most ≡ Some (λ n. 4 * height_limit n + 4) }
     ensures limit { (n : ℕ) → IsHeightLimit n (height_limit n) }

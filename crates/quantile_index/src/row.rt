@@ -5,14 +5,16 @@ use std::sync::ledger::Ledger;
 
 /// A finite map from the scenarios 1 to n to sums, in which the m-th smallest sum is found.
 pub trait Row: Drop {
-    ghost use Rattle.std.specs.Prelude.{◌≡◌, ℕ, ◌+◌, ◌-◌, ◌≤◌, ℤ, pos, List, Option, length, slice_index_or, slice_set, IfOk, IfSome};
+    ghost use Rattle.std.specs.Prelude.{◌≡◌, ℕ, ◌+◌, ◌-◌, ◌≤◌, ℤ, pos, List, Option, length, slice_index_or, slice_set};
+    ghost use Rattle.std.specs.Prelude.{IfOk, IfSome};
     ghost use Rattle.fixed_num.specs.Rank.{IsMthSmallest, mth_smallest};
     ghost use Rattle.quantile_index.specs.Row.{Grows};
 
     /// The sums of the scenarios 1, 2 and so on.
     ghost sums: { Self → List ℤ };
 
-    /// How many steps a change of a row of n sums takes at most, for every n; or nothing, where nothing is claimed of steps.
+    /// How many steps a change of a row of n sums takes at most, for every n; or
+    /// nothing, where nothing is claimed of steps.
     ghost most: { Option (ℕ → ℕ) };
 
     /// The row of 1 to 1,024 sums.

@@ -4,7 +4,8 @@ use Rattle.instance_model.specs.Tables.{Tables}
 use Rattle.instance_model.specs.Plans.{RunsAreAllowed, load_sum}
 use Rattle.instance_model.specs.Keys.{band_gaps}
 
--- the starts of the runs on board, by intervention; their loads, by resource, then period; and how far these are outside their limits
+-- the starts of the runs on board, by intervention; their loads, by resource, then period;
+-- and how far these are outside their limits
 pub record BoardLoads : Type 0 where
   pub board : List (Option ℕ)
   pub loads : List (List ℤ)
@@ -24,5 +25,6 @@ pub record IsOver (inst : Tables) (v : BoardLoads) : Type 0 where
   pub allowed : RunsAreAllowed inst v.board
   pub resources : length v.loads ≡ length inst.resource_names
   pub periods : (c : ℕ) → c < length inst.resource_names → length (kept_row v c) ≡ inst.periods
-  pub loads : (c t : ℕ) → c < length inst.resource_names → 1 ≤ t → t ≤ inst.periods → kept_load v c t ≡ load_sum inst v.board c t
+  pub loads : (c t : ℕ) → c < length inst.resource_names → 1 ≤ t → t ≤ inst.periods
+      → kept_load v c t ≡ load_sum inst v.board c t
   pub violation : v.violation ≡ band_gaps inst v.board

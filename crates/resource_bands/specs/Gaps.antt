@@ -1,5 +1,6 @@
 -- How far loads are outside their limits, and how a run changes them.
-use Rattle.std.specs.Prelude.{◌≡◌, ℕ, ◌+◌, ◌*◌, ◌^◌, ◌<◌, ◌≤◌, ℤ, pos, ◌+ℤ◌, ◌-ℤ◌, neg_ℤ, List, [], length, Option, Some, None, slice_index_or, unsigned_abs}
+use Rattle.std.specs.Prelude.{◌≡◌, ℕ, ◌+◌, ◌*◌, ◌^◌, ◌<◌, ◌≤◌, ℤ, pos, ◌+ℤ◌, ◌-ℤ◌, neg_ℤ, List, [], length, Option}
+use Rattle.std.specs.Prelude.{Some, None, slice_index_or, unsigned_abs}
 use Rattle.std.specs.Int.{int_max}
 use Rattle.fixed_num.specs.Sums.{sum_below}
 use Rattle.instance_model.specs.Tables.{Tables, upper_of, lower_of}
@@ -41,7 +42,8 @@ pub record IsRow (inst : Tables) (row : List ℤ) : Type 0 where
 -- the loads of resource c are changed by the workloads of intervention i at start s
 pub record IsRowChanged (inst : Tables) (c i s : ℕ) (change : Change) (old new : List ℤ) : Type 0 where
   pub each : length new ≡ length old
-  pub loads : (u : ℕ) → u < inst.periods → slice_index_or new u (pos 0) ≡ slice_index_or old u (pos 0) +ℤ signed change (load_at inst c (u + 1) i (Some s))
+  pub loads : (u : ℕ) → u < inst.periods
+      → slice_index_or new u (pos 0) ≡ slice_index_or old u (pos 0) +ℤ signed change (load_at inst c (u + 1) i (Some s))
 
 -- one row for each resource
 pub record AreRows (inst : Tables) (rows : List (List ℤ)) : Type 0 where
@@ -51,4 +53,5 @@ pub record AreRows (inst : Tables) (rows : List (List ℤ)) : Type 0 where
 -- the loads of all resources are changed by the workloads of intervention i at start s
 pub record AreRowsChanged (inst : Tables) (i s : ℕ) (change : Change) (old new : List (List ℤ)) : Type 0 where
   pub each : length new ≡ length old
-  pub each_row : (c : ℕ) → c < length inst.resource_names → IsRowChanged inst c i s change (slice_index_or old c []) (slice_index_or new c [])
+  pub each_row : (c : ℕ) → c < length inst.resource_names
+      → IsRowChanged inst c i s change (slice_index_or old c []) (slice_index_or new c [])

@@ -1,5 +1,6 @@
 //! The loads of the runs on board, with how far they are outside their limits.
-ghost use Rattle.std.specs.Prelude.{◌≡◌, ◌^◌, ◌<◌, ◌≤◌, length, map, replicate, unsigned_abs, slice_set, Some, None, IfOk, IsSome, IsTrue};
+ghost use Rattle.std.specs.Prelude.{◌≡◌, ◌^◌, ◌<◌, ◌≤◌, length, map, replicate, unsigned_abs, slice_set, Some, None};
+ghost use Rattle.std.specs.Prelude.{IfOk, IsSome, IsTrue};
 ghost use Rattle.instance_model.specs.Tables.{Tables, is_allowed};
 ghost use Rattle.instance_model.specs.Plans.{start_of, load_sum, AreAllowedStarts};
 ghost use Rattle.instance_model.specs.Keys.{band_gaps};
@@ -85,7 +86,8 @@ impl Loads {
         self.change_run(inst, i, s, Change::Take);
     }
 
-    /// Puts the run of intervention `i` at start `s` on board, or takes it off. Visits each resource once in each period of the run.
+    /// Puts the run of intervention `i` at start `s` on board, or takes it off. Visits each
+    /// resource once in each period of the run.
     fn change_run(&mut self, inst: &Instance, i: u32, s: u32, change: Change)
         requires over { IsOver inst.now self.old }
         requires number { i < length inst.now.names }

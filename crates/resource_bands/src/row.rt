@@ -1,5 +1,6 @@
 //! The loads of one resource: contracts see the list by period.
-ghost use Rattle.std.specs.Prelude.{◌≡◌, ℕ, ◌+◌, ◌-◌, ◌*◌, ◌^◌, ◌<◌, ◌≤◌, pos, ◌+ℤ◌, ◌-ℤ◌, length, replicate, slice_index_or, slice_set, unsigned_abs, IfOk, IsTrue};
+ghost use Rattle.std.specs.Prelude.{◌≡◌, ℕ, ◌+◌, ◌-◌, ◌*◌, ◌^◌, ◌<◌, ◌≤◌, pos, ◌+ℤ◌, ◌-ℤ◌, length, replicate};
+ghost use Rattle.std.specs.Prelude.{slice_index_or, slice_set, unsigned_abs, IfOk, IsTrue};
 ghost use Rattle.instance_model.specs.Tables.{is_allowed};
 ghost use Rattle.resource_bands.specs.Gaps.{gap_at, row_gap, signed, IsRow, IsRowChanged};
 
@@ -98,8 +99,8 @@ impl Row {
     }
 }
 
-/// Adds the workloads of a run to the loads of resource `c`, or takes them off; the answer is how much further these are then
-/// outside their limits.
+/// Adds the workloads of a run to the loads of resource `c`, or takes them off; the answer is how much
+/// further these are then outside their limits.
 pub(crate) fn change_row(
     row: &mut Row,
     inst: &Instance,

@@ -11,7 +11,8 @@ use std::alloc::{AllocError, Global};
 
 /// The loads of all resources while nothing is on board. Takes memory.
 pub(crate) fn idle_rows(alloc: Global, inst: &Instance) -> Result<Vec<Row>, AllocError>
-    ensures { IfOk result (λ rows. rows.items ≡ replicate (length inst.now.resource_names) (replicate inst.now.periods (pos 0))) }
+    ensures { IfOk result
+        (λ rows. rows.items ≡ replicate (length inst.now.resource_names) (replicate inst.now.periods (pos 0))) }
 {
     let mut rows = Vec::new(alloc);
     for _c in 0..inst.resources() {
@@ -33,7 +34,8 @@ pub(crate) fn gap_of_rows(inst: &Instance, rows: &[Row]) -> Amount
     gap
 }
 
-/// Adds the workloads of a run to the loads, or takes them off; the answer is how much further they are then outside their limits.
+/// Adds the workloads of a run to the loads, or takes them off; the answer is how much
+/// further they are then outside their limits.
 pub(crate) fn change_rows(
     rows: &mut [Row],
     inst: &Instance,

@@ -10,5 +10,6 @@ pub total_small : (xs : List ℤ) → length xs ≤ 1024 → All IsSmallSum xs �
 total_small xs few all = let r = total_size xs all in omega (arith, r, few)
 
 -- what was read at a place
-pub read_at : {X : Type 0} (xs : List X) (i : ℕ) (x : X) → (d : X) → i < length xs → x ≡ get_or xs i x → x ≡ get_or xs i d
+pub read_at : {X : Type 0} (xs : List X) (i : ℕ) (x : X) → (d : X) → i < length xs
+    → x ≡ get_or xs i x → x ≡ get_or xs i d
 read_at xs i x d h e = e ∙ get_or_default xs i x d h

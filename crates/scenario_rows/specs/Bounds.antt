@@ -6,7 +6,8 @@ use Rattle.instance_model.specs.Tables.{Tables}
 unfoldable pub most_scenarios : Tables → ℕ
 most_scenarios inst = fold max 0 inst.scenarios
 
--- the most steps of one period with n scenarios: for each a risk and a change of the row, which takes at most `most n`, and the quantile
+-- the most steps of one period with n scenarios: for each a risk and a change of the row,
+-- which takes at most `most n`, and the quantile
 abbrev pub period_bound : (ℕ → ℕ) → ℕ → ℕ
 period_bound most n = n * (most n + 1) + 1
 

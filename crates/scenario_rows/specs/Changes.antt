@@ -1,5 +1,7 @@
--- Sums to which the risks of a run are added, or from which they are taken. Cited by private functions only: no part of any promise.
-use Rattle.std.specs.Prelude.{◌≡◌, ℕ, ◌+◌, ◌<◌, ◌≤◌, ℤ, pos, ◌+ℤ◌, ◌-ℤ◌, List, length, IsTrue, Option, Some, None, slice_index_or}
+-- Sums to which the risks of a run are added, or from which they are taken. Cited by
+-- private functions only: no part of any promise.
+use Rattle.std.specs.Prelude.{◌≡◌, ℕ, ◌+◌, ◌<◌, ◌≤◌, ℤ, pos, ◌+ℤ◌, ◌-ℤ◌, List, length, IsTrue, Option, Some, None}
+use Rattle.std.specs.Prelude.{slice_index_or}
 use Rattle.fixed_num.specs.Sums.{list_of}
 use Rattle.instance_model.specs.Tables.{Tables, scenarios_of, is_allowed, in_run, risk_of}
 use Rattle.scenario_rows.specs.RiskStates.{PeriodState, period_of}
@@ -14,7 +16,8 @@ changed Take sum risk = sum -ℤ risk
 
 -- the sums of period t after the change by the risks of intervention i at start s
 unfoldable pub changed_sums : Tables → Change → ℕ → ℕ → ℕ → List ℤ → List ℤ
-changed_sums inst change i s t sums = list_of (length sums) (λ k. changed change (slice_index_or sums k (pos 0)) (risk_of inst i s t (k + 1)))
+changed_sums inst change i s t sums =
+    list_of (length sums) (λ k. changed change (slice_index_or sums k (pos 0)) (risk_of inst i s t (k + 1)))
 
 -- period t after that change
 abbrev pub changed_period : Tables → Change → ℕ → ℕ → ℕ → PeriodState → PeriodState
@@ -40,7 +43,8 @@ start_after Add s = Some s
 start_after Take s = None
 
 -- the periods below t are those of one board, the others those of another
-pub record AreChangedBelow (inst : Tables) (old new : List (Option ℕ)) (t : ℕ) (periods : List PeriodState) : Type 0 where
+pub record AreChangedBelow (inst : Tables) (old new : List (Option ℕ)) (t : ℕ)
+    (periods : List PeriodState) : Type 0 where
   pub each : length periods ≡ inst.periods
   pub below : (u : ℕ) → 1 ≤ u → u < t → u ≤ inst.periods → period_at periods u ≡ period_of inst new u
   pub above : (u : ℕ) → 1 ≤ u → t ≤ u → u ≤ inst.periods → period_at periods u ≡ period_of inst old u

@@ -1,5 +1,6 @@
 //! The rows of all periods, with the score: contracts see the starts on board beside the sums by period.
-ghost use Rattle.std.specs.Prelude.{◌≡◌, ℕ, ◌+◌, ◌-◌, ◌<◌, ◌≤◌, ◌^◌, length, map, Some, None, IfOk, IfSome, IsSome, IsTrue, unsigned_abs, slice_set};
+ghost use Rattle.std.specs.Prelude.{◌≡◌, ℕ, ◌+◌, ◌-◌, ◌<◌, ◌≤◌, ◌^◌, length, map, Some, None, IfOk, IfSome, IsSome};
+ghost use Rattle.std.specs.Prelude.{IsTrue, unsigned_abs, slice_set};
 ghost use Rattle.instance_model.specs.Tables.{Tables, scenarios_of, delta_of, is_allowed};
 ghost use Rattle.instance_model.specs.Plans.{AreAllowedStarts, start_of};
 ghost use Rattle.instance_model.specs.Values.{score_of};

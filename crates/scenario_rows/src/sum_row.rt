@@ -1,5 +1,6 @@
 //! A row of scenario sums with their total, which is kept as they change: contracts see the sums.
-ghost use Rattle.std.specs.Prelude.{◌≡◌, ◌+◌, ◌-◌, ◌*◌, ◌≤◌, pos, length, take, IfOk, IfSome, slice_index_or, slice_set};
+ghost use Rattle.std.specs.Prelude.{◌≡◌, ◌+◌, ◌-◌, ◌*◌, ◌≤◌, pos, length, take, IfOk, IfSome, slice_index_or};
+ghost use Rattle.std.specs.Prelude.{slice_set};
 ghost use Rattle.fixed_num.specs.Sums.{total};
 ghost use Rattle.instance_model.specs.Plans.{IsSmallSum};
 ghost use Rattle.scenario_rows.specs.Changes.{changed};
@@ -68,7 +69,8 @@ impl<R: Row> SumRow<R> {
         requires from { 1 ≤ k }
         requires to { k ≤ length self.old }
         requires small { IsSmallSum (changed change (slice_index_or self.old (k - 1) (pos 0)) risk) }
-        ensures sums { self.new ≡ slice_set self.old (k - 1) (changed change (slice_index_or self.old (k - 1) (pos 0)) risk) }
+        ensures sums { self.new
+            ≡ slice_set self.old (k - 1) (changed change (slice_index_or self.old (k - 1) (pos 0)) risk) }
         ensures cost { IfSome R.most (λ most. steps.new ≤ steps.old + most (length self.old)) }
         ensures forward { steps.old ≤ steps.new }
     {

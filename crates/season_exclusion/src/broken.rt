@@ -29,7 +29,8 @@ pub(crate) fn broken_flags(
     requires { AreAllowedStarts inst.now starts.now }
     ensures each { IfOk result (λ flags. length flags.items ≡ length inst.now.exclusion_names) }
     ensures broken { IfOk result (λ flags.
-        (e : ℕ) → e < length inst.now.exclusion_names → slice_index_or flags.items e false ≡ is_broken inst.now starts.now e) }
+        (e : ℕ) → e < length inst.now.exclusion_names
+        → slice_index_or flags.items e false ≡ is_broken inst.now starts.now e) }
 {
     let mut flags = Vec::new(alloc);
     for e in 0..inst.exclusions() {
@@ -76,7 +77,8 @@ pub(crate) fn retest(
     requires count { count ≡ count_set flags.old }
     ensures each { length flags.new ≡ length flags.old }
     ensures named { All (λ e. slice_index_or flags.new e false ≡ is_broken inst.now starts.now e) named.now }
-    ensures others { (e : ℕ) → ¬ Contains named.now e → slice_index_or flags.new e false ≡ slice_index_or flags.old e false }
+    ensures others { (e : ℕ) → ¬ Contains named.now e
+        → slice_index_or flags.new e false ≡ slice_index_or flags.old e false }
     ensures count { result ≡ count_set flags.new }
 {
     inst.fits();

@@ -25,7 +25,12 @@ impl Model for Clashes {
 
     ghost Value = { KeptClashes };
 
-    ghost view = { λ k. record { starts = k.starts.items; broken = k.broken.items; count = k.count; named = k.named.items } };
+    ghost view = { λ k. record {
+      starts = k.starts.items;
+      broken = k.broken.items;
+      count = k.count;
+      named = k.named.items;
+    } };
 }
 
 impl Clashes {

@@ -1,7 +1,7 @@
 //! Which exclusions the kept starts break, and how many, kept while starts are changed one at a time.
 //!
-//! A contract sees `Clashes` as the starts beside what is kept of them, and says by a relation over which instance it was
-//! made. Periods and starts count from 1; interventions, seasons and exclusions count from 0.
+//! A contract sees `Clashes` as the starts beside what is kept of them, and says by a relation over which instance it
+//! was made. Periods and starts count from 1; interventions, seasons and exclusions count from 0.
 #![tactic(auto)]
 
 mod broken;

@@ -1,5 +1,6 @@
 //! The exclusions that name an intervention: contracts see their numbers in ascending order.
-ghost use Rattle.std.specs.Prelude.{◌≡◌, ℕ, ◌<◌, replicate, [], ◌∷◌, ◌++◌, length, slice_index_or, if◌then◌else◌, IfOk, OnOk};
+ghost use Rattle.std.specs.Prelude.{◌≡◌, ℕ, ◌<◌, replicate, [], ◌∷◌, ◌++◌, length, slice_index_or, if◌then◌else◌, IfOk};
+ghost use Rattle.std.specs.Prelude.{OnOk};
 ghost use Rattle.season_exclusion.specs.Broken.{is_named, naming_of};
 
 use instance_model::{Exclusion, Instance};
@@ -74,7 +75,8 @@ fn note(lists: &mut [Named], exclusion: Exclusion, e: u32) -> Result<(), AllocEr
 /// The exclusions that name each intervention. Takes memory.
 pub(crate) fn named_lists(alloc: Global, inst: &Instance) -> Result<Vec<Named>, AllocError>
     ensures each { IfOk result (λ lists. length lists.items ≡ length inst.now.names) }
-    ensures named { IfOk result (λ lists. (i : ℕ) → i < length inst.now.names → slice_index_or lists.items i [] ≡ naming_of inst.now i) }
+    ensures named { IfOk result
+        (λ lists. (i : ℕ) → i < length inst.now.names → slice_index_or lists.items i [] ≡ naming_of inst.now i) }
 {
     let mut lists = no_lists(alloc, inst.interventions())?;
     for e in 0..inst.exclusions() {

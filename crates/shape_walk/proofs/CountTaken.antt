@@ -21,15 +21,20 @@ use Rattle.shape_walk.proofs.FlawLemmas.{no_flaw}
 use Rattle.shape_walk.proofs.OneMore.{goes_on}
 
 -- it has no fault of its own
-no_own : (limits : Limits) (at : ℕ) (s : Spot) (token : List ℕ) (count : ℤ) → kind_of s ≡ kind.Count → fixed token ≡ Some (count, false) → own_faults limits s at (Node.number token) ≡ []
+no_own : (limits : Limits) (at : ℕ) (s : Spot) (token : List ℕ) (count : ℤ) → kind_of s ≡ kind.Count
+    → fixed token ≡ Some (count, false) → own_faults limits s at (Node.number token) ≡ []
 no_own limits at s token count k f = rw (k, f) refl
 
 -- and its count is read
-count_is_read : (at : ℕ) (s : Spot) (token : List ℕ) (count : ℤ) → kind_of s ≡ kind.Count → fixed token ≡ Some (count, false) → Count count false ≡ read_of s (Event.number at token)
+count_is_read : (at : ℕ) (s : Spot) (token : List ℕ) (count : ℤ) → kind_of s ≡ kind.Count
+    → fixed token ≡ Some (count, false) → Count count false ≡ read_of s (Event.number at token)
 count_is_read at s token count k f = rw (k, f) refl
 
-pub count_stands : (limits : Limits) (old new : Walk) (es : List Event) (at : ℕ) (spot : Spot) (token : List ℕ) (count : ℤ) (past : Option Flaw) → AwaitsCount old spot → fixed token ≡ Some (count, false)
-    → new.limits ≡ old.limits → new.fault ≡ flaw_at at past → past ≡ first_flaw (number_past old.limits spot at old.state.risks old.state.workloads) → (past ≡ None → new.state ≡ step (Event.number at token) old.state)
+pub count_stands : (limits : Limits) (old new : Walk) (es : List Event) (at : ℕ) (spot : Spot) (token : List ℕ)
+    (count : ℤ) (past : Option Flaw) → AwaitsCount old spot → fixed token ≡ Some (count, false)
+    → new.limits ≡ old.limits → new.fault ≡ flaw_at at past
+    → past ≡ first_flaw (number_past old.limits spot at old.state.risks old.state.workloads)
+    → (past ≡ None → new.state ≡ step (Event.number at token) old.state)
     → StandsAfter limits old es → StandsAfter limits new (es ++ Event.number at token ∷ [])
 count_stands limits old new es at spot token count past a f l e p s h =
     let taken : Taken = record { spot = spot; read = Count count false } in
@@ -37,8 +42,12 @@ count_stands limits old new es at spot token count past a f l e p s h =
     let takes : Takes old (Event.number at token) new taken = record {
       under = l;
       first = e ∙ ap (flaw_at at) p
-          ∙ ap (λ fs. flaw_at at (first_flaw (fs ++ number_past old.limits spot at old.state.risks old.state.workloads))) (sym own)
-          ∙ ap (λ q. flaw_at at (first_flaw (own_faults old.limits q at (Node.number token) ++ number_past old.limits q at old.state.risks old.state.workloads))) a.next;
+          ∙ ap (λ fs. flaw_at at
+          (first_flaw (fs ++ number_past old.limits spot at old.state.risks old.state.workloads))) (sym own)
+          ∙ ap (λ q. flaw_at at
+          (first_flaw
+          (own_faults old.limits q at (Node.number token)
+          ++ number_past old.limits q at old.state.risks old.state.workloads))) a.next;
       state = λ n. s (no_flaw at past (sym e ∙ n));
       spot = a.next;
       read = count_is_read at spot token count a.counts f ∙ ap (λ q. read_of q (Event.number at token)) a.next;

@@ -1,5 +1,6 @@
 -- Faults as numbers, so that a test tells whether two are one.
-use Rattle.std.proofs.Common.{◌≡◌, ℕ, ◌-◌, ◌==◌, ◌≤◌, ◌&&◌, inl, inr, Bool, true, false, cond, List, [], ◌∷◌, refl, sym, ◌∙◌, ap, arith}
+use Rattle.std.proofs.Common.{◌≡◌, ℕ, ◌-◌, ◌==◌, ◌≤◌, ◌&&◌, inl, inr, Bool, true, false, cond, List, [], ◌∷◌, refl, sym}
+use Rattle.std.proofs.Common.{◌∙◌, ap, arith}
 use Rattle.std.proofs.lemmas.Bool.Decides.{nat_tests}
 use Rattle.instance_shape.specs.declared.fault.Fault.{Fault}
 use Rattle.instance_shape.specs.declared.fault.Flaw.{Flaw}
@@ -42,11 +43,15 @@ flaw_code (flaw.Limit which.WorkloadEntries) = 25
 abbrev all_flaws : List Flaw
 all_flaws =
     flaw.Double ∷ flaw.BadName ∷ flaw.Shape ∷ flaw.TooLarge
-    ∷ flaw.Missing known.Resources ∷ flaw.Missing known.Seasons ∷ flaw.Missing known.Interventions ∷ flaw.Missing known.Exclusions
+    ∷ flaw.Missing known.Resources ∷ flaw.Missing known.Seasons ∷ flaw.Missing known.Interventions
+    ∷ flaw.Missing known.Exclusions
     ∷ flaw.Missing known.T ∷ flaw.Missing known.ScenariosNumber ∷ flaw.Missing known.Quantile ∷ flaw.Missing known.Alpha
-    ∷ flaw.Missing known.Max ∷ flaw.Missing known.Min ∷ flaw.Missing known.Tmax ∷ flaw.Missing known.Delta ∷ flaw.Missing known.Workload ∷ flaw.Missing known.Risk
-    ∷ flaw.Limit which.Periods ∷ flaw.Limit which.Scenarios ∷ flaw.Limit which.Resources ∷ flaw.Limit which.Interventions
-    ∷ flaw.Limit which.Seasons ∷ flaw.Limit which.Exclusions ∷ flaw.Limit which.RiskCells ∷ flaw.Limit which.WorkloadEntries ∷ []
+    ∷ flaw.Missing known.Max ∷ flaw.Missing known.Min ∷ flaw.Missing known.Tmax ∷ flaw.Missing known.Delta
+    ∷ flaw.Missing known.Workload ∷ flaw.Missing known.Risk
+    ∷ flaw.Limit which.Periods ∷ flaw.Limit which.Scenarios ∷ flaw.Limit which.Resources
+    ∷ flaw.Limit which.Interventions
+    ∷ flaw.Limit which.Seasons ∷ flaw.Limit which.Exclusions ∷ flaw.Limit which.RiskCells
+    ∷ flaw.Limit which.WorkloadEntries ∷ []
 
 -- the flaw of a number
 abbrev pick : List Flaw → ℕ → Flaw
@@ -71,7 +76,8 @@ same_code : (f g : Flaw) → flaw_code g ≡ flaw_code f → g ≡ f
 same_code f g h = sym (flaw_back g) ∙ ap (pick all_flaws) h ∙ flaw_back f
 
 same_fault : (f g : Fault) → g.at ≡ f.at → g.flaw ≡ f.flaw → g ≡ f
-same_fault f g h k = ap (λ (a : ℕ). record { at = a; flaw = g.flaw }) h ∙ ap (λ (x : Flaw). record { at = f.at; flaw = x }) k
+same_fault f g h k =
+    ap (λ (a : ℕ). record { at = a; flaw = g.flaw }) h ∙ ap (λ (x : Flaw). record { at = f.at; flaw = x }) k
 
 itself : (f : Fault) → is_fault f f ≡ 1
 itself f = grind (arith, nat_tests)
@@ -87,7 +93,8 @@ pub weighs_among : (f : Fault) (xs : List Fault) → 1 ≤ weigh (is_fault f) xs
 weighs_among f [] h = absurd (omega arith)
 weighs_among f (g ∷ xs) h = by_test (weighs_among f xs) ((g.at == f.at) && (flaw_code g.flaw == flaw_code f.flaw)) refl
   where
-    by_test : (1 ≤ weigh (is_fault f) xs → Among xs f) → (b : Bool) → (g.at == f.at) && (flaw_code g.flaw == flaw_code f.flaw) ≡ b → Among (g ∷ xs) f
+    by_test : (1 ≤ weigh (is_fault f) xs → Among xs f) → (b : Bool)
+        → (g.at == f.at) && (flaw_code g.flaw == flaw_code f.flaw) ≡ b → Among (g ∷ xs) f
     by_test rest true e =
         let a : g.at ≡ f.at = grind (arith, nat_tests) in
         let c : flaw_code g.flaw ≡ flaw_code f.flaw = grind (arith, nat_tests) in

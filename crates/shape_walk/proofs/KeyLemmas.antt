@@ -1,5 +1,6 @@
 -- What is wrong with a key, by how the keys of its object count.
-use Rattle.std.proofs.Common.{◌≡◌, ℕ, List, ◌++◌, [], ◌∷◌, Bool, true, false, cond, not, sym, ◌∙◌, ap, subst, refl, length, ◌&&◌, Some, None, arith, append-nil}
+use Rattle.std.proofs.Common.{◌≡◌, ℕ, List, ◌++◌, [], ◌∷◌, Bool, true, false, cond, not, sym, ◌∙◌, ap, subst, refl}
+use Rattle.std.proofs.Common.{length, ◌&&◌, Some, None, arith, append-nil}
 use Rattle.std.specs.declared.string.String.{String}
 use Rattle.instance_model.specs.declared.limits.Limits.{Limits}
 use Rattle.instance_shape.specs.declared.fault.Flaw.TheVariants as flaw
@@ -19,20 +20,26 @@ length-texts_of [] = refl
 length-texts_of (k ∷ ks) = omega (arith, length-texts_of ks)
 
 -- a new key that counts by its text is no period or start
-new_by_text : (kd : Kind) (ks : List Key) (k : List ℕ) (at : ℕ) (rest : List Fault) → counts_by_text kd ≡ true → has_key ks (by_text k) ≡ false
+new_by_text : (kd : Kind) (ks : List Key) (k : List ℕ) (at : ℕ) (rest : List Fault) → counts_by_text kd ≡ true
+    → has_key ks (by_text k) ≡ false
     → where_so (takes_names kd && not (is_name k)) at flaw.BadName ++ rest
-    ≡ where_so (is_double ks (key_of kd k)) at flaw.Double ++ where_so (takes_names kd && not (is_name k)) at flaw.BadName ++ where_so (takes_numbers kd && not (is_digits k)) at flaw.Shape ++ rest
+    ≡ where_so (is_double ks (key_of kd k)) at flaw.Double ++ where_so (takes_names kd && not (is_name k)) at
+    flaw.BadName ++ where_so (takes_numbers kd && not (is_digits k)) at flaw.Shape ++ rest
 new_by_text kind.Record ks k at rest h e = simp e
 new_by_text kind.Names ks k at rest h e = simp (e, append-nil)
 new_by_text _ ks k at rest h e = cc
 
 -- a new key that counts by its text
-pub text_case : {Y : Type 0} (limits : Limits) (s : Spot) (ks : List (String Y)) (k : List ℕ) (before at : ℕ) → counts_by_text (kind_of s) ≡ true
+pub text_case : {Y : Type 0} (limits : Limits) (s : Spot) (ks : List (String Y)) (k : List ℕ) (before at : ℕ)
+    → counts_by_text (kind_of s) ≡ true
     → has_key (texts_of ks) (by_text k) ≡ false → before ≡ length ks
-    → first_flaw (where_so (takes_names (kind_of s) && not (is_name k)) at flaw.BadName ++ first_past (key_limit limits s) before at) ≡ first_flaw (key_faults limits s (texts_of ks) at k)
+    → first_flaw (where_so (takes_names (kind_of s) && not (is_name k)) at flaw.BadName
+    ++ first_past (key_limit limits s) before at) ≡ first_flaw (key_faults limits s (texts_of ks) at k)
 text_case limits s ks k before at h e f =
-    ap (λ n. first_flaw (where_so (takes_names (kind_of s) && not (is_name k)) at flaw.BadName ++ first_past (key_limit limits s) n at)) (f ∙ sym (length-texts_of ks))
-    ∙ ap first_flaw (new_by_text (kind_of s) (texts_of ks) k at (first_past (key_limit limits s) (length (texts_of ks)) at) h e)
+    ap (λ n. first_flaw (where_so (takes_names (kind_of s) && not (is_name k)) at flaw.BadName
+    ++ first_past (key_limit limits s) n at)) (f ∙ sym (length-texts_of ks))
+    ∙ ap first_flaw
+    (new_by_text (kind_of s) (texts_of ks) k at (first_past (key_limit limits s) (length (texts_of ks)) at) h e)
 
 no_text : (ns : List ℕ) (k : List ℕ) → has_key (numbers_of ns) (by_text k) ≡ false
 no_text [] k = refl
@@ -43,12 +50,16 @@ no_digits true n h = cc
 no_digits false n h = refl
 
 -- a key that has to be a period or start and isn't
-pub number_case : (limits : Limits) (s : Spot) (ns : List ℕ) (k : List ℕ) (at : ℕ) → kind_of s ≡ kind.Numbers → None ≡ cond (is_digits k) (Some (number_of k)) None
+pub number_case : (limits : Limits) (s : Spot) (ns : List ℕ) (k : List ℕ) (at : ℕ) → kind_of s ≡ kind.Numbers
+    → None ≡ cond (is_digits k) (Some (number_of k)) None
     → Some flaw.Shape ≡ first_flaw (key_faults limits s (numbers_of ns) at k)
 number_case limits s ns k at h e =
     let d : is_digits k ≡ false = no_digits (is_digits k) (number_of k) e in
     let rest : List Fault = first_past (key_limit limits s) (length (numbers_of ns)) at in
-    let P : Kind → Type 0 = λ kd. Some flaw.Shape ≡ first_flaw (where_so (is_double (numbers_of ns) (key_of kd k)) at flaw.Double ++ where_so (takes_names kd && not (is_name k)) at flaw.BadName ++ where_so (takes_numbers kd && not (is_digits k)) at flaw.Shape ++ rest) in
+    let P : Kind → Type 0 = λ kd. Some flaw.Shape
+    ≡ first_flaw
+    (where_so (is_double (numbers_of ns) (key_of kd k)) at flaw.Double ++ where_so (takes_names kd && not (is_name k))
+    at flaw.BadName ++ where_so (takes_numbers kd && not (is_digits k)) at flaw.Shape ++ rest) in
     subst P (sym h) (simp (d, no_text))
 
 pub is_new : (b : Bool) → not b ≡ true → b ≡ false

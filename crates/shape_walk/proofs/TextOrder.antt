@@ -7,7 +7,8 @@ use Rattle.instance_shape.specs.declared.fault.Fault.{Fault}
 use Rattle.instance_shape.specs.declared.spot.Spot.{Spot}
 use Rattle.instance_shape.specs.Keys.{Key, key_of}
 use Rattle.instance_shape.specs.Shape.{kind_of, required, under, element}
-use Rattle.instance_shape.specs.ShapeFaults.{own_faults, key_faults, keys_of, count_trees, missing, too_few, is_risk, is_workload}
+use Rattle.instance_shape.specs.ShapeFaults.{own_faults, key_faults, keys_of, count_trees, missing, too_few, is_risk}
+use Rattle.instance_shape.specs.ShapeFaults.{is_workload}
 use Rattle.shape_walk.specs.Machine.{number_past}
 
 abbrev pub one_if : Bool → ℕ
@@ -38,24 +39,29 @@ abbrev mutual
   in_order limits s (tree at end n) r w = node_in_order limits s at end n r w
 
   pub node_in_order : Limits → Spot → ℕ → ℕ → Node → ℕ → ℕ → List Fault
-  node_in_order limits s at end (Node.number x) r w = own_faults limits s at (Node.number x) ++ number_past limits s at r w
+  node_in_order limits s at end (Node.number x) r w =
+      own_faults limits s at (Node.number x) ++ number_past limits s at r w
   node_in_order limits s at end (Node.list ts) r w =
-      own_faults limits s at (Node.list no_trees) ++ (elements_in_order limits s 0 ts r w ++ too_few (kind_of s) (count_trees ts) (pred end))
+      own_faults limits s at (Node.list no_trees)
+      ++ (elements_in_order limits s 0 ts r w ++ too_few (kind_of s) (count_trees ts) (pred end))
   node_in_order limits s at end (Node.object ms) r w =
-      own_faults limits s at (Node.object no_members) ++ (members_in_order limits s [] ms r w ++ missing (required s) (keys_of (kind_of s) ms) (pred end))
+      own_faults limits s at (Node.object no_members)
+      ++ (members_in_order limits s [] ms r w ++ missing (required s) (keys_of (kind_of s) ms) (pred end))
   node_in_order limits s at end n r w = own_faults limits s at n
 
   pub elements_in_order : Limits → Spot → ℕ → Trees → ℕ → ℕ → List Fault
   elements_in_order limits s n no_trees r w = []
   elements_in_order limits s n (and_tree t ts) r w =
       in_order limits (element s n) t r w
-      ++ elements_in_order limits s (n + 1) ts (r + numbers_in is_risk (element s n) t) (w + numbers_in is_workload (element s n) t)
+      ++ elements_in_order limits s (n + 1) ts (r + numbers_in is_risk (element s n) t)
+      (w + numbers_in is_workload (element s n) t)
 
   pub members_in_order : Limits → Spot → List Key → Members → ℕ → ℕ → List Fault
   members_in_order limits s ks no_members r w = []
   members_in_order limits s ks (and_member at end k t ms) r w =
       key_faults limits s ks at k ++ (in_order limits (under s k) t r w
-      ++ members_in_order limits s (ks ++ key_of (kind_of s) k) ms (r + numbers_in is_risk (under s k) t) (w + numbers_in is_workload (under s k) t))
+      ++ members_in_order limits s (ks ++ key_of (kind_of s) k) ms (r + numbers_in is_risk (under s k) t)
+      (w + numbers_in is_workload (under s k) t))
 
 -- the spot that the last key of an object leads to
 abbrev pub last_next : Spot → Spot → Members → Spot

@@ -1,4 +1,5 @@
--- The flaw of a first fault, and the fault that it is at a place. Not part of any promise: only private functions cite it.
+-- The flaw of a first fault, and the fault that it is at a place. Not part of
+-- any promise: only private functions cite it.
 use Rattle.std.specs.Prelude.{ℕ, List, [], ◌∷◌, Option, Some, None}
 use Rattle.instance_shape.specs.declared.fault.Flaw.{Flaw}
 use Rattle.instance_shape.specs.declared.fault.Fault.{Fault}

@@ -2,7 +2,8 @@
 -- the events, and over the tree. `Rattle.shape_walk.proofs.Keeping` joins the two.
 use Rattle.std.specs.Prelude.{ℕ, ◌+◌, List, [], ◌∷◌, true, false}
 use Rattle.std.proofs.Common.{pred}
-use Rattle.json_grammar.specs.Tree.{Tree, tree, Node, Trees, no_trees, and_tree, Members, no_members, and_member, Event, begin, finish, key}
+use Rattle.json_grammar.specs.Tree.{Tree, tree, Node, Trees, no_trees, and_tree, Members, no_members, and_member, Event}
+use Rattle.json_grammar.specs.Tree.{begin, finish, key}
 use Rattle.instance_shape.specs.declared.spot.Spot.{Spot}
 use Rattle.instance_shape.specs.declared.spot.Spot.TheVariants as spot
 use Rattle.instance_shape.specs.Shape.{under, element}
@@ -20,7 +21,8 @@ object_spot outside = spot.Skipped
 object_spot (in_object s ks n) = s
 object_spot (in_list s n) = spot.Skipped
 
--- the spot of an event: of a value its own; of a key, a closing bracket or brace that of the object or list in which it stands
+-- the spot of an event: of a value its own; of a key, a closing bracket or brace
+-- that of the object or list in which it stands
 abbrev pub event_spot : Event → Frame → Spot
 event_spot (begin at object) f = next_spot f
 event_spot (finish at) f = open_spot f
@@ -53,8 +55,10 @@ abbrev mutual
   keep_node keep s at end (Node.boolean b) a = keep s (Event.boolean at b) a
   keep_node keep s at end (Node.number x) a = keep s (Event.number at x) a
   keep_node keep s at end (Node.text x) a = keep s (Event.text at end x) a
-  keep_node keep s at end (Node.list ts) a = keep s (finish (pred end)) (keep_elements keep s 0 ts (keep s (begin at false) a))
-  keep_node keep s at end (Node.object ms) a = keep s (finish (pred end)) (keep_members keep s ms (keep s (begin at true) a))
+  keep_node keep s at end (Node.list ts) a =
+      keep s (finish (pred end)) (keep_elements keep s 0 ts (keep s (begin at false) a))
+  keep_node keep s at end (Node.object ms) a =
+      keep s (finish (pred end)) (keep_members keep s ms (keep s (begin at true) a))
 
   pub keep_elements : {A : Type 0} → (Spot → Event → A → A) → Spot → ℕ → Trees → A → A
   keep_elements keep s n no_trees a = a
@@ -62,4 +66,5 @@ abbrev mutual
 
   pub keep_members : {A : Type 0} → (Spot → Event → A → A) → Spot → Members → A → A
   keep_members keep s no_members a = a
-  keep_members keep s (and_member at end k t ms) a = keep_members keep s ms (keep_value keep (under s k) t (keep s (key at end k) a))
+  keep_members keep s (and_member at end k t ms) a =
+      keep_members keep s ms (keep_value keep (under s k) t (keep s (key at end k) a))

@@ -1,5 +1,5 @@
--- Follows the shape over the events of a text: what is open behind some of them, and the faults that each tells. What it
--- comes to at the end of a text is said of the text's tree, by `ShapeWalk::fault` and by `Keeping`.
+-- Follows the shape over the events of a text: what is open behind some of them, and the faults that each tells. What
+-- it comes to at the end of a text is said of the text's tree, by `ShapeWalk::fault` and by `Keeping`.
 use Rattle.std.specs.Prelude.{ℕ, ◌+◌, ◌==◌, List, [], ◌∷◌, ◌++◌, Bool, true, false, cond, nat_lt, Option, Some, None}
 use Rattle.json_grammar.specs.Tree.{Node, no_trees, no_members, Event, begin, finish, key}
 use Rattle.instance_model.specs.declared.limits.Limits.{Limits}
@@ -71,7 +71,12 @@ step (key at end k) s = record s { top = behind_key k s.top }
 step (Event.null at) s = record s { top = behind s.top }
 step (Event.boolean at b) s = record s { top = behind s.top }
 step (Event.number at x) s =
-    record { top = behind s.top; around = s.around; risks = more_if (is_risk (next_spot s.top)) s.risks; workloads = more_if (is_workload (next_spot s.top)) s.workloads }
+    record {
+      top = behind s.top;
+      around = s.around;
+      risks = more_if (is_risk (next_spot s.top)) s.risks;
+      workloads = more_if (is_workload (next_spot s.top)) s.workloads;
+    }
 step (Event.text at end x) s = record s { top = behind s.top }
 
 -- a number that is counted is the first one past a limit
@@ -108,7 +113,8 @@ faults_at limits (key at end k) s = faults_of_key limits at k s.top
 faults_at limits (Event.null at) s = own_faults limits (next_spot s.top) at Node.null
 faults_at limits (Event.boolean at b) s = own_faults limits (next_spot s.top) at (Node.boolean b)
 faults_at limits (Event.number at x) s =
-    own_faults limits (next_spot s.top) at (Node.number x) ++ number_past limits (next_spot s.top) at s.risks s.workloads
+    own_faults limits (next_spot s.top) at (Node.number x)
+    ++ number_past limits (next_spot s.top) at s.risks s.workloads
 faults_at limits (Event.text at end x) s = own_faults limits (next_spot s.top) at (Node.text x)
 
 -- all faults that events tell, in order

@@ -1,6 +1,7 @@
 //! What is read of a value at its spot, and what is wrong with it.
 
-ghost use Rattle.std.specs.Prelude.{◌≡◌, ℕ, Bool, ◌++◌, ◌&&◌, false, not, is_none, is_some, nat_le, option_map, unwrap_or};
+ghost use Rattle.std.specs.Prelude.{◌≡◌, ℕ, Bool, ◌++◌, ◌&&◌, false, not, is_none, is_some, nat_le, option_map};
+ghost use Rattle.std.specs.Prelude.{unwrap_or};
 ghost use Rattle.json_grammar.specs.Tree as json;
 ghost use Rattle.decimal_numbers.specs.Exact.{fixed};
 ghost use Rattle.instance_model.specs.declared.limits.Limits.{Limits as Sizes};

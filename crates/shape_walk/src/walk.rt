@@ -1,6 +1,7 @@
 //! The walk over the events of a text.
 
-ghost use Rattle.std.specs.Prelude.{◌≡◌, ◌∷◌, [], ◌++◌, ◌↔◌, ℕ, ℤ, List, Bool, false, None, Some, IfOk, OnOk, IfSome, IsTrue, is_none};
+ghost use Rattle.std.specs.Prelude.{◌≡◌, ◌∷◌, [], ◌++◌, ◌↔◌, ℕ, ℤ, List, Bool, false, None, Some, IfOk, OnOk, IfSome};
+ghost use Rattle.std.specs.Prelude.{IsTrue, is_none};
 ghost use Rattle.json_grammar.specs.Tree as json;
 ghost use Rattle.json_grammar.specs.Tree.{events_of};
 ghost use Rattle.json_grammar.specs.Events.{event_view};
@@ -122,12 +123,13 @@ impl ShapeWalk {
     }
 
     /// Takes the next event of a text, which is a number at the spot and whose value is exactly a count of 10^-12: what
-    /// `take` does with each such event. Tells whether numbers are still awaited at the spot, which only a fault ends. It
-    /// takes no memory.
+    /// `take` does with each such event. Tells whether numbers are still awaited at the spot, which
+    /// only a fault ends. It takes no memory.
     #[inline]
     pub fn take_count(&mut self, at: u64, spot: Spot) -> bool
         requires { AwaitsCount self.old spot }
-        ensures stands { (limits : Sizes) (es : List json.Event) (token : List ℕ) (count : ℤ) → fixed token ≡ Some (count, false) → StandsAfter limits self.old es
+        ensures stands { (limits : Sizes) (es : List json.Event) (token : List ℕ) (count : ℤ)
+            → fixed token ≡ Some (count, false) → StandsAfter limits self.old es
             → StandsAfter limits self.new (es ++ json.Event.number at token ∷ []) }
         ensures spot { (limits : Sizes) (es : List json.Event) (token : List ℕ) → StandsAfter limits self.old es
             → spot ≡ spot_after es (json.Event.number at token) }

@@ -4,7 +4,8 @@ use Rattle.std.specs.List.{All}
 use Rattle.std.proofs.lemmas.List.Elements.{All-head, All-tail}
 
 -- a text is cut at its first such byte in one way only
-pub cut_once : (x : ℕ) (a b c d : List ℕ) → All (λ y. y ≢ x) a → All (λ y. y ≢ x) c → a ++ x ∷ b ≡ c ++ x ∷ d → (a ≡ c) × (b ≡ d)
+pub cut_once : (x : ℕ) (a b c d : List ℕ) → All (λ y. y ≢ x) a → All (λ y. y ≢ x) c
+    → a ++ x ∷ b ≡ c ++ x ∷ d → (a ≡ c) × (b ≡ d)
 cut_once x [] b [] d p q e = (refl, cc)
 cut_once x [] b (y ∷ c) d p q e = let head : x ≡ y = cc in absurd (All-head (λ z. z ≢ x) y c q (sym head))
 cut_once x (y ∷ a) b [] d p q e = let head : y ≡ x = cc in absurd (All-head (λ z. z ≢ x) y a p head)

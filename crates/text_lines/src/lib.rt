@@ -8,5 +8,5 @@ mod number;
 mod split;
 
 pub use name::find_name;
-pub use number::{numeral, value_of_digits};
+pub use number::{numeral, value_of_digits, wide_value_of_digits};
 pub use split::{split_feed, split_line, split_once};

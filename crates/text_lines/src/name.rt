@@ -1,4 +1,4 @@
-// Names that a text gives as bytes.
+//! Names that a text gives as bytes.
 ghost use Rattle.std.specs.Prelude.{◌≡◌, ◌<◌, [], length, IfSome, IfNone, Contains, slice_index_or};
 
 use instance_model::Instance;

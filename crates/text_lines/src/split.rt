@@ -1,4 +1,4 @@
-// A text is cut at a byte, and into its lines.
+//! A text is cut at a byte, and into its lines.
 ghost use Rattle.std.specs.Prelude.{◌≡◌, ◌≢◌, ◌<◌, [], ◌∷◌, ◌++◌, length, All, IfSome, IfNone};
 ghost use Rattle.text_lines.specs.Lines.{lines_of};
 

@@ -11,7 +11,8 @@ use Rattle.worked_certificates.specs.declared.audit.Audit.TheVariants.{Proved, L
 -- every plan that keeps the rules has a score of at least the bound; where that is none, no plan keeps them
 abbrev pub BoundsKeptPlans : Tables → Bound → Type 0
 BoundsKeptPlans inst bound =
-    (starts : List ℕ) → length starts ≡ length inst.names → KeepsRules inst (map Some starts) → IsAtLeast bound (score_of inst (map Some starts))
+    (starts : List ℕ) → length starts ≡ length inst.names → KeepsRules inst (map Some starts)
+    → IsAtLeast bound (score_of inst (map Some starts))
 
 -- what is proved of a bound, if one is
 abbrev pub IfProved : Audit → (Bound → Type 0) → Type 0

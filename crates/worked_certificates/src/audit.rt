@@ -29,10 +29,14 @@ pub fn audit_text(alloc: Global, inst: &Instance, text: &[u8]) -> Result<Audit, 
     // What is proved holds for every plan.
     ensures proved { IfOk result (λ audit. IfProved audit (BoundsKeptPlans inst.now)) }
 
-    // A valid certificate's bound is proved, the first failing leaf of another is told, and the fault of a text that is none.
-    ensures valid { (cert : Certificate) → IsTextOf inst.now text.now cert → IsValid risk_base risk_value inst.now cert → (result ≡ Ok (Proved cert.bound)) ⊎ (result ≡ Err Memory) }
-    ensures fails { (cert : Certificate) (n : ℕ) → IsTextOf inst.now text.now cert → IsFirstFailing risk_base risk_value inst.now cert n → (result ≡ Ok (LeafFails n)) ⊎ (result ≡ Err Memory) }
-    ensures fault { (fault : CertFault) → HasCertFault inst.now text.now fault → (result ≡ Err fault) ⊎ (result ≡ Err Memory) }
+    // A valid certificate's bound is proved, the first failing leaf of another is
+    // told, and the fault of a text that is none.
+    ensures valid { (cert : Certificate) → IsTextOf inst.now text.now cert → IsValid risk_base risk_value inst.now cert
+        → (result ≡ Ok (Proved cert.bound)) ⊎ (result ≡ Err Memory) }
+    ensures fails { (cert : Certificate) (n : ℕ) → IsTextOf inst.now text.now cert
+        → IsFirstFailing risk_base risk_value inst.now cert n → (result ≡ Ok (LeafFails n)) ⊎ (result ≡ Err Memory) }
+    ensures fault { (fault : CertFault) → HasCertFault inst.now text.now fault
+        → (result ≡ Err fault) ⊎ (result ≡ Err Memory) }
 {
     inst.feasible_means_kept();
     let cert = read_certificate(alloc, inst, text)?;

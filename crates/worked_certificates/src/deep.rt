@@ -1,5 +1,5 @@
-//! A certificate whose tree splits intervention after intervention and start after start, compared with a walk that makes each box
-//! afresh.
+//! A certificate whose tree splits intervention after intervention and start after start,
+//! compared with a walk that makes each box afresh.
 
 use crate::Audit;
 use crate::given::{audited, instance, is_proved};
@@ -15,8 +15,8 @@ const INTERVENTIONS: u64 = 20;
 
 const PERIODS: u64 = 50;
 
-/// The risk of an intervention, counted from 1, at a start: its number in the last period, and before that more, which falls from
-/// intervention to intervention and from start to start, though not at each.
+/// The risk of an intervention, counted from 1, at a start: its number in the last period, and before that more, which
+/// falls from intervention to intervention and from start to start, though not at each.
 fn risk(i: u64, start: u64) -> u64 {
     if start == PERIODS {
         return i;
@@ -30,8 +30,8 @@ fn risk(i: u64, start: u64) -> u64 {
     i.saturating_add(falling).saturating_add(uneven)
 }
 
-/// The least sum of risks in the box of a leaf: `i` has this start, interventions before it start in the last period, and those behind
-/// it anywhere.
+/// The least sum of risks in the box of a leaf: `i` has this start, interventions before it start in the
+/// last period, and those behind it anywhere.
 fn least(i: u64, start: u64) -> u64 {
     let mut sum = 0u64;
     for j in 1..=INTERVENTIONS {

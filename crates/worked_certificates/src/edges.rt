@@ -1,6 +1,7 @@
 //! Certificates accepted at the exact edge of their bounds, and refused one past it.
 //!
-//! A score is the cost times 10^18 times the number of periods. Where the mean alone costs, it is the sum of the risks times 10^18.
+//! A score is the cost times 10^18 times the number of periods. Where the mean alone
+//! costs, it is the sum of the risks times 10^18.
 
 use crate::Audit;
 use crate::given::{APART, FLOOR, SKEWED, audited, fails_at, instance, is_proved};
@@ -45,7 +46,8 @@ const APART_EDGES: [Edge; 5] = [
         past: 1,
         none: 1,
     },
-    // A price of 0.333333 on the load of period 1: A and B cost 1.999998 each, and 3.33333 is taken off for the limit of 10.
+    // A price of 0.333333 on the load of period 1: A and B cost 1.999998 each, and
+    // 3.33333 is taken off for the limit of 10.
     Edge {
         lines: "lists 1\nprices\nup 1 1 333333\ntree\ncost 1\n",
         bound: 666_666_000_000_000_000,
@@ -63,7 +65,8 @@ const APART_EDGES: [Edge; 5] = [
 
 /// On `FLOOR`.
 const FLOOR_EDGES: [Edge; 2] = [
-    // A price of 0.6 on what lacks in period 1: start 1 costs 3 less 3, start 2 nothing, and 3 is added for the limit of 5.
+    // A price of 0.6 on what lacks in period 1: start 1 costs 3 less 3, start 2
+    // nothing, and 3 is added for the limit of 5.
     Edge {
         lines: "lists 1\nprices\nlo 1 1 600000\ntree\ncost 1\n",
         bound: 3 * ONE,

@@ -8,8 +8,8 @@ use instance_read::{InstanceFault, read_instance};
 use std::alloc::Global;
 use std::process::Abort;
 
-/// Two interventions of one period each, both of which may run in either of two periods. Together they load `c` by 12 of 10, and
-/// they exclude each other in both periods. One scenario in each; the mean alone costs.
+/// Two interventions of one period each, both of which may run in either of two periods. Together they load `c` by 12
+/// of 10, and they exclude each other in both periods. One scenario in each; the mean alone costs.
 pub const APART: &str = r#"{"Resources":{"c":{"max":[10,10],"min":[0,0]}},"Seasons":{"w":[1,2]},
 "Interventions":{
 "A":{"tmax":2,"Delta":[1,1],
@@ -30,7 +30,8 @@ pub const FLOOR: &str = r#"{"Resources":{"c":{"max":[9,9],"min":[5,0]}},"Seasons
 "Exclusions":{},"T":2,"Scenarios_number":[1,1],
 "Quantile":1,"Alpha":1}"#;
 
-/// One intervention with one start, and two scenarios. Half the mean costs, and half of what the greater risk is above it.
+/// One intervention with one start, and two scenarios. Half the mean costs, and
+/// half of what the greater risk is above it.
 pub const SKEWED: &str = r#"{"Resources":{},"Seasons":{},
 "Interventions":{"A":{"tmax":1,"Delta":[1],"workload":{},
 "risk":{"1":{"1":[1,3]}}}},

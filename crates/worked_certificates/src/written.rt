@@ -38,7 +38,8 @@ const TEXTS: [&str; 4] = [
     WHOLE,
     "mpcert 1\nbound none\nlists 0\ntree\nempty 2\n",
     "mpcert 1\nbound 0\nlists 1\nprices\nup 1 2 1\nlo 1 1 7\ntail 1 1 1\ntail 2 999 1\ntree\nband 1 2 under\n",
-    "mpcert 2\nbound 1000000000000000000000000000000000000\nlists 1\nprices\nex 1 1 1\nex 1 2 1000000000\ntree\ncost 1\n",
+    "mpcert 2\nbound 1000000000000000000000000000000000000\nlists 1\nprices\nex 1 1 1\nex 1 2 1000000000\n\
+        tree\ncost 1\n",
 ];
 
 fn are_rewritten(rt: &impl Abort, alloc: Global, texts: &[&str]) -> Result<(), Fail> {

@@ -15,12 +15,18 @@ three = Move 0 512 ∷ Swap 1 0 ∷ Move 1 0 ∷ []
 abbrev Known : Tables → Change → Type 0
 Known inst change = NamesKnown inst (line_of change)
 
-pub three_known : (inst : Tables) (moves : List Change) → length inst.names ≡ 2 → moves ≡ three → All (λ change. NamesKnown inst (line_of change)) moves
+pub three_known : (inst : Tables) (moves : List Change) → length inst.names ≡ 2 → moves ≡ three
+    → All (λ change. NamesKnown inst (line_of change)) moves
 three_known inst moves two e =
     let first : 0 < length inst.names = omega (arith, two) in
     let second : 1 < length inst.names = omega (arith, two) in
-    subst (All (Known inst)) (sym e) (All-cons (Known inst) (Move 0 512) (Swap 1 0 ∷ Move 1 0 ∷ []) first (All-cons (Known inst) (Swap 1 0) (Move 1 0 ∷ []) (second, first) (All-cons (Known inst) (Move 1 0) [] second (All-nil (Known inst)))))
+    subst (All (Known inst)) (sym e)
+    (All-cons (Known inst) (Move 0 512) (Swap 1 0 ∷ Move 1 0 ∷ []) first
+    (All-cons (Known inst) (Swap 1 0) (Move 1 0 ∷ []) (second, first)
+    (All-cons (Known inst) (Move 1 0) [] second (All-nil (Known inst)))))
 
 pub three_small : (moves : List Change) → moves ≡ three → All HasSmallStart moves
 three_small moves e =
-    subst (All HasSmallStart) (sym e) (All-cons HasSmallStart (Move 0 512) (Swap 1 0 ∷ Move 1 0 ∷ []) (omega arith) (All-cons HasSmallStart (Swap 1 0) (Move 1 0 ∷ []) (search rules) (All-cons HasSmallStart (Move 1 0) [] (omega arith) (All-nil HasSmallStart))))
+    subst (All HasSmallStart) (sym e) (All-cons HasSmallStart (Move 0 512) (Swap 1 0 ∷ Move 1 0 ∷ []) (omega arith)
+    (All-cons HasSmallStart (Swap 1 0) (Move 1 0 ∷ []) (search rules)
+    (All-cons HasSmallStart (Move 1 0) [] (omega arith) (All-nil HasSmallStart))))

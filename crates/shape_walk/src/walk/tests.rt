@@ -11,8 +11,9 @@ use std::test::Fail;
 /// A text without a fault that has each kind of value once.
 const GOOD: &[u8] =
     b"{\"Resources\":{\"c1\":{\"max\":[10],\"min\":[0]}},\"Seasons\":{\"winter\":[\"1\"]},\
-\"Interventions\":{\"I1\":{\"tmax\":\"2\",\"Delta\":[3,3],\"workload\":{\"c1\":{\"04\":{\"5\":5.5}}},\"risk\":{\"6\":{\"7\":[2.5]}}}},\
-\"Exclusions\":{\"E1\":[\"I1\",\"I2\",\"winter\"]},\"T\":8,\"Scenarios_number\":[9],\"Quantile\":0.95,\"Alpha\":0.5,\"note\":[null,true]}";
+        \"Interventions\":{\"I1\":{\"tmax\":\"2\",\"Delta\":[3,3],\"workload\":{\"c1\":{\"04\":{\"5\":5.5}}},\
+        \"risk\":{\"6\":{\"7\":[2.5]}}}},\"Exclusions\":{\"E1\":[\"I1\",\"I2\",\"winter\"]},\"T\":8,\
+        \"Scenarios_number\":[9],\"Quantile\":0.95,\"Alpha\":0.5,\"note\":[null,true]}";
 
 /// What a walk tells of one event more.
 fn tell(

@@ -12,17 +12,23 @@ loop-s-preserved c =
           rw w.best-is (record {
             order = omega (arith, c.loop-s.invariant.order);
             within = omega arith;
-            value = start_taken c.args.side (load_by_start c.args.inst.now c.args.c c.args.t c.args.i) (is_allowed c.args.inst.now c.args.i) c.args.span.from c.loop-s.s c.loop-s.best w.load_at_start.result w.furthest.result c.loop-s.invariant.order c.loop-s.invariant.value (sym c.allowed.ensures ∙ w.if-allowed.true) w.load_at_start.ensures w.furthest.ensures;
+            value = start_taken c.args.side (load_by_start c.args.inst.now c.args.c c.args.t c.args.i)
+                (is_allowed c.args.inst.now c.args.i) c.args.span.from c.loop-s.s c.loop-s.best w.load_at_start.result
+                w.furthest.result c.loop-s.invariant.order c.loop-s.invariant.value
+                (sym c.allowed.ensures ∙ w.if-allowed.true) w.load_at_start.ensures w.furthest.ensures;
           })
       | else-allowed w ↦
           rw w.best-is (record {
             order = omega (arith, c.loop-s.invariant.order);
             within = omega arith;
-            value = start_passed c.args.side (load_by_start c.args.inst.now c.args.c c.args.t c.args.i) (is_allowed c.args.inst.now c.args.i) c.args.span.from c.loop-s.s c.loop-s.best c.loop-s.invariant.order c.loop-s.invariant.value (sym c.allowed.ensures ∙ w.if-allowed.false);
+            value = start_passed c.args.side (load_by_start c.args.inst.now c.args.c c.args.t c.args.i)
+                (is_allowed c.args.inst.now c.args.i) c.args.span.from c.loop-s.s c.loop-s.best c.loop-s.invariant.order
+                c.loop-s.invariant.value (sym c.allowed.ensures ∙ w.if-allowed.false);
           })
     ]
 
 pub returns : goal.returns
 returns c =
     let e : c.loop-s.s - c.args.span.from ≡ c.args.span.to + 1 - c.args.span.from = omega arith in
-    all_taken c.args.side (load_by_start c.args.inst.now c.args.c c.args.t c.args.i) c.args.inst.now c.args.i c.args.span c.loop-s.s c.loop-s.best e c.loop-s.invariant.value
+    all_taken c.args.side (load_by_start c.args.inst.now c.args.c c.args.t c.args.i) c.args.inst.now c.args.i
+    c.args.span c.loop-s.s c.loop-s.best e c.loop-s.invariant.value

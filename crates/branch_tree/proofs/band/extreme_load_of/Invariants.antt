@@ -7,7 +7,8 @@ use Rattle.branch_tree.proofs.band.extreme_load_of.Given as goal
 
 abbrev pub invariant-loop-i : goal.invariant-loop-i
 invariant-loop-i l = record {
-  value : l.sum ≡ sum_below l.i (λ j. extreme_over l.side (load_by_start l.inst l.c l.t j) (starts_in l.inst j (span_of l.spans j)));
+  value : l.sum ≡ sum_below l.i (λ j. extreme_over l.side (load_by_start l.inst l.c l.t j)
+      (starts_in l.inst j (span_of l.spans j)));
   small : unsigned_abs l.sum ≤ l.i * 100_000_000_000_000_000_000;
   starts : (j : ℕ) → j < l.i → 0 < length (starts_in l.inst j (span_of l.spans j));
 }

@@ -7,7 +7,9 @@ use Rattle.certificate_check.proofs.checking.verdict_of.Given as goal
 
 abbrev pub invariant-loop-node : goal.invariant-loop-node
 invariant-loop-node g l = record {
-  here : IsAt l.inst (length l.cert.lists) l.node-items (flat_leaves l.node-items (root_box l.inst ∷ [])) l.node-index l.leaves l.path;
-  hold : (k : ℕ) (d : Leaf) → k < l.leaves → CertLeafHolds (g.G.Goal.base_gives l.goal) (g.G.Goal.value_gives l.goal) l.inst l.cert (get_or (flat_leaves l.node-items (root_box l.inst ∷ [])) k d);
+  here : IsAt l.inst (length l.cert.lists) l.node-items (flat_leaves l.node-items (root_box l.inst ∷ []))
+      l.node-index l.leaves l.path;
+  hold : (k : ℕ) (d : Leaf) → k < l.leaves → CertLeafHolds (g.G.Goal.base_gives l.goal) (g.G.Goal.value_gives
+      l.goal) l.inst l.cert (get_or (flat_leaves l.node-items (root_box l.inst ∷ [])) k d);
   nodes : l.node-items ≡ l.cert.nodes;
 }

@@ -5,4 +5,5 @@ pub returns-in-Point : goal.returns-in-Point
 returns-in-Point g c = rw c.in-Point.is c.point_holds.ensures
 
 pub returns-in-Empty : goal.returns-in-Empty
-returns-in-Empty g c = rw c.in-Empty.is (empty_is c.args.inst.now c.args.spans.now c.in-Empty.i c.has_start.result c.has_start.ensures)
+returns-in-Empty g c =
+    rw c.in-Empty.is (empty_is c.args.inst.now c.args.spans.now c.in-Empty.i c.has_start.result c.has_start.ensures)

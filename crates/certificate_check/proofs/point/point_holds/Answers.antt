@@ -4,4 +4,8 @@ use Rattle.certificate_check.proofs.point.point_holds.Goals as goal
 
 pub value-requires : goal.value-requires
 value-requires g c =
-    starts_allowed c.args.inst.now c.args.spans.now c.as_slice-3.result.now c.as_slice-2.result.now c.broken_rule.result c.is_some.result c.requires.spans (c.as_slice-3.ensures.value ∙ c.in_ok-starts.ensures) (c.as_slice-2.ensures.value ∙ c.in_ok-plan.ensures ∙ ap (map Some) (c.as_slice.ensures.value ∙ sym c.as_slice-3.ensures.value)) c.broken_rule.ensures c.is_some.ensures c.if-is_some.false
+    starts_allowed c.args.inst.now c.args.spans.now c.as_slice-3.result.now c.as_slice-2.result.now c.broken_rule.result
+    c.is_some.result c.requires.spans (c.as_slice-3.ensures.value ∙ c.in_ok-starts.ensures)
+    (c.as_slice-2.ensures.value ∙ c.in_ok-plan.ensures
+    ∙ ap (map Some) (c.as_slice.ensures.value ∙ sym c.as_slice-3.ensures.value)) c.broken_rule.ensures
+    c.is_some.ensures c.if-is_some.false

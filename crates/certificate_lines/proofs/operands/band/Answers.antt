@@ -14,7 +14,8 @@ returns-in_err-t c =
     rw c.from_residual-in_err-t.ensures
     (λ line f. only_band line f.begins (λ (x : CertificateLine). Follows Band rest x → ⊥)
     (λ n m side g.
-    let later = behind_number rest first.more.now (word m ++ side_text side) first.c n first.ensures.found first.ensures.small first.ensures.rest g.form.0 refl (g.spelled ∙ pair_pieces n m (side_text side)) in
+    let later = behind_number rest first.more.now (word m ++ side_text side) first.c n first.ensures.found
+    first.ensures.small first.ensures.rest g.form.0 refl (g.spelled ∙ pair_pieces n m (side_text side)) in
     c.in_err-t.ensures.none m (side_text side) g.form.1 (side_break side) later)
     f)
 
@@ -26,6 +27,8 @@ returns-in_err-side c =
     rw c.from_residual-in_err-side.ensures
     (λ line f. only_band line f.begins (λ (x : CertificateLine). Follows Band rest x → ⊥)
     (λ n m side g.
-    let later = behind_number rest first.more.now (word m ++ side_text side) first.c n first.ensures.found first.ensures.small first.ensures.rest g.form.0 refl (g.spelled ∙ pair_pieces n m (side_text side)) in
-    c.in_err-side.ensures.none side (behind_number first.more.now second.end.now (side_text side) second.t m second.ensures.found second.ensures.small second.ensures.rest g.form.1 (side_break side) later))
+    let later = behind_number rest first.more.now (word m ++ side_text side) first.c n first.ensures.found
+    first.ensures.small first.ensures.rest g.form.0 refl (g.spelled ∙ pair_pieces n m (side_text side)) in
+    c.in_err-side.ensures.none side (behind_number first.more.now second.end.now (side_text side) second.t m
+    second.ensures.found second.ensures.small second.ensures.rest g.form.1 (side_break side) later))
     f)

@@ -8,4 +8,5 @@ use Rattle.certificate_lines.proofs.operands.prices.Goals as goal
 pub returns-then-not-is_empty : goal.returns-then-not-is_empty
 returns-then-not-is_empty c = λ line f.
     let some : 0 < length c.args.rest.now = search rules in
-    only_prices line f.begins (λ (x : CertificateLine). Follows Prices c.args.rest.now x → ⊥) (λ g. omega (arith, some, ap length g.spelled)) f
+    only_prices line f.begins (λ (x : CertificateLine). Follows Prices c.args.rest.now x → ⊥)
+    (λ g. omega (arith, some, ap length g.spelled)) f

@@ -13,7 +13,8 @@ returns-in_default-next_number c =
     let rest = c.args.rest.now in
     λ line f. only_tail line f.begins (λ (x : CertificateLine). Follows Tail rest x → ⊥)
     (λ n m places g.
-    let later = behind_number rest first.more.now (words (m ∷ places)) first.t n first.ensures.found first.ensures.small first.ensures.rest g.form.0 refl g.spelled in
+    let later = behind_number rest first.more.now (words (m ∷ places)) first.t n first.ensures.found first.ensures.small
+    first.ensures.rest g.form.0 refl g.spelled in
     c.in_default-next_number.ensures.none m (words places) g.form.1 (words_break places) later)
     f
 
@@ -24,8 +25,10 @@ returns-in_default-2 c =
     let rest = c.args.rest.now in
     λ line f. only_tail line f.begins (λ (x : CertificateLine). Follows Tail rest x → ⊥)
     (λ n m places g.
-    let later = behind_number rest first.more.now (words (m ∷ places)) first.t n first.ensures.found first.ensures.small first.ensures.rest g.form.0 refl g.spelled in
-    let last = behind_number first.more.now second.more.now (words places) second.weight m second.ensures.found second.ensures.small second.ensures.rest g.form.1 (words_break places) later in
+    let later = behind_number rest first.more.now (words (m ∷ places)) first.t n first.ensures.found first.ensures.small
+    first.ensures.rest g.form.0 refl g.spelled in
+    let last = behind_number first.more.now second.more.now (words places) second.weight m second.ensures.found
+    second.ensures.small second.ensures.rest g.form.1 (words_break places) later in
     let none = rw c.in_default-2.is at c.in_ok-list.ensures.none in
     none places g.form.2 g.form.3 last)
     f

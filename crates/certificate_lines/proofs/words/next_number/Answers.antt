@@ -7,5 +7,6 @@ returns-in_err-n-clause-none c =
     let text = c.args.text.now in
     let behind = c.in_ok-behind.behind in
     rw c.from_residual-in_err-n.ensures
-    (no_number text behind.now c.cut_word.result.0.now c.cut_word.result.1.now (behind_prefix text (codes " ") behind c.in_ok-behind.ensures.cases)
+    (no_number text behind.now c.cut_word.result.0.now c.cut_word.result.1.now
+    (behind_prefix text (codes " ") behind c.in_ok-behind.ensures.cases)
     c.cut_word.ensures.cut c.cut_word.ensures.whole c.cut_word.ensures.rest c.in_err-n.ensures.none)

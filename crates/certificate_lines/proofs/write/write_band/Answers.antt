@@ -6,7 +6,8 @@ use Rattle.certificate_lines.specs.Steps.{side_text}
 use Rattle.certificate_lines.proofs.write.write_band.Goals as goal
 
 pub returns-in_err-write_words : goal.returns-in_err-write_words
-returns-in_err-write_words g c = cut writing c.from_residual.result (search rules) (side_text c.args.side) c.in_err-write_words.ensures
+returns-in_err-write_words g c =
+    cut writing c.from_residual.result (search rules) (side_text c.args.side) c.in_err-write_words.ensures
 
 pub returns : goal.returns
 returns g c =

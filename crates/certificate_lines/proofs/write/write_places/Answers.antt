@@ -9,10 +9,15 @@ loop-place-init g c = begins writing (g.D.Desk.shows c.args.desk.now)
 
 pub returns-in_err-write_word : goal.returns-in_err-write_word
 returns-in_err-write_word g c =
-    stops_at writing word c.args.places.now c.loop-place.place-index 0 (omega arith) c.from_residual.result (search rules) c.loop-place.invariant
-    (respelled writing (ap (λ (xs : List ℕ). 32 ∷ xs) (c.bytes.ensures.value ∙ c.of_natural.ensures ∙ ap decimal c.from.ensures)) c.in_err-write_word.ensures)
+    stops_at writing word c.args.places.now c.loop-place.place-index 0 (omega arith) c.from_residual.result
+    (search rules) c.loop-place.invariant
+    (respelled writing
+    (ap (λ (xs : List ℕ). 32 ∷ xs) (c.bytes.ensures.value ∙ c.of_natural.ensures ∙ ap decimal c.from.ensures))
+    c.in_err-write_word.ensures)
 
 pub loop-place-preserved : goal.loop-place-preserved
 loop-place-preserved g c =
     next writing word c.args.places.now c.loop-place.place-index 0 (omega arith) c.loop-place.invariant
-    (respelled writing (ap (λ (xs : List ℕ). 32 ∷ xs) (c.bytes.ensures.value ∙ c.of_natural.ensures ∙ ap decimal c.from.ensures)) c.in_ok-write_word.ensures)
+    (respelled writing
+    (ap (λ (xs : List ℕ). 32 ∷ xs) (c.bytes.ensures.value ∙ c.of_natural.ensures ∙ ap decimal c.from.ensures))
+    c.in_ok-write_word.ensures)

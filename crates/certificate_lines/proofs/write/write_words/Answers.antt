@@ -9,10 +9,13 @@ loop-number-init g c = begins writing (g.D.Desk.shows c.args.desk.now)
 
 pub returns-in_err-write_word : goal.returns-in_err-write_word
 returns-in_err-write_word g c =
-    stops_at writing word c.args.numbers.now c.loop-number.number-index 0 (omega arith) c.from_residual.result (search rules) c.loop-number.invariant
-    (respelled writing (ap (λ (xs : List ℕ). 32 ∷ xs) (c.bytes.ensures.value ∙ c.of_natural.ensures)) c.in_err-write_word.ensures)
+    stops_at writing word c.args.numbers.now c.loop-number.number-index 0 (omega arith) c.from_residual.result
+    (search rules) c.loop-number.invariant
+    (respelled writing (ap (λ (xs : List ℕ). 32 ∷ xs) (c.bytes.ensures.value ∙ c.of_natural.ensures))
+    c.in_err-write_word.ensures)
 
 pub loop-number-preserved : goal.loop-number-preserved
 loop-number-preserved g c =
     next writing word c.args.numbers.now c.loop-number.number-index 0 (omega arith) c.loop-number.invariant
-    (respelled writing (ap (λ (xs : List ℕ). 32 ∷ xs) (c.bytes.ensures.value ∙ c.of_natural.ensures)) c.in_ok-write_word.ensures)
+    (respelled writing (ap (λ (xs : List ℕ). 32 ∷ xs) (c.bytes.ensures.value ∙ c.of_natural.ensures))
+    c.in_ok-write_word.ensures)

@@ -12,7 +12,9 @@ pub returns-in_err-write_limits : goal.returns-in_err-write_limits
 returns-in_err-write_limits g c =
     let inst = c.args.inst.now in
     let prices = c.args.prices.now in
-    lines_cut c.from_residual.result (search rules) (limit_lines line.Up inst.periods 0 prices.up) (limit_lines line.Lo inst.periods 0 prices.lo ++ (tail_lines 1 prices.tails ++ map ex_line prices.ex)) c.in_err-write_limits.ensures
+    lines_cut c.from_residual.result (search rules) (limit_lines line.Up inst.periods 0 prices.up)
+    (limit_lines line.Lo inst.periods 0 prices.lo ++ (tail_lines 1 prices.tails ++ map ex_line prices.ex))
+    c.in_err-write_limits.ensures
 
 pub returns-in_err-write_limits-2 : goal.returns-in_err-write_limits-2
 returns-in_err-write_limits-2 g c =
@@ -21,7 +23,8 @@ returns-in_err-write_limits-2 g c =
     let r = c.from_residual-in_err-write_limits-2.result in
     let los : List CertificateLine = limit_lines line.Lo inst.periods 0 prices.lo in
     let rest : List CertificateLine = tail_lines 1 prices.tails ++ map ex_line prices.ex in
-    lines_last r (limit_lines line.Up inst.periods 0 prices.up) (los ++ rest) (put writing c.in_ok-write_limits.ensures) (lines_cut r (search rules) los rest c.in_err-write_limits-2.ensures)
+    lines_last r (limit_lines line.Up inst.periods 0 prices.up) (los ++ rest) (put writing c.in_ok-write_limits.ensures)
+    (lines_cut r (search rules) los rest c.in_err-write_limits-2.ensures)
 
 pub returns-in_err-write_tails : goal.returns-in_err-write_tails
 returns-in_err-write_tails g c =
@@ -31,8 +34,10 @@ returns-in_err-write_tails g c =
     let los : List CertificateLine = limit_lines line.Lo inst.periods 0 prices.lo in
     let tails : List CertificateLine = tail_lines 1 prices.tails in
     let ex : List CertificateLine = map ex_line prices.ex in
-    lines_last r (limit_lines line.Up inst.periods 0 prices.up) (los ++ (tails ++ ex)) (put writing c.in_ok-write_limits.ensures)
-    (lines_last r los (tails ++ ex) (put writing c.in_ok-write_limits-2.ensures) (lines_cut r (search rules) tails ex c.in_err-write_tails.ensures))
+    lines_last r (limit_lines line.Up inst.periods 0 prices.up) (los ++ (tails ++ ex))
+    (put writing c.in_ok-write_limits.ensures)
+    (lines_last r los (tails ++ ex) (put writing c.in_ok-write_limits-2.ensures)
+    (lines_cut r (search rules) tails ex c.in_err-write_tails.ensures))
 
 pub returns : goal.returns
 returns g c =
@@ -42,7 +47,9 @@ returns g c =
     let los : List CertificateLine = limit_lines line.Lo inst.periods 0 prices.lo in
     let tails : List CertificateLine = tail_lines 1 prices.tails in
     let ex : List CertificateLine = map ex_line prices.ex in
-    lines_last r (limit_lines line.Up inst.periods 0 prices.up) (los ++ (tails ++ ex)) (put writing c.in_ok-write_limits.ensures)
+    lines_last r (limit_lines line.Up inst.periods 0 prices.up) (los ++ (tails ++ ex))
+    (put writing c.in_ok-write_limits.ensures)
     (lines_last r los (tails ++ ex) (put writing c.in_ok-write_limits-2.ensures)
     (lines_last r tails ex (put writing c.in_ok-write_tails.ensures)
-    (respelled writing (ap (λ (xs : List ExPrice). text_of_lines (map ex_line xs)) c.ex_prices.ensures) c.write_ex.ensures)))
+    (respelled writing (ap (λ (xs : List ExPrice). text_of_lines (map ex_line xs)) c.ex_prices.ensures)
+    c.write_ex.ensures)))

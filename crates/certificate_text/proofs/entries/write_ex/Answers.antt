@@ -14,8 +14,10 @@ returns-in_err-put_line g c =
     let ex = c.args.ex.now in
     let n = c.loop-x.x-index in
     step_stops (map ex_line (take n ex)) (c.line_of_ex.result ∷ []) (map ex_line (take (n + 1) ex))
-    (map_step ex_line ex n (record { exclusion = 0; period = 0; value = 0 }) c.loop-x-test.true ∙ ap (λ (l : CertificateLine). map ex_line (take n ex) ++ l ∷ []) (sym c.line_of_ex.ensures))
-    c.from_residual.result (search rules) (map ex_line (drop (n + 1) ex)) (map ex_line ex) (map_rest ex_line ex n (record { exclusion = 0; period = 0; value = 0 }) c.loop-x-test.true)
+    (map_step ex_line ex n (record { exclusion = 0; period = 0; value = 0 }) c.loop-x-test.true
+    ∙ ap (λ (l : CertificateLine). map ex_line (take n ex) ++ l ∷ []) (sym c.line_of_ex.ensures))
+    c.from_residual.result (search rules) (map ex_line (drop (n + 1) ex)) (map ex_line ex)
+    (map_rest ex_line ex n (record { exclusion = 0; period = 0; value = 0 }) c.loop-x-test.true)
     c.loop-x.invariant c.in_err-put_line.ensures
 
 pub loop-x-preserved : goal.loop-x-preserved
@@ -23,5 +25,6 @@ loop-x-preserved g c =
     let ex = c.args.ex.now in
     let n = c.loop-x.x-index in
     step_on (map ex_line (take n ex)) (c.line_of_ex.result ∷ []) (map ex_line (take (n + 1) ex))
-    (map_step ex_line ex n (record { exclusion = 0; period = 0; value = 0 }) c.loop-x-test.true ∙ ap (λ (l : CertificateLine). map ex_line (take n ex) ++ l ∷ []) (sym c.line_of_ex.ensures))
+    (map_step ex_line ex n (record { exclusion = 0; period = 0; value = 0 }) c.loop-x-test.true
+    ∙ ap (λ (l : CertificateLine). map ex_line (take n ex) ++ l ∷ []) (sym c.line_of_ex.ensures))
     c.loop-x.invariant c.in_ok-put_line.ensures

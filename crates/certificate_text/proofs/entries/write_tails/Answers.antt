@@ -15,21 +15,29 @@ pub returns-in_err-write_tail_of : goal.returns-in_err-write_tail_of
 returns-in_err-write_tail_of g c =
     let prices = c.args.prices.now in
     let u = c.loop-u.u in
-    step_stops (tail_lines 1 (take u prices.tails)) (tail_lines (u + 1) (tail_of prices (u + 1) ∷ [])) (tail_lines 1 (take (u + 1) prices.tails))
-    (tails_step c.args.inst.now prices u c.requires.in_range (omega (arith, c.periods-u-end.ensures.value, c.loop-u-test.true)))
-    c.from_residual.result (search rules) (tail_lines (1 + length (take (u + 1) prices.tails)) (drop (u + 1) prices.tails)) (tail_lines 1 prices.tails) (tails_rest prices u)
+    step_stops (tail_lines 1 (take u prices.tails)) (tail_lines (u + 1) (tail_of prices (u + 1) ∷ []))
+    (tail_lines 1 (take (u + 1) prices.tails))
+    (tails_step c.args.inst.now prices u c.requires.in_range
+    (omega (arith, c.periods-u-end.ensures.value, c.loop-u-test.true)))
+    c.from_residual.result (search rules)
+    (tail_lines (1 + length (take (u + 1) prices.tails)) (drop (u + 1) prices.tails))
+    (tail_lines 1 prices.tails) (tails_rest prices u)
     c.loop-u.invariant c.in_err-write_tail_of.ensures
 
 pub loop-u-preserved : goal.loop-u-preserved
 loop-u-preserved g c =
     let prices = c.args.prices.now in
     let u = c.loop-u.u in
-    step_on (tail_lines 1 (take u prices.tails)) (tail_lines (u + 1) (tail_of prices (u + 1) ∷ [])) (tail_lines 1 (take (u + 1) prices.tails))
-    (tails_step c.args.inst.now prices u c.requires.in_range (omega (arith, c.periods-u-end.ensures.value, c.loop-u-test.true)))
+    step_on (tail_lines 1 (take u prices.tails)) (tail_lines (u + 1) (tail_of prices (u + 1) ∷ []))
+    (tail_lines 1 (take (u + 1) prices.tails))
+    (tails_step c.args.inst.now prices u c.requires.in_range
+    (omega (arith, c.periods-u-end.ensures.value, c.loop-u-test.true)))
     c.loop-u.invariant c.in_ok-write_tail_of.ensures
 
 pub returns : goal.returns
 returns g c =
     let prices = c.args.prices.now in
-    let whole = take_all c.loop-u.u prices.tails (let each = c.requires.in_range.tails_each in omega (arith, each, c.periods-u-end.ensures.value, c.loop-u-test.false)) in
-    respelled writing (ap (λ (tails : List (Option Tail)). text_of_lines (tail_lines 1 tails)) whole) (ends writing _ c.loop-u.invariant)
+    let whole = take_all c.loop-u.u prices.tails (let each = c.requires.in_range.tails_each in
+    omega (arith, each, c.periods-u-end.ensures.value, c.loop-u-test.false)) in
+    respelled writing (ap (λ (tails : List (Option Tail)). text_of_lines (tail_lines 1 tails)) whole)
+    (ends writing _ c.loop-u.invariant)

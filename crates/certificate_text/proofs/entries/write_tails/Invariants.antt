@@ -4,4 +4,5 @@ use Rattle.certificate_text.proofs.WriteLemmas.{HasLines}
 use Rattle.certificate_text.proofs.entries.write_tails.Given as goal
 
 abbrev pub invariant-loop-u : goal.invariant-loop-u
-invariant-loop-u g l = HasLines (tail_lines 1 (take l.u l.prices.tails)) (g.D.Desk.shows l.fn.desk) (g.D.Desk.shows l.desk)
+invariant-loop-u g l =
+    HasLines (tail_lines 1 (take l.u l.prices.tails)) (g.D.Desk.shows l.fn.desk) (g.D.Desk.shows l.desk)

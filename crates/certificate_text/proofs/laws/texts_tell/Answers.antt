@@ -9,4 +9,7 @@ returns-clause-lines c = lines_tell
 
 pub returns-clause-texts : goal.returns-clause-texts
 returns-clause-texts c =
-    λ inst cert other fits a b e. lines_tell inst cert other a b (spelled_one_way c.lines_are_spelled_one_way.ensures.one_line c.lines_are_spelled_one_way.ensures.no_line_feed (certificate_lines inst cert) (certificate_lines inst other) (lines_have_forms inst cert fits a) (lines_have_forms inst other fits b) e)
+    λ inst cert other fits a b e. lines_tell inst cert other a b
+    (spelled_one_way c.lines_are_spelled_one_way.ensures.one_line c.lines_are_spelled_one_way.ensures.no_line_feed
+    (certificate_lines inst cert) (certificate_lines inst other) (lines_have_forms inst cert fits a)
+    (lines_have_forms inst other fits b) e)

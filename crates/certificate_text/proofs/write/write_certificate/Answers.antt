@@ -13,7 +13,8 @@ use Rattle.certificate_text.proofs.write.write_certificate.Goals as goal
 pub returns-in_err-write_header : goal.returns-in_err-write_header
 returns-in_err-write_header g c =
     let cert = c.args.cert.now in
-    lines_cut c.from_residual.result (search rules) (header_lines cert) (flat_map (list_lines c.args.inst.now) cert.lists ++ tree_lines cert.nodes) c.in_err-write_header.ensures
+    lines_cut c.from_residual.result (search rules) (header_lines cert)
+    (flat_map (list_lines c.args.inst.now) cert.lists ++ tree_lines cert.nodes) c.in_err-write_header.ensures
 
 pub returns-in_err-write_lists : goal.returns-in_err-write_lists
 returns-in_err-write_lists g c =
@@ -22,7 +23,8 @@ returns-in_err-write_lists g c =
     let lists : List CertificateLine = flat_map (list_lines c.args.inst.now) cert.lists in
     lines_last r (header_lines cert) (lists ++ tree_lines cert.nodes) (put writing c.in_ok-write_header.ensures)
     (lines_cut r (search rules) lists (tree_lines cert.nodes)
-    (respelled writing (ap (λ (ps : List PriceList). text_of_lines (flat_map (list_lines c.args.inst.now) ps)) c.as_slice.ensures) c.in_err-write_lists.ensures))
+    (respelled writing (ap (λ (ps : List PriceList). text_of_lines (flat_map (list_lines c.args.inst.now) ps))
+    c.as_slice.ensures) c.in_err-write_lists.ensures))
 
 pub returns : goal.returns
 returns g c =
@@ -31,5 +33,8 @@ returns g c =
     let lists : List CertificateLine = flat_map (list_lines c.args.inst.now) cert.lists in
     lines_last r (header_lines cert) (lists ++ tree_lines cert.nodes) (put writing c.in_ok-write_header.ensures)
     (lines_last r lists (tree_lines cert.nodes)
-    (put writing (respelled writing (ap (λ (ps : List PriceList). text_of_lines (flat_map (list_lines c.args.inst.now) ps)) c.as_slice.ensures) c.in_ok-write_lists.ensures))
-    (respelled writing (ap (λ (nodes : List Node). text_of_lines (tree_lines nodes)) c.as_slice-2.ensures) c.write_tree.ensures))
+    (put writing
+    (respelled writing (ap (λ (ps : List PriceList). text_of_lines (flat_map (list_lines c.args.inst.now) ps))
+    c.as_slice.ensures) c.in_ok-write_lists.ensures))
+    (respelled writing (ap (λ (nodes : List Node). text_of_lines (tree_lines nodes)) c.as_slice-2.ensures)
+    c.write_tree.ensures))

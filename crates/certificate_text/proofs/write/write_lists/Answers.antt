@@ -17,8 +17,10 @@ returns-in_err-write_list g c =
     let n = c.loop-prices.prices-index in
     let item = c.prices-item.result in
     step_stops (flat_map lines (take n lists)) (lines item) (flat_map lines (take (n + 1) lists))
-    (flat_step lines lists n item c.loop-prices-test.true ∙ ap (λ (p : PriceList). flat_map lines (take n lists) ++ lines p) (sym c.prices-item.is))
-    c.from_residual.result (search rules) (flat_map lines (drop (n + 1) lists)) (flat_map lines lists) (flat_rest lines lists n item c.loop-prices-test.true)
+    (flat_step lines lists n item c.loop-prices-test.true
+    ∙ ap (λ (p : PriceList). flat_map lines (take n lists) ++ lines p) (sym c.prices-item.is))
+    c.from_residual.result (search rules) (flat_map lines (drop (n + 1) lists)) (flat_map lines lists)
+    (flat_rest lines lists n item c.loop-prices-test.true)
     c.loop-prices.invariant c.in_err-write_list.ensures
 
 pub loop-prices-preserved : goal.loop-prices-preserved
@@ -28,5 +30,6 @@ loop-prices-preserved g c =
     let n = c.loop-prices.prices-index in
     let item = c.prices-item.result in
     step_on (flat_map lines (take n lists)) (lines item) (flat_map lines (take (n + 1) lists))
-    (flat_step lines lists n item c.loop-prices-test.true ∙ ap (λ (p : PriceList). flat_map lines (take n lists) ++ lines p) (sym c.prices-item.is))
+    (flat_step lines lists n item c.loop-prices-test.true
+    ∙ ap (λ (p : PriceList). flat_map lines (take n lists) ++ lines p) (sym c.prices-item.is))
     c.loop-prices.invariant c.in_ok-write_list.ensures

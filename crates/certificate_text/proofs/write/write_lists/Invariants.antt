@@ -5,4 +5,5 @@ use Rattle.certificate_text.proofs.WriteLemmas.{HasLines}
 use Rattle.certificate_text.proofs.write.write_lists.Given as goal
 
 abbrev pub invariant-loop-prices : goal.invariant-loop-prices
-invariant-loop-prices g l = HasLines (flat_map (list_lines l.inst) (take l.prices-index l.lists)) (g.D.Desk.shows l.fn.desk) (g.D.Desk.shows l.desk)
+invariant-loop-prices g l = HasLines (flat_map (list_lines l.inst) (take l.prices-index l.lists))
+    (g.D.Desk.shows l.fn.desk) (g.D.Desk.shows l.desk)

@@ -15,8 +15,10 @@ returns-in_err-put_line g c =
     let nodes = c.args.nodes.now in
     let n = c.loop-node.node-index in
     step_stops (map node_line (take n nodes)) (c.line_of_node.result ∷ []) (map node_line (take (n + 1) nodes))
-    (map_step node_line nodes n (Split 0 0) c.loop-node-test.true ∙ ap (λ (l : CertificateLine). map node_line (take n nodes) ++ l ∷ []) (sym c.line_of_node.ensures))
-    c.from_residual.result (search rules) (map node_line (drop (n + 1) nodes)) (map node_line nodes) (map_rest node_line nodes n (Split 0 0) c.loop-node-test.true)
+    (map_step node_line nodes n (Split 0 0) c.loop-node-test.true
+    ∙ ap (λ (l : CertificateLine). map node_line (take n nodes) ++ l ∷ []) (sym c.line_of_node.ensures))
+    c.from_residual.result (search rules) (map node_line (drop (n + 1) nodes)) (map node_line nodes)
+    (map_rest node_line nodes n (Split 0 0) c.loop-node-test.true)
     c.loop-node.invariant c.in_err-put_line.ensures
 
 pub loop-node-preserved : goal.loop-node-preserved
@@ -24,5 +26,6 @@ loop-node-preserved g c =
     let nodes = c.args.nodes.now in
     let n = c.loop-node.node-index in
     step_on (map node_line (take n nodes)) (c.line_of_node.result ∷ []) (map node_line (take (n + 1) nodes))
-    (map_step node_line nodes n (Split 0 0) c.loop-node-test.true ∙ ap (λ (l : CertificateLine). map node_line (take n nodes) ++ l ∷ []) (sym c.line_of_node.ensures))
+    (map_step node_line nodes n (Split 0 0) c.loop-node-test.true
+    ∙ ap (λ (l : CertificateLine). map node_line (take n nodes) ++ l ∷ []) (sym c.line_of_node.ensures))
     c.loop-node.invariant c.in_ok-put_line.ensures

@@ -23,29 +23,43 @@ pub unreachable-requires : goal.unreachable-requires
 unreachable-requires c =
     let n = c.as_bytes.ensures.number in
     let f : parts_of c.args.num.now ≡ Some n.0 = parts_found n.1 in
-    let e : None ≡ parts_of c.as_bytes.result.now = sym (ap (option_map parts_view) c.in_default.is) ∙ c.parts_of.ensures in
+    let e : None ≡ parts_of c.as_bytes.result.now =
+    sym (ap (option_map parts_view) c.in_default.is) ∙ c.parts_of.ensures in
     let g : parts_of c.as_bytes.result.now ≡ parts_of c.args.num.now = ap parts_of c.as_bytes.ensures.same in
     cc
 
 pub rounded-requires : goal.rounded-requires
-rounded-requires c = has_digits (parts_sound c.as_bytes.result.now (parts_view c.in-Some.parts) (sym c.parts_of.ensures ∙ ap (option_map parts_view) c.in-Some.is))
+rounded-requires c = has_digits (parts_sound c.as_bytes.result.now (parts_view c.in-Some.parts)
+    (sym c.parts_of.ensures ∙ ap (option_map parts_view) c.in-Some.is))
 
 pub counted-requires : goal.counted-requires
 counted-requires c = small c.rounded.result.size c.rounded.ensures.c c.rounded.ensures.size_is
 
 -- what the code counted is what the function says
-same_count : {o : Option Rust.Parts} {p : Rust.Parts} {token bytes : List ℕ} {size : Option ℕ} {differs : Bool} → option_map parts_view o ≡ parts_of bytes → o ≡ Some p → bytes ≡ token → Rounds (numerator (parts_view p) 12) (denominator (parts_view p)) size differs → counted_size (parts_view p).negative size differs ≡ fixed token
+same_count : {o : Option Rust.Parts} {p : Rust.Parts} {token bytes : List ℕ} {size : Option ℕ} {differs : Bool}
+    → option_map parts_view o ≡ parts_of bytes → o ≡ Some p → bytes ≡ token
+    → Rounds (numerator (parts_view p) 12) (denominator (parts_view p)) size differs
+    → counted_size (parts_view p).negative size differs ≡ fixed token
 unfolding fixed
-same_count {p = p} {size = size} {differs} e i s r = counted_is (parts_view p) size differs r ∙ ap fixed_parts (sym (ap (option_map parts_view) i) ∙ e ∙ ap parts_of s)
+same_count {p = p} {size = size} {differs} e i s r =
+    counted_is (parts_view p) size differs r ∙ ap fixed_parts (sym (ap (option_map parts_view) i) ∙ e ∙ ap parts_of s)
 
 pub returns-clause-function : goal.returns-clause-function
-returns-clause-function c = turned _ (fixed c.args.num.now) c.counted.result c.counted.ensures (same_count c.parts_of.ensures c.in-Some.is c.as_bytes.ensures.same c.rounded.ensures)
+returns-clause-function c = turned _ (fixed c.args.num.now) c.counted.result c.counted.ensures
+    (same_count c.parts_of.ensures c.in-Some.is c.as_bytes.ensures.same c.rounded.ensures)
 
 pub returns-clause-nearest : goal.returns-clause-nearest
-returns-clause-nearest c = if_ok _ _ c.counted.result c.counted.ensures (λ r e. fixed_sound c.args.num.now r.0 r.1 (sym (same_count c.parts_of.ensures c.in-Some.is c.as_bytes.ensures.same c.rounded.ensures) ∙ e))
+returns-clause-nearest c = if_ok _ _ c.counted.result c.counted.ensures
+    (λ r e. fixed_sound c.args.num.now r.0 r.1
+    (sym (same_count c.parts_of.ensures c.in-Some.is c.as_bytes.ensures.same c.rounded.ensures) ∙ e))
 
 pub returns-clause-no_other : goal.returns-clause-no_other
-returns-clause-no_other c = if_ok _ _ c.counted.result c.counted.ensures (λ r e count differs h. one_count h (fixed_sound c.args.num.now r.0 r.1 (sym (same_count c.parts_of.ensures c.in-Some.is c.as_bytes.ensures.same c.rounded.ensures) ∙ e)))
+returns-clause-no_other c = if_ok _ _ c.counted.result c.counted.ensures
+    (λ r e count differs h. one_count h
+    (fixed_sound c.args.num.now r.0 r.1
+    (sym (same_count c.parts_of.ensures c.in-Some.is c.as_bytes.ensures.same c.rounded.ensures) ∙ e)))
 
 pub returns-clause-too_large : goal.returns-clause-too_large
-returns-clause-too_large c = on_err _ _ c.counted.result c.counted.ensures (λ e. fixed_none c.args.num.now (number c.as_bytes.ensures.same c.as_bytes.ensures.number) (sym (same_count c.parts_of.ensures c.in-Some.is c.as_bytes.ensures.same c.rounded.ensures) ∙ e))
+returns-clause-too_large c = on_err _ _ c.counted.result c.counted.ensures
+    (λ e. fixed_none c.args.num.now (number c.as_bytes.ensures.same c.as_bytes.ensures.number)
+    (sym (same_count c.parts_of.ensures c.in-Some.is c.as_bytes.ensures.same c.rounded.ensures) ∙ e))

@@ -16,19 +16,24 @@ text_seen : (node : Rust.Node) (text : List ℕ) → node ≡ block.Text text �
 text_seen node text e = ap node_view e ∙ search (rules, the_lemmas)
 
 pub returns-in-Num-clause-function : goal.returns-in-Num-clause-function
-returns-in-Num-clause-function c = c.whole_of_number.ensures.function ∙ sym (ap whole (num_seen c.args.node.now c.in-Num.num c.in-Num.is))
+returns-in-Num-clause-function c =
+    c.whole_of_number.ensures.function ∙ sym (ap whole (num_seen c.args.node.now c.in-Num.num c.in-Num.is))
 
 pub returns-in-Text-clause-function : goal.returns-in-Text-clause-function
-returns-in-Text-clause-function c = c.whole_of_text.ensures.function ∙ ap (λ t. whole (Node.text t)) c.as_str.ensures.same ∙ sym (ap whole (text_seen c.args.node.now c.in-Text.text c.in-Text.is))
+returns-in-Text-clause-function c = c.whole_of_text.ensures.function
+    ∙ ap (λ t. whole (Node.text t)) c.as_str.ensures.same
+    ∙ sym (ap whole (text_seen c.args.node.now c.in-Text.text c.in-Text.is))
 
 pub returns-in-Num-clause-whole : goal.returns-in-Num-clause-whole
-returns-in-Num-clause-whole c = if_some (IsWholeOf (node_view c.args.node.now)) _ _ (returns-in-Num-clause-function c) (whole_sound (node_view c.args.node.now))
+returns-in-Num-clause-whole c = if_some (IsWholeOf (node_view c.args.node.now)) _ _ (returns-in-Num-clause-function c)
+    (whole_sound (node_view c.args.node.now))
 
 pub returns-in-Num-clause-no_other : goal.returns-in-Num-clause-no_other
 returns-in-Num-clause-no_other c n h = returns-in-Num-clause-function c ∙ whole_found (node_view c.args.node.now) n h
 
 pub returns-in-Text-clause-whole : goal.returns-in-Text-clause-whole
-returns-in-Text-clause-whole c = if_some (IsWholeOf (node_view c.args.node.now)) _ _ (returns-in-Text-clause-function c) (whole_sound (node_view c.args.node.now))
+returns-in-Text-clause-whole c = if_some (IsWholeOf (node_view c.args.node.now)) _ _ (returns-in-Text-clause-function c)
+    (whole_sound (node_view c.args.node.now))
 
 pub returns-in-Text-clause-no_other : goal.returns-in-Text-clause-no_other
 returns-in-Text-clause-no_other c n h = returns-in-Text-clause-function c ∙ whole_found (node_view c.args.node.now) n h
@@ -53,10 +58,13 @@ pub returns-in-Null-clause-function : goal.returns-in-Null-clause-function
 returns-in-Null-clause-function c = none_null ∙ sym (ap whole (ap node_view c.in-Null.is ∙ search (rules, the_lemmas)))
 
 pub returns-in-Bool-clause-function : goal.returns-in-Bool-clause-function
-returns-in-Bool-clause-function c = none_bool c.in-Bool.field-0 ∙ sym (ap whole (ap node_view c.in-Bool.is ∙ search (rules, the_lemmas)))
+returns-in-Bool-clause-function c =
+    none_bool c.in-Bool.field-0 ∙ sym (ap whole (ap node_view c.in-Bool.is ∙ search (rules, the_lemmas)))
 
 pub returns-in-List-clause-function : goal.returns-in-List-clause-function
-returns-in-List-clause-function c = none_list (trees_view c.in-List.field-0.items) ∙ sym (ap whole (ap node_view c.in-List.is ∙ search (rules, the_lemmas)))
+returns-in-List-clause-function c = none_list (trees_view c.in-List.field-0.items)
+    ∙ sym (ap whole (ap node_view c.in-List.is ∙ search (rules, the_lemmas)))
 
 pub returns-in-Object-clause-function : goal.returns-in-Object-clause-function
-returns-in-Object-clause-function c = none_object (members_view c.in-Object.field-0.items) ∙ sym (ap whole (ap node_view c.in-Object.is ∙ search (rules, the_lemmas)))
+returns-in-Object-clause-function c = none_object (members_view c.in-Object.field-0.items)
+    ∙ sym (ap whole (ap node_view c.in-Object.is ∙ search (rules, the_lemmas)))

@@ -10,7 +10,8 @@ unfolding whole
 returns-clause-function c = c.exact_value.ensures ∙ ap (exactly 0 999_999_999) c.as_bytes.ensures.value
 
 pub returns-clause-whole : goal.returns-clause-whole
-returns-clause-whole c = if_some (IsWholeOf (Node.text c.args.text.now)) _ _ (returns-clause-function c) (whole_sound (Node.text c.args.text.now))
+returns-clause-whole c = if_some (IsWholeOf (Node.text c.args.text.now)) _ _ (returns-clause-function c)
+    (whole_sound (Node.text c.args.text.now))
 
 pub returns-clause-no_other : goal.returns-clause-no_other
 returns-clause-no_other c n h = returns-clause-function c ∙ whole_found (Node.text c.args.text.now) n h

@@ -11,20 +11,24 @@ digit : (ds : List ℕ) (i : ℕ) → AreAllDigits ds → i < length ds → IsDi
 digit ds i h l = subst IsDigit (get_or_default ds i 48 0 l) (h i l)
 
 -- the room behind the next digit
-room : (v i : ℕ) (ds : List ℕ) → AreAllDigits ds → i < length ds → (v + 1) * 10 ^ (length ds - i) ≤ 2 ^ 64 → (v * 10 + (get_or ds i 0 - 48) + 1) * 10 ^ (length ds - (i + 1)) ≤ 2 ^ 64
+room : (v i : ℕ) (ds : List ℕ) → AreAllDigits ds → i < length ds → (v + 1) * 10 ^ (length ds - i) ≤ 2 ^ 64
+    → (v * 10 + (get_or ds i 0 - 48) + 1) * 10 ^ (length ds - (i + 1)) ≤ 2 ^ 64
 room v i ds h l r =
     let d = digit ds i h l in
     let low = d.low in
     let high = d.high in
     let e : length ds - i - 1 ≡ length ds - (i + 1) = omega arith in
-    subst (λ z. (v * 10 + (get_or ds i 0 - 48) + 1) * 10 ^ z ≤ 2 ^ 64) e (room_more v (get_or ds i 0 - 48) (length ds - i) (omega arith) (omega arith) r)
+    subst (λ z. (v * 10 + (get_or ds i 0 - 48) + 1) * 10 ^ z ≤ 2 ^ 64) e
+    (room_more v (get_or ds i 0 - 48) (length ds - i) (omega arith) (omega arith) r)
 
-fits : (v i : ℕ) (ds : List ℕ) → AreAllDigits ds → i < length ds → (v + 1) * 10 ^ (length ds - i) ≤ 2 ^ 64 → v * 10 + (get_or ds i 0 - 48) < 2 ^ 64
+fits : (v i : ℕ) (ds : List ℕ) → AreAllDigits ds → i < length ds → (v + 1) * 10 ^ (length ds - i) ≤ 2 ^ 64
+    → v * 10 + (get_or ds i 0 - 48) < 2 ^ 64
 fits v i ds h l r = room_fits (v * 10 + (get_or ds i 0 - 48)) (length ds - (i + 1)) (room v i ds h l r)
 
 pub overflow_mul-value : goal.overflow_mul-value
 overflow_mul-value c =
-    let f = fits c.loop-digit.value c.loop-digit.digit-index c.args.digits.now c.requires.digits c.loop-digit-test.true c.loop-digit.invariant.room in
+    let f = fits c.loop-digit.value c.loop-digit.digit-index c.args.digits.now c.requires.digits c.loop-digit-test.true
+    c.loop-digit.invariant.room in
     omega arith
 
 pub overflow_sub-value : goal.overflow_sub-value
@@ -32,11 +36,14 @@ overflow_sub-value c = (digit c.args.digits.now c.loop-digit.digit-index c.requi
 
 pub overflow_add-value : goal.overflow_add-value
 overflow_add-value c =
-    let f = fits c.loop-digit.value c.loop-digit.digit-index c.args.digits.now c.requires.digits c.loop-digit-test.true c.loop-digit.invariant.room in
+    let f = fits c.loop-digit.value c.loop-digit.digit-index c.args.digits.now c.requires.digits c.loop-digit-test.true
+    c.loop-digit.invariant.room in
     omega arith
 
 pub loop-digit-preserved : goal.loop-digit-preserved
 loop-digit-preserved c = record {
-  same = sym (one_digit c.loop-digit.value c.loop-digit.digit-index c.args.digits.now c.loop-digit-test.true) ∙ c.loop-digit.invariant.same;
-  room = room c.loop-digit.value c.loop-digit.digit-index c.args.digits.now c.requires.digits c.loop-digit-test.true c.loop-digit.invariant.room;
+  same = sym (one_digit c.loop-digit.value c.loop-digit.digit-index c.args.digits.now c.loop-digit-test.true)
+      ∙ c.loop-digit.invariant.same;
+  room = room c.loop-digit.value c.loop-digit.digit-index c.args.digits.now c.requires.digits c.loop-digit-test.true
+      c.loop-digit.invariant.room;
 }

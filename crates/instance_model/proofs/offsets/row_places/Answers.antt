@@ -12,8 +12,12 @@ loop-k-init c =
 
 pub loop-k-preserved : goal.loop-k-preserved
 loop-k-preserved c =
-    let e = entries_before_more (tables_of c.args.parts.now) (column_at c.args.before.now) c.args.i c.loop-k.k in
-    (rw (e, ← c.entries_in-at.ensures.value, c.loop-k.invariant.0) refl, omega arith, grind (arith, common_steps), λ j h. grind (arith, common_steps, c.loop-k.invariant.3 j, c.loop-k.invariant.0))
+    let e = entries_before_more (tables_of c.args.parts.now) (column_at c.args.before.now) c.args.i c.loop-k.k in (
+      rw (e, ← c.entries_in-at.ensures.value, c.loop-k.invariant.0) refl,
+      omega arith,
+      grind (arith, common_steps),
+      λ j h. grind (arith, common_steps, c.loop-k.invariant.3 j, c.loop-k.invariant.0),
+    )
 
 pub returns-clause-next : goal.returns-clause-next
 returns-clause-next c =

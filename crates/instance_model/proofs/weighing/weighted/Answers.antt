@@ -6,7 +6,12 @@ use Rattle.fixed_num.proofs.SumLemmas.{abs-sum}
 use Rattle.instance_model.proofs.weighing.weighted.Goals as goal
 
 -- what the code computes, and how large it can be
-weighed : (a : ℕ) (s e : ℤ) → a ≤ 1_000_000 → unsigned_abs s ≤ 104_857_600_000_000_000_000_000_000 → unsigned_abs e ≤ 209_715_200_000_000_000_000_000_000 → (to_z w128 (of_z w128 (to_z w128 (of_z w128 (to_z w128 a *ℤ to_z w128 (of_z w128 s))) +ℤ to_z w128 (of_z w128 (to_z w128 (1_000_000 - a) *ℤ to_z w128 (of_z w128 e))))) ≡ pos a *ℤ s +ℤ pos (1_000_000 - a) *ℤ e) × (unsigned_abs (pos a *ℤ s +ℤ pos (1_000_000 - a) *ℤ e) ≤ 314_572_800_000_000_000_000_000_000_000_000)
+weighed : (a : ℕ) (s e : ℤ) → a ≤ 1_000_000 → unsigned_abs s ≤ 104_857_600_000_000_000_000_000_000
+    → unsigned_abs e ≤ 209_715_200_000_000_000_000_000_000
+    → (to_z w128 (of_z w128
+    (to_z w128 (of_z w128 (to_z w128 a *ℤ to_z w128 (of_z w128 s)))
+    +ℤ to_z w128 (of_z w128 (to_z w128 (1_000_000 - a) *ℤ to_z w128 (of_z w128 e))))) ≡ pos a *ℤ s +ℤ pos (1_000_000
+    - a) *ℤ e) × (unsigned_abs (pos a *ℤ s +ℤ pos (1_000_000 - a) *ℤ e) ≤ 314_572_800_000_000_000_000_000_000_000_000)
 weighed a s e h k l =
     let bs = back_from_abs s (omega (arith, k)) in
     let be = back_from_abs e (omega (arith, l)) in
@@ -21,7 +26,8 @@ weighed a s e h k l =
     (rw (ba, bb, bs, be, bp, bq) bt, omega (arith, p, q, t))
 
 pub returns-clause-value : goal.returns-clause-value
-returns-clause-value c = (weighed c.args.alpha c.args.total c.args.excess c.requires.alpha c.requires.total c.requires.excess).0
+returns-clause-value c =
+    (weighed c.args.alpha c.args.total c.args.excess c.requires.alpha c.requires.total c.requires.excess).0
 
 pub returns-clause-small : goal.returns-clause-small
 returns-clause-small c =

@@ -7,7 +7,8 @@ use Rattle.instance_plain.proofs.keys.has_clear_texts.Goals as goal
 
 pub returns-then-not-branch : goal.returns-then-not-branch
 returns-then-not-branch c =
-    bad_key c.args.limits.now c.args.spot (texts_of c.loop-member.seen.keys) c.args.members.now c.loop-member.member-index c.member-item.result (string_bytes c.in_ok-key.key) (omega arith) c.member-item.is
+    bad_key c.args.limits.now c.args.spot (texts_of c.loop-member.seen.keys) c.args.members.now
+    c.loop-member.member-index c.member-item.result (string_bytes c.in_ok-key.key) (omega arith) c.member-item.is
     (c.in_ok-key.ensures.ok ∙ c.as_str.ensures.same) c.loop-member.invariant.keys
     (λ at. told_false _ _ c.if-not-branch.true (c.in_ok-take_text.ensures.clear at))
 
@@ -16,10 +17,15 @@ loop-member-init c = record { keys = ap texts_of c.new-seen.ensures.empty; clear
 
 pub loop-member-preserved : goal.loop-member-preserved
 loop-member-preserved c =
-    good_key c.args.limits.now c.args.spot (texts_of c.loop-member.seen.keys) _ c.args.members.now c.loop-member.member-index c.member-item.result (string_bytes c.in_ok-key.key) (omega arith) c.member-item.is
+    good_key c.args.limits.now c.args.spot (texts_of c.loop-member.seen.keys) _ c.args.members.now
+    c.loop-member.member-index c.member-item.result (string_bytes c.in_ok-key.key) (omega arith) c.member-item.is
     (c.in_ok-key.ensures.ok ∙ c.as_str.ensures.same) c.loop-member.invariant
-    (λ at. told_true _ _ c.if-not-branch.false (c.in_ok-take_text.ensures.clear at)) (c.in_ok-take_text.ensures.added c.if-not-branch.false)
+    (λ at. told_true _ _ c.if-not-branch.false (c.in_ok-take_text.ensures.clear at))
+    (c.in_ok-take_text.ensures.added c.if-not-branch.false)
 
 pub returns : goal.returns
-returns c = end_told c.args.limits.now c.args.spot (texts_of c.loop-member.seen.keys) c.args.members.now c.missing_key.result c.is_none.result
-    (all_clear c.args.limits.now c.args.spot (texts_of c.loop-member.seen.keys) c.args.members.now c.loop-member.member-index (omega arith) c.loop-member.invariant) c.missing_key.ensures (none_of c.missing_key.result c.is_none.result c.is_none.ensures)
+returns c = end_told c.args.limits.now c.args.spot (texts_of c.loop-member.seen.keys) c.args.members.now
+    c.missing_key.result c.is_none.result
+    (all_clear c.args.limits.now c.args.spot (texts_of c.loop-member.seen.keys) c.args.members.now
+    c.loop-member.member-index (omega arith) c.loop-member.invariant) c.missing_key.ensures
+    (none_of c.missing_key.result c.is_none.result c.is_none.ensures)

@@ -4,4 +4,5 @@ use Rattle.instance_plain.proofs.Lookings.{elements-list}
 use Rattle.instance_plain.proofs.look_up.elements.Goals as goal
 
 pub returns-in-List : goal.returns-in-List
-returns-in-List c = ap (map tree_view) c.as_slice.ensures.value ∙ elements-list c.args.tree.now c.in-List.items c.in-List.is
+returns-in-List c =
+    ap (map tree_view) c.as_slice.ensures.value ∙ elements-list c.args.tree.now c.in-List.items c.in-List.is

@@ -4,4 +4,5 @@ use Rattle.instance_plain.proofs.Lookings.{entries-object}
 use Rattle.instance_plain.proofs.look_up.entries.Goals as goal
 
 pub returns-in-Object : goal.returns-in-Object
-returns-in-Object c = ap entries_view c.as_slice.ensures.value ∙ entries-object c.args.tree.now c.in-Object.members c.in-Object.is
+returns-in-Object c =
+    ap entries_view c.as_slice.ensures.value ∙ entries-object c.args.tree.now c.in-Object.members c.in-Object.is

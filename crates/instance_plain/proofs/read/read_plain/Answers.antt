@@ -26,19 +26,30 @@ reduced_survey-requires c =
 pub from_parts-requires : goal.from_parts-requires
 from_parts-requires c =
     let root = tree_view c.in-Ok.tree in
-    let known : (IsShaped standard_limits root) × (IsReduced root) × (c.in-Some.survey.rounded ≡ rounded (placed spot.Root root)) =
-    subst (λ (o : Option Survey). IfSome o (λ s. (IsShaped standard_limits root) × (IsReduced root) × (s.rounded ≡ rounded (placed spot.Root root)))) c.in-Some.is c.in_ok-survey.ensures.some in
-    let none : cross_fault root ≡ None = subst (λ (o : Option Parts). TellsNone (cross_fault root) (is_some o)) c.in-Some-2.is c.in_ok-parts.ensures.sound in
-    let same : tables_of c.in-Some-2.parts ≡ tables (pos 0) root = subst (λ (o : Option Parts). IfSome o (λ p. tables_of p ≡ tables (pos 0) root)) c.in-Some-2.is c.in_ok-parts.ensures.tables in
-    subst (λ (t : Tables). IsFitting t) (sym same) (fits standard_limits (pos 0) root standard_is no_slack (shaped_so standard_limits root known.0) none)
+    let known : (IsShaped standard_limits root) × (IsReduced root)
+    × (c.in-Some.survey.rounded ≡ rounded (placed spot.Root root)) =
+    subst (λ (o : Option Survey). IfSome o (λ s. (IsShaped standard_limits root) × (IsReduced root)
+    × (s.rounded ≡ rounded (placed spot.Root root)))) c.in-Some.is c.in_ok-survey.ensures.some in
+    let none : cross_fault root ≡ None = subst (λ (o : Option Parts). TellsNone (cross_fault root) (is_some o))
+    c.in-Some-2.is c.in_ok-parts.ensures.sound in
+    let same : tables_of c.in-Some-2.parts ≡ tables (pos 0) root = subst
+    (λ (o : Option Parts). IfSome o (λ p. tables_of p ≡ tables (pos 0) root)) c.in-Some-2.is
+    c.in_ok-parts.ensures.tables in
+    subst (λ (t : Tables). IsFitting t) (sym same)
+    (fits standard_limits (pos 0) root standard_is no_slack (shaped_so standard_limits root known.0) none)
 
 pub returns-clause-built : goal.returns-clause-built
 returns-clause-built c =
     let root = tree_view c.in-Ok.tree in
-    let known : (IsShaped standard_limits root) × (IsReduced root) × (c.in-Some.survey.rounded ≡ rounded (placed spot.Root root)) =
-    subst (λ (o : Option Survey). IfSome o (λ s. (IsShaped standard_limits root) × (IsReduced root) × (s.rounded ≡ rounded (placed spot.Root root)))) c.in-Some.is c.in_ok-survey.ensures.some in
-    let none : cross_fault root ≡ None = subst (λ (o : Option Parts). TellsNone (cross_fault root) (is_some o)) c.in-Some-2.is c.in_ok-parts.ensures.sound in
-    let same : tables_of c.in-Some-2.parts ≡ tables (pos 0) root = subst (λ (o : Option Parts). IfSome o (λ p. tables_of p ≡ tables (pos 0) root)) c.in-Some-2.is c.in_ok-parts.ensures.tables in
+    let known : (IsShaped standard_limits root) × (IsReduced root)
+    × (c.in-Some.survey.rounded ≡ rounded (placed spot.Root root)) =
+    subst (λ (o : Option Survey). IfSome o (λ s. (IsShaped standard_limits root) × (IsReduced root)
+    × (s.rounded ≡ rounded (placed spot.Root root)))) c.in-Some.is c.in_ok-survey.ensures.some in
+    let none : cross_fault root ≡ None = subst (λ (o : Option Parts). TellsNone (cross_fault root) (is_some o))
+    c.in-Some-2.is c.in_ok-parts.ensures.sound in
+    let same : tables_of c.in-Some-2.parts ≡ tables (pos 0) root = subst
+    (λ (o : Option Parts). IfSome o (λ p. tables_of p ≡ tables (pos 0) root)) c.in-Some-2.is
+    c.in_ok-parts.ensures.tables in
     record {
       root = root;
       text = record { text = c.in-Ok.ensures.tree; shallow = c.in-Ok.ensures.shallow };
@@ -50,9 +61,12 @@ returns-clause-built c =
 pub returns-clause-reduced : goal.returns-clause-reduced
 returns-clause-reduced c =
     let root = tree_view c.in-Ok.tree in
-    let known : (IsShaped standard_limits root) × (IsReduced root) × (c.in-Some.survey.rounded ≡ rounded (placed spot.Root root)) =
-    subst (λ (o : Option Survey). IfSome o (λ s. (IsShaped standard_limits root) × (IsReduced root) × (s.rounded ≡ rounded (placed spot.Root root)))) c.in-Some.is c.in_ok-survey.ensures.some in
-    let none : cross_fault root ≡ None = subst (λ (o : Option Parts). TellsNone (cross_fault root) (is_some o)) c.in-Some-2.is c.in_ok-parts.ensures.sound in (
+    let known : (IsShaped standard_limits root) × (IsReduced root)
+    × (c.in-Some.survey.rounded ≡ rounded (placed spot.Root root)) =
+    subst (λ (o : Option Survey). IfSome o (λ s. (IsShaped standard_limits root) × (IsReduced root)
+    × (s.rounded ≡ rounded (placed spot.Root root)))) c.in-Some.is c.in_ok-survey.ensures.some in
+    let none : cross_fault root ≡ None = subst (λ (o : Option Parts). TellsNone (cross_fault root)
+    (is_some o)) c.in-Some-2.is c.in_ok-parts.ensures.sound in (
       root,
       record {
         text = record { text = c.in-Ok.ensures.tree; shallow = c.in-Ok.ensures.shallow };

@@ -10,25 +10,35 @@ use Rattle.instance_read.proofs.build.build.Goals as goal
 use Rattle.instance_read.proofs.build.build.Goals.{After-take_rows}
 
 -- without a fault of shape
-shaped : (c : After-take_rows) (limits : Limits) (bytes : List ℕ) (h : HaveEnded limits c.args.walk.now c.args.keeper.now bytes) → shape_faults limits h.root ≡ []
-shaped c limits bytes h = (c.fault.ensures.none limits h.root (events_ascend bytes h.root h.text.text) h.taken.stands).0 c.in-None.is
+shaped : (c : After-take_rows) (limits : Limits) (bytes : List ℕ) (h : HaveEnded limits c.args.walk.now
+    c.args.keeper.now bytes) → shape_faults limits h.root ≡ []
+shaped c limits bytes h =
+    (c.fault.ensures.none limits h.root (events_ascend bytes h.root h.text.text) h.taken.stands).0 c.in-None.is
 
-rows : (c : After-take_rows) (limits : Limits) (bytes : List ℕ) (h : HaveEnded limits c.args.walk.now c.args.keeper.now bytes) → AreStandard limits → AreRowsOf limits h.root c.take_rows.result
+rows : (c : After-take_rows) (limits : Limits) (bytes : List ℕ) (h : HaveEnded limits c.args.walk.now c.args.keeper.now
+    bytes) → AreStandard limits → AreRowsOf limits h.root c.take_rows.result
 rows c limits bytes h s =
     let none : c.args.walk.now.fault ≡ None = sym c.fault.ensures.same ∙ c.in-None.is in
-    rows_are limits bytes c.args.walk.now c.args.keeper.now c.take_rows.result h s none (shaped c limits bytes h) c.take_rows.ensures
+    rows_are limits bytes c.args.walk.now c.args.keeper.now c.take_rows.result h s none
+    (shaped c limits bytes h) c.take_rows.ensures
 
 pub assemble-requires-clause-rows : goal.assemble-requires-clause-rows
 assemble-requires-clause-rows c =
-    let h = c.requires.ended in
-    (h.limits, (h.ended.root, rows (goal.at.assemble-requires-clause-rows c).After-take_rows h.limits h.bytes h.ended h.standard))
+    let h = c.requires.ended in (
+      h.limits,
+      (
+        h.ended.root,
+        rows (goal.at.assemble-requires-clause-rows c).After-take_rows h.limits h.bytes h.ended h.standard,
+      ),
+    )
 
 pub returns-in-Some-clause-fault : goal.returns-in-Some-clause-fault
 returns-in-Some-clause-fault c = λ limits bytes s h.
     rw c.of_shape.ensures (record {
       root = h.root;
       text = h.text;
-      least = (c.fault.ensures.least limits h.root (events_ascend bytes h.root h.text.text) h.taken.stands c.in-Some.fault).0 c.in-Some.is;
+      least = (c.fault.ensures.least limits h.root (events_ascend bytes h.root h.text.text) h.taken.stands
+          c.in-Some.fault).0 c.in-Some.is;
     })
 
 pub returns-in-Ok-clause-built : goal.returns-in-Ok-clause-built
@@ -45,4 +55,5 @@ returns-in-Ok-clause-built c = λ limits bytes s h.
 pub returns-in-Err-clause-fault : goal.returns-in-Err-clause-fault
 returns-in-Err-clause-fault c = λ limits bytes s h.
     let before = (goal.at.returns-in-Err-clause-fault c).After-take_rows in
-    rw c.of_rows.ensures (tells_across limits bytes h.root c.in-Err.fault h.text (shaped before limits bytes h) (c.in-Err.ensures.told limits h.root (rows before limits bytes h s)))
+    rw c.of_rows.ensures (tells_across limits bytes h.root c.in-Err.fault h.text (shaped before limits bytes h)
+    (c.in-Err.ensures.told limits h.root (rows before limits bytes h s)))

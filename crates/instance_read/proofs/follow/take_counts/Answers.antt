@@ -7,7 +7,8 @@ returns-then-not-take_count-clause-follows c = λ limits bytes h.
     let n = c.in-Some-next_counted.number in
     let e = c.in-Some-next_counted.ensures in
     let walk = c.take_count-in-counts in
-    follow_count limits c.counts.pull c.next_counted.new.self c.counts.walk walk.new.self c.counts.keeper c.take_count.new.self bytes n.at n.count c.in-Some.spot c.counts.invariant.awaits.no_fault
+    follow_count limits c.counts.pull c.next_counted.new.self c.counts.walk walk.new.self c.counts.keeper
+    c.take_count.new.self bytes n.at n.count c.in-Some.spot c.counts.invariant.awaits.no_fault
     (λ given s. e.stands bytes given s refl)
     (λ given s. e.number bytes given s)
     (λ es token f s. walk.ensures.stands limits es token n.count f s)
@@ -24,7 +25,8 @@ counts-preserved c =
       unfinished = e.unfinished;
       awaits = walk.ensures.awaits (search rules);
       follows = λ limits bytes h.
-          follow_count limits c.counts.pull c.next_counted.new.self c.counts.walk walk.new.self c.counts.keeper c.take_count.new.self bytes n.at n.count c.in-Some.spot c.counts.invariant.awaits.no_fault
+          follow_count limits c.counts.pull c.next_counted.new.self c.counts.walk walk.new.self c.counts.keeper
+          c.take_count.new.self bytes n.at n.count c.in-Some.spot c.counts.invariant.awaits.no_fault
           (λ given s. e.stands bytes given s refl)
           (λ given s. e.number bytes given s)
           (λ es token f s. walk.ensures.stands limits es token n.count f s)

@@ -10,5 +10,7 @@ returns c = λ limits es h.
     let new = c.take.new.self in
     let none : old.fault ≡ None = none_before old new c.take.ensures.keeps (search rules) in
     on_ok_weaker c.take-2.result (λ k.
-    taken_more limits old new c.args.keeper.now c.take-2.new.self es (event_view c.args.event) c.in_ok-taken.taken.spot h
-    (c.in_ok-taken.ensures.stands limits es h.stands) none (c.in_ok-taken.ensures.spot limits es h.stands none) k) c.take-2.ensures
+    taken_more limits old new c.args.keeper.now c.take-2.new.self es (event_view c.args.event)
+    c.in_ok-taken.taken.spot h
+    (c.in_ok-taken.ensures.stands limits es h.stands) none (c.in_ok-taken.ensures.spot limits es h.stands none) k)
+    c.take-2.ensures

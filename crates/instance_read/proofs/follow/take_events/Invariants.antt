@@ -7,5 +7,6 @@ use Rattle.instance_read.proofs.follow.take_events.Given as goal
 abbrev pub invariant-events : goal.invariant-events
 invariant-events l = record {
   unfinished : IsUnfinished l.pull;
-  follows : (limits : Limits) (bytes : List ℕ) → IsFollowing limits l.initial.pull l.initial.walk l.initial.keeper bytes → IsFollowing limits l.pull l.walk l.keeper bytes;
+  follows : (limits : Limits) (bytes : List ℕ) → IsFollowing limits l.initial.pull l.initial.walk l.initial.keeper bytes
+      → IsFollowing limits l.pull l.walk l.keeper bytes;
 }

@@ -9,9 +9,11 @@ pieces-preserved c =
     let fed = c.pieces.fed in
     let m = c.min.result in
     let same : (fed + m) - fed ≡ m = omega arith in
-    let joined : take fed bytes ++ take ((fed + m) - fed) (drop fed bytes) ≡ take (fed + m) bytes = ap (λ n. take fed bytes ++ take n (drop fed bytes)) same ∙ sym (take-plus fed m bytes) in
+    let joined : take fed bytes ++ take ((fed + m) - fed) (drop fed bytes) ≡ take (fed + m) bytes =
+    ap (λ n. take fed bytes ++ take n (drop fed bytes)) same ∙ sym (take-plus fed m bytes) in
     record {
       within = search rules;
       unfinished = c.feed.ensures.unfinished;
-      read = λ limits h. subst (λ (z : List ℕ). HasRead limits c.feed.new.self z) joined (c.in_ok-feed.ensures.read limits (take fed bytes) (c.pieces.invariant.read limits h));
+      read = λ limits h. subst (λ (z : List ℕ). HasRead limits c.feed.new.self z) joined
+          (c.in_ok-feed.ensures.read limits (take fed bytes) (c.pieces.invariant.read limits h));
     }

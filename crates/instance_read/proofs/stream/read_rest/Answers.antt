@@ -12,7 +12,9 @@ returns-in-Err-clause-fault g c = λ sizes s h fault e.
     let same : c.of_bytes.result ≡ stream.Text fault = cc in
     let q = is_text c.in-Err.fault c.of_bytes.result fault c.of_bytes.ensures same in
     rest_such _ _ _ _ c.in-Ok.ensures.read (λ bytes read.
-    some_told (fault_of fault) (HasFileFault sizes bytes) q.1 (subst (λ (f : InstanceFault). IfSome (fault_of f) (HasFileFault sizes bytes)) (sym q.0) (c.in-Err.ensures.fault sizes bytes s (read sizes h))))
+    some_told (fault_of fault) (HasFileFault sizes bytes) q.1
+    (subst (λ (f : InstanceFault). IfSome (fault_of f) (HasFileFault sizes bytes)) (sym q.0)
+    (c.in-Err.ensures.fault sizes bytes s (read sizes h))))
 
 pub returns-in-Err-clause-too_long : goal.returns-in-Err-clause-too_long
 returns-in-Err-clause-too_long g c = λ e.
@@ -22,4 +24,5 @@ returns-in-Err-clause-too_long g c = λ e.
 pub returns-in-Err-clause-faults : goal.returns-in-Err-clause-faults
 returns-in-Err-clause-faults g c =
     let d = g.D.Desk in
-    counts_told Tables c.in-Err.fault c.of_bytes.result (d.shows c.args.desk.now) (d.shows c.feed_rest.new.desk) _ c.of_bytes.ensures c.in-Ok.ensures.faults
+    counts_told Tables c.in-Err.fault c.of_bytes.result (d.shows c.args.desk.now) (d.shows c.feed_rest.new.desk) _
+    c.of_bytes.ensures c.in-Ok.ensures.faults

@@ -23,10 +23,15 @@ pub returns : goal.returns
 returns c =
     let rows = rows_view c.args.rows in
     same_tables _ (rows_tables c.args.slack rows) refl refl refl refl refl
-    (c.in_ok-upper.ensures ∙ ap (λ bs. flat_map (λ (b : BandRow). map (λ z. z +ℤ c.args.slack) b.most) (map band_view bs)) c.as_slice.ensures.value)
-    (c.in_ok-lower.ensures ∙ ap (λ bs. flat_map (λ (b : BandRow). map (λ z. z -ℤ c.args.slack) b.least) (map band_view bs)) c.as_slice-2.ensures.value)
+    (c.in_ok-upper.ensures ∙ ap (λ bs. flat_map (λ (b : BandRow). map (λ z. z +ℤ c.args.slack) b.most)
+    (map band_view bs)) c.as_slice.ensures.value)
+    (c.in_ok-lower.ensures ∙ ap (λ bs. flat_map (λ (b : BandRow). map (λ z. z -ℤ c.args.slack) b.least)
+    (map band_view bs)) c.as_slice-2.ensures.value)
     refl
-    (c.in_ok-in_season.ensures ∙ ap (λ ss. flat_map (λ ps. lists_below c.args.rows.periods (in_season ps)) (map (λ (s : Vec ℕ Global). s.items) ss)) c.as_slice-3.ensures.value)
+    (c.in_ok-in_season.ensures ∙ ap (λ ss. flat_map (λ ps. lists_below c.args.rows.periods (in_season ps))
+    (map (λ (s : Vec ℕ Global). s.items) ss)) c.as_slice-3.ensures.value)
     refl c.in_ok-filled.ensures.delta refl
-    (c.requires.excluded ∙ sym (map-map (exclusion_of rows) (λ (e : Vec (String Global) Global). map string_bytes e.items) c.args.rows.exclusion_words.items))
+    (c.requires.excluded
+    ∙ sym (map-map (exclusion_of rows) (λ (e : Vec (String Global) Global). map string_bytes e.items)
+    c.args.rows.exclusion_words.items))
     c.in_ok-filled.ensures.loads c.in_ok-filled.ensures.risks c.in_ok-filled.ensures.soft refl

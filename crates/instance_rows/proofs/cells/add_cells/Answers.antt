@@ -1,4 +1,5 @@
-use Rattle.std.proofs.Common.{◌≡◌, ◌++◌, ◌∷◌, [], List, Vec, Global, Bool, cond, true, false, map, take, sym, ◌∙◌, ap, append_assoc, append-nil}
+use Rattle.std.proofs.Common.{◌≡◌, ◌++◌, ◌∷◌, [], List, Vec, Global, Bool, cond, true, false, map, take, sym, ◌∙◌, ap}
+use Rattle.std.proofs.Common.{append_assoc, append-nil}
 use Rattle.instance_model.specs.declared.parts.LoadCell.{LoadCell}
 use Rattle.instance_rows.specs.Cells.{load_cell, kept}
 use Rattle.instance_rows.specs.Views.{load_view}
@@ -18,10 +19,14 @@ loop-load-preserved c =
     let one : List LoadCell = load_cell c.args.resource (load_view x) ∷ [] in
     (elim c.if-is_running.branch [
       | then-is_running+in_ok-push w ↦
-          ap (λ (v : Vec LoadCell Global). v.items) w.cells-is ∙ w.in_ok-push.ensures.items ∙ ap (λ q. q ++ one) c.loop-load.invariant ∙ append_assoc before so_far one
+          ap (λ (v : Vec LoadCell Global). v.items) w.cells-is ∙ w.in_ok-push.ensures.items
+          ∙ ap (λ q. q ++ one) c.loop-load.invariant ∙ append_assoc before so_far one
           ∙ ap (λ q. before ++ (so_far ++ q)) (sym (under true (sym w.if-is_running.ensures) one []))
       | else-is_running w ↦
-          ap (λ (v : Vec LoadCell Global). v.items) w.cells-is ∙ c.loop-load.invariant ∙ ap (λ q. before ++ q) (sym (append-nil so_far))
+          ap (λ (v : Vec LoadCell Global). v.items) w.cells-is ∙ c.loop-load.invariant
+          ∙ ap (λ q. before ++ q) (sym (append-nil so_far))
           ∙ ap (λ q. before ++ (so_far ++ q)) (sym (under false (sym w.if-is_running.ensures) one []))
     ])
-    ∙ ap (λ q. before ++ q) (sym (kept_more c.args.periods c.args.durations.now c.args.resource load_view c.args.loads.now c.loop-load.load-index x c.loop-load-test.true c.load-item.is))
+    ∙ ap (λ q. before ++ q)
+    (sym (kept_more c.args.periods c.args.durations.now c.args.resource load_view c.args.loads.now
+    c.loop-load.load-index x c.loop-load-test.true c.load-item.is))

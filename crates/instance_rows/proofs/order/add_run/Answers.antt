@@ -16,14 +16,17 @@ pub returns-in_err-ask-clause-told : goal.returns-in_err-ask-clause-told
 returns-in_err-ask-clause-told c =
     let p = err_from_is_err_and c.from_residual.result c.from_residual.ensures.1 in
     let rs = c.args.asked.now.lists.now in let s = c.args.start in
-    rw (p.1, p.2) (told_first c.args.duration c.loop-j.j (λ j. list_fault c.args.asked.now.counts.now c.args.asked.now.name.now (s + j) s (find (is_list_at (s + j) s) rs)) _ _
+    rw (p.1, p.2)
+    (told_first c.args.duration c.loop-j.j (λ j. list_fault c.args.asked.now.counts.now c.args.asked.now.name.now
+    (s + j) s (find (is_list_at (s + j) s) rs)) _ _
     c.loop-j-test.true c.loop-j.invariant.none refl c.in_err-ask.ensures.told)
 
 pub loop-j-preserved : goal.loop-j-preserved
 loop-j-preserved c =
     let rs = c.args.asked.now.lists.now in let s = c.args.start in let j = c.loop-j.j in
     record {
-      none = first_more j (λ j. list_fault c.args.asked.now.counts.now c.args.asked.now.name.now (s + j) s (find (is_list_at (s + j) s) rs)) c.loop-j.invariant.none c.in_ok-ask.ensures.told;
+      none = first_more j (λ j. list_fault c.args.asked.now.counts.now c.args.asked.now.name.now (s + j) s
+          (find (is_list_at (s + j) s) rs)) c.loop-j.invariant.none c.in_ok-ask.ensures.told;
       order =
           c.in_ok-push.ensures.items
           ∙ ap (λ q. q ++ c.in_ok-ask.field-0 ∷ []) c.loop-j.invariant.order

@@ -1,4 +1,5 @@
-use Rattle.std.proofs.Common.{◌≡◌, ℕ, ◌+◌, ◌++◌, [], List, Vec, Global, None, Option, Bool, cond, true, false, refl, sym, ◌∙◌, ap, append-nil}
+use Rattle.std.proofs.Common.{◌≡◌, ℕ, ◌+◌, ◌++◌, [], List, Vec, Global, None, Option, Bool, cond, true, false, refl}
+use Rattle.std.proofs.Common.{sym, ◌∙◌, ap, append-nil}
 use Rattle.std.specs.Prelude.{slice_index}
 use Rattle.std.proofs.lemmas.Result.{err_from_is_err_and}
 use Rattle.instance_model.specs.Rules.{first_of}
@@ -22,8 +23,12 @@ returns-in_err-add_run-clause-told c =
     let p = err_from_is_err_and c.from_residual.result c.from_residual.ensures.1 in
     let a = c.args.asked.now in let ds = c.args.durations.now in let k = c.loop-k.k in
     let b : allowed_of a.grid.now.periods ds (k + 1) ≡ true = sym c.if-is_allowed_in.ensures.value in
-    rw (p.1, p.2) (told_first _ k (λ k. cond (allowed_of a.grid.now.periods ds (k + 1)) (run_fault a.counts.now a.name.now a.lists.now (k + 1) (slice_index ds k)) None) _ _
-    c.loop-k-test.true c.loop-k.invariant.none (ap (λ q. cond q (run_fault a.counts.now a.name.now a.lists.now (k + 1) (slice_index ds k)) None) (sym b)) c.in_err-add_run.ensures.told)
+    rw (p.1, p.2)
+    (told_first _ k (λ k. cond (allowed_of a.grid.now.periods ds (k + 1))
+    (run_fault a.counts.now a.name.now a.lists.now (k + 1) (slice_index ds k)) None) _ _
+    c.loop-k-test.true c.loop-k.invariant.none
+    (ap (λ q. cond q (run_fault a.counts.now a.name.now a.lists.now (k + 1) (slice_index ds k)) None) (sym b))
+    c.in_err-add_run.ensures.told)
 
 -- a choice, by the value of its test
 under : {A : Type 0} {b : Bool} (c : Bool) → b ≡ c → (x y : A) → cond b x y ≡ cond c x y
@@ -34,21 +39,27 @@ loop-k-preserved c =
     let a = c.args.asked.now in let ds = c.args.durations.now in let k = c.loop-k.k in
     let run : Option CrossFault = run_fault a.counts.now a.name.now a.lists.now (k + 1) (slice_index ds k) in
     let places : List ℕ = run_order a.lists.now (k + 1) (slice_index ds k) in
-    let before : List ℕ = lists_below k (λ k. cond (allowed_of a.grid.now.periods ds (k + 1)) (run_order a.lists.now (k + 1) (slice_index ds k)) []) in
+    let before : List ℕ = lists_below k
+    (λ k. cond (allowed_of a.grid.now.periods ds (k + 1)) (run_order a.lists.now (k + 1) (slice_index ds k)) []) in
     record {
-      none = first_more k (λ k. cond (allowed_of a.grid.now.periods ds (k + 1)) (run_fault a.counts.now a.name.now a.lists.now (k + 1) (slice_index ds k)) None) c.loop-k.invariant.none
+      none = first_more k (λ k. cond (allowed_of a.grid.now.periods ds (k + 1))
+          (run_fault a.counts.now a.name.now a.lists.now (k + 1) (slice_index ds k)) None) c.loop-k.invariant.none
           (elim c.if-is_allowed_in.branch [
-            | then-is_allowed_in+in_ok-add_run w ↦ under true (sym w.if-is_allowed_in.ensures.value) run None ∙ w.in_ok-add_run.ensures.told
+            | then-is_allowed_in+in_ok-add_run w ↦
+                under true (sym w.if-is_allowed_in.ensures.value) run None ∙ w.in_ok-add_run.ensures.told
             | else-is_allowed_in w ↦ under false (sym w.if-is_allowed_in.ensures.value) run None
           ]);
       order =
           (elim c.if-is_allowed_in.branch [
             | then-is_allowed_in+in_ok-add_run w ↦
-                ap (λ (v : Vec ℕ Global). v.items) w.order-is ∙ w.in_ok-add_run.ensures.order ∙ ap (λ q. q ++ places) c.loop-k.invariant.order
+                ap (λ (v : Vec ℕ Global). v.items) w.order-is ∙ w.in_ok-add_run.ensures.order
+                ∙ ap (λ q. q ++ places) c.loop-k.invariant.order
                 ∙ ap (λ q. before ++ q) (sym (under true (sym w.if-is_allowed_in.ensures.value) places []))
             | else-is_allowed_in w ↦
                 ap (λ (v : Vec ℕ Global). v.items) w.order-is ∙ c.loop-k.invariant.order ∙ sym (append-nil before)
                 ∙ ap (λ q. before ++ q) (sym (under false (sym w.if-is_allowed_in.ensures.value) places []))
           ])
-          ∙ sym (lists_more k (λ k. cond (allowed_of a.grid.now.periods ds (k + 1)) (run_order a.lists.now (k + 1) (slice_index ds k)) []));
+          ∙ sym (lists_more k
+          (λ k. cond (allowed_of a.grid.now.periods ds (k + 1))
+          (run_order a.lists.now (k + 1) (slice_index ds k)) []));
     }

@@ -9,6 +9,9 @@ use Rattle.instance_rows.proofs.order.order_runs.Given as goal
 
 abbrev pub invariant-loop-k : goal.invariant-loop-k
 invariant-loop-k l = record {
-  none : first_of l.k (λ k. cond (allowed_of l.asked.grid.now.periods l.durations (k + 1)) (run_fault l.asked.counts.now l.asked.name.now l.asked.lists.now (k + 1) (slice_index l.durations k)) None) ≡ None;
-  order : l.order.items ≡ lists_below l.k (λ k. cond (allowed_of l.asked.grid.now.periods l.durations (k + 1)) (run_order l.asked.lists.now (k + 1) (slice_index l.durations k)) []);
+  none : first_of l.k (λ k. cond (allowed_of l.asked.grid.now.periods l.durations (k + 1))
+      (run_fault l.asked.counts.now l.asked.name.now l.asked.lists.now (k + 1) (slice_index l.durations k)) None)
+      ≡ None;
+  order : l.order.items ≡ lists_below l.k (λ k. cond (allowed_of l.asked.grid.now.periods l.durations (k + 1))
+      (run_order l.asked.lists.now (k + 1) (slice_index l.durations k)) []);
 }

@@ -6,4 +6,5 @@ pub returns-clause-new : goal.returns-clause-new
 returns-clause-new c = c.in_ok-new.ensures.added ∙ ap not (sym (texts_has c.args.seen.now.keys c.args.text))
 
 pub returns-clause-added : goal.returns-clause-added
-returns-clause-added c = texts_more c.args.seen.now.keys _ c.args.text _ c.in_ok-new.ensures.added c.in_ok-new.ensures.keys
+returns-clause-added c =
+    texts_more c.args.seen.now.keys _ c.args.text _ c.in_ok-new.ensures.added c.in_ok-new.ensures.keys

@@ -11,7 +11,8 @@ overflow_mul-size c =
     let n = c.args.whole.length in
     let m = c.digits_behind-fraction.result.length in
     let x = c.digits_behind-fraction.result.value in
-    let writes = subst (λ (z : List ℕ). WritesDigits c.args.whole.value z m x) (behind (n + 1) bs) c.digits_behind-fraction.ensures.writes in
+    let writes = subst (λ (z : List ℕ). WritesDigits c.args.whole.value z m x) (behind (n + 1) bs)
+    c.digits_behind-fraction.ensures.writes in
     let f = fraction_fits bs n c.args.whole.value m x c.requires writes c.digits_behind-fraction.ensures.most in
     let e : x * c.power_of_ten.result ≡ x * 10 ^ (12 - m) = ap (λ z. x * z) c.power_of_ten.ensures in
     omega arith
@@ -22,8 +23,12 @@ returns c =
     let n = c.args.whole.length in
     let m = c.digits_behind-fraction.result.length in
     let x = c.digits_behind-fraction.result.value in
-    let writes = subst (λ (z : List ℕ). WritesDigits c.args.whole.value z m x) (behind (n + 1) bs) c.digits_behind-fraction.ensures.writes in
-    let within : n + 1 + m < length bs = omega (arith, writes.within, length-drop (n + 1) bs, c.requires.within, c.if-length-bytes.false) in
+    let writes = subst (λ (z : List ℕ). WritesDigits c.args.whole.value z m x) (behind (n + 1) bs)
+    c.digits_behind-fraction.ensures.writes in
+    let within : n + 1 + m < length bs =
+    omega (arith, writes.within, length-drop (n + 1) bs, c.requires.within, c.if-length-bytes.false) in
     let comma : get_or bs (n + 1 + m) 0 ≡ 44 = search rules in
     subst (λ (z : ℤ). IsCountedRun bs (n + 1 + m) z) (sym c.count_of.ensures)
-    (run_fraction bs n c.args.whole.value m x (x * c.power_of_ten.result) c.requires writes (omega (arith, c.if-fraction-eq0.false)) c.digits_behind-fraction.ensures.most within comma (ap (λ z. x * z) c.power_of_ten.ensures))
+    (run_fraction bs n c.args.whole.value m x (x * c.power_of_ten.result) c.requires writes
+    (omega (arith, c.if-fraction-eq0.false)) c.digits_behind-fraction.ensures.most within comma
+    (ap (λ z. x * z) c.power_of_ten.ensures))

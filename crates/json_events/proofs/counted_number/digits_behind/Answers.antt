@@ -8,12 +8,14 @@ use Rattle.json_events.proofs.CountedNumbers.{count_more, value_more}
 use Rattle.json_events.proofs.counted_number.digits_behind.Goals as goal
 
 -- the room behind the next digit
-room : (v i most b : ℕ) → IsDigit b → i < most → (v + 1) * 10 ^ (most - i) ≤ 2 ^ 64 → (v * 10 + (b - 48) + 1) * 10 ^ (most - (i + 1)) ≤ 2 ^ 64
+room : (v i most b : ℕ) → IsDigit b → i < most → (v + 1) * 10 ^ (most - i) ≤ 2 ^ 64
+    → (v * 10 + (b - 48) + 1) * 10 ^ (most - (i + 1)) ≤ 2 ^ 64
 room v i most b d l r =
     let low = d.low in
     let high = d.high in
     let e : most - i - 1 ≡ most - (i + 1) = omega arith in
-    subst (λ z. (v * 10 + (b - 48) + 1) * 10 ^ z ≤ 2 ^ 64) e (room_more v (b - 48) (most - i) (omega arith) (omega arith) r)
+    subst (λ z. (v * 10 + (b - 48) + 1) * 10 ^ z ≤ 2 ^ 64) e
+    (room_more v (b - 48) (most - i) (omega arith) (omega arith) r)
 
 fits : (v i most b : ℕ) → IsDigit b → i < most → (v + 1) * 10 ^ (most - i) ≤ 2 ^ 64 → v * 10 + (b - 48) < 2 ^ 64
 fits v i most b d l r = room_fits (v * 10 + (b - 48)) (most - (i + 1)) (room v i most b d l r)
@@ -43,6 +45,7 @@ loop-length-preserved c =
       counted = count_more i c.args.bytes.now c.if-length-bytes.true t c.loop-length.invariant.counted;
       within = omega (arith, c.if-length-bytes.true);
       most = omega (arith, c.loop-length-test.true);
-      value_is = value_more c.args.front i c.args.bytes.now c.loop-length.value c.if-length-bytes.true c.loop-length.invariant.value_is;
+      value_is = value_more c.args.front i c.args.bytes.now c.loop-length.value c.if-length-bytes.true
+          c.loop-length.invariant.value_is;
       room = room c.loop-length.value i c.args.most b (digit b t) c.loop-length-test.true c.loop-length.invariant.room;
     }

@@ -1,4 +1,5 @@
-use Rattle.std.proofs.Common.{rules, ◌≡◌, ◌∙◌, ◌+◌, ◌<◌, ◌≤◌, ℕ, List, length, take, drop, sym, ap, subst, arith, length-drop}
+use Rattle.std.proofs.Common.{rules, ◌≡◌, ◌∙◌, ◌+◌, ◌<◌, ◌≤◌, ℕ, List, length, take, drop, sym, ap, subst, arith}
+use Rattle.std.proofs.Common.{length-drop}
 use Rattle.std.specs.Prelude.{◌-◌}
 use Rattle.std.specs.List.{prefix_len}
 use Rattle.std.proofs.lemmas.List.Sums.{prefix_len-le-length}
@@ -18,10 +19,12 @@ some_bytes : (blanks : ℕ) (bs : List ℕ) → blanks ≡ prefix_len is_blank b
 some_bytes blanks bs e = rw e (prefix_len-le-length is_blank bs)
 
 pub slice_bounds-take_counted-count : goal.slice_bounds-take_counted-count
-slice_bounds-take_counted-count c = some_bytes c.blank_count-blanks.result c.as_slice-bytes.result.now c.blank_count-blanks.ensures
+slice_bounds-take_counted-count c =
+    some_bytes c.blank_count-blanks.result c.as_slice-bytes.result.now c.blank_count-blanks.ensures
 
 pub slice_bounds-take_counted-start : goal.slice_bounds-take_counted-start
-slice_bounds-take_counted-start c = let l = some_bytes c.blank_count-blanks.result c.as_slice-bytes.result.now c.blank_count-blanks.ensures in search rules
+slice_bounds-take_counted-start c = let l =
+    some_bytes c.blank_count-blanks.result c.as_slice-bytes.result.now c.blank_count-blanks.ensures in search rules
 
 pub pass-requires : goal.pass-requires
 pass-requires c =
@@ -39,7 +42,13 @@ pass-requires-2 c =
     let bs = c.as_slice-bytes.result.now in
     let blanks = c.blank_count-blanks.result in
     let f = fits c.in_ok-length.field-0.length blanks bs c.in_ok-length.ensures.within in
-    omega (arith, f, ap length c.as_slice-bytes.ensures.same, ap length c.pass.ensures.rest, length-drop blanks (unread_of c.args.unread.now))
+    omega (
+      arith,
+      f,
+      ap length c.as_slice-bytes.ensures.same,
+      ap length c.pass.ensures.rest,
+      length-drop blanks (unread_of c.args.unread.now),
+    )
 
 pub returns-clause-tells : goal.returns-clause-tells
 returns-clause-tells c =
@@ -53,5 +62,7 @@ returns-clause-tells c =
     let run = c.in_ok-length.field-0 in
     let is = c.in_ok-length.ensures in
     subst (λ (k : ℕ). TellsCount k run.count m u n w) (sym c.at-at.ensures)
-    (count_told m n u v w blanks run.length (take (length bs - blanks) (drop blanks bs)) run.count (search rules) (search rules) c.pass.ensures.at c.pass.ensures.rest (behind blanks bs ∙ ap (drop blanks) c.as_slice-bytes.ensures.same)
+    (count_told m n u v w blanks run.length (take (length bs - blanks) (drop blanks bs)) run.count (search rules)
+    (search rules) c.pass.ensures.at c.pass.ensures.rest
+    (behind blanks bs ∙ ap (drop blanks) c.as_slice-bytes.ensures.same)
     is.takes is.exact (λ k i s. is.sound k i s (search rules)) c.pass-2.ensures.at c.pass-2.ensures.rest)

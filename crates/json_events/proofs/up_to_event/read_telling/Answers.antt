@@ -21,13 +21,19 @@ returns-in-Some-clause-reads c stream told h =
     let n = c.take_number.new.self in
     let u = c.args.unread.now in
     let number = c.in-Some.field-0 in
-    let takes = taken_is (λ t. TakesNumber c.at.result (state_of m) c.as_slice.result.now t.length (event_of t.event) (state_of n)) c.in_ok-number.number number c.in-Some.is c.in_ok-number.ensures.takes in
-    let there = subst (λ (k : ℕ). TakesNumber k (state_of m) c.as_slice.result.now number.length (event_of number.event) (state_of n)) c.at.ensures takes in
-    let here = subst (λ (z : List ℕ). TakesNumber u.at (state_of m) z number.length (event_of number.event) (state_of n)) c.as_slice.ensures.same there in
+    let takes = taken_is (λ t. TakesNumber c.at.result (state_of m) c.as_slice.result.now t.length (event_of t.event)
+    (state_of n)) c.in_ok-number.number number c.in-Some.is c.in_ok-number.ensures.takes in
+    let there = subst (λ (k : ℕ). TakesNumber k (state_of m) c.as_slice.result.now number.length (event_of number.event)
+    (state_of n)) c.at.ensures takes in
+    let here = subst (λ (z : List ℕ). TakesNumber u.at (state_of m) z number.length (event_of number.event)
+    (state_of n)) c.as_slice.ensures.same there in
     number_told m n u c.pass.new.self number.length (event_of number.event) stream told h here
-    (taken_sound (IsSound c.pass.new.self.at n) c.in_ok-number.number number c.in-Some.is (c.in_ok-number.ensures.sound c.pass.new.self.at)) c.pass.ensures.at c.pass.ensures.rest
+    (taken_sound (IsSound c.pass.new.self.at n) c.in_ok-number.number number c.in-Some.is
+    (c.in_ok-number.ensures.sound c.pass.new.self.at)) c.pass.ensures.at c.pass.ensures.rest
 
 pub returns-in-None-clause-reads : goal.returns-in-None-clause-reads
 returns-in-None-clause-reads c stream told h =
     let same = c.in_ok-number.ensures.left (ap Ok c.in_default.is) in
-    used_up c.take_number.new.self c.args.unread.now stream told (subst (λ (m : Machine). HasTold m c.args.unread.now stream told) (sym same) h) (sym c.first.ensures ∙ c.in-None.is)
+    used_up c.take_number.new.self c.args.unread.now stream told
+    (subst (λ (m : Machine). HasTold m c.args.unread.now stream told) (sym same) h)
+    (sym c.first.ensures ∙ c.in-None.is)

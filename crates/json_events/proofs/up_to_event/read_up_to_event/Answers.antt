@@ -10,5 +10,6 @@ loop-reading-preserved c = record {
       let machine = c.read_run.new.machine in
       let unread = c.read_run.new.unread in
       subst (λ es. HasTold machine unread stream es) (append-nil told)
-      (subst (λ (r : Reading). ReadsOn (Ok r) machine unread stream told) c.in-Quiet.is (c.in_ok-reading.ensures.reads stream told (c.loop-reading.invariant.told stream told h)));
+      (subst (λ (r : Reading). ReadsOn (Ok r) machine unread stream told) c.in-Quiet.is
+      (c.in_ok-reading.ensures.reads stream told (c.loop-reading.invariant.told stream told h)));
 }

@@ -3,4 +3,8 @@ use Rattle.json_laws.proofs.Stays.{syntax_stays, shallow_stays, depth_stays}
 use Rattle.json_laws.proofs.text_laws.fault_stays.Goals as goal
 
 pub returns : goal.returns
-returns c = record { syntax = syntax_stays; first = λ stream more at i h. shallow_stays stream more at (omega arith) h; too_deep = depth_stays }
+returns c = record {
+  syntax = syntax_stays;
+  first = λ stream more at i h. shallow_stays stream more at (omega arith) h;
+  too_deep = depth_stays;
+}

@@ -18,5 +18,7 @@ pub returns : goal.returns
 returns c =
     let bytes = c.args.bytes.now in
     let count = c.digit_count-length.ensures in
-    fraction_ends (phase_of c.args.phase) bytes c.digit_count-length.result (whole c.args.phase c.requires) (omega arith) (omega arith)
-    (count.count ∙ ap digit_count (behind 1 bytes)) (subst (λ (z : List ℕ). c.digit_count-length.result ≤ length z) (behind 1 bytes) count.within) (omega arith)
+    fraction_ends (phase_of c.args.phase) bytes c.digit_count-length.result (whole c.args.phase c.requires)
+    (omega arith) (omega arith)
+    (count.count ∙ ap digit_count (behind 1 bytes))
+    (subst (λ (z : List ℕ). c.digit_count-length.result ≤ length z) (behind 1 bytes) count.within) (omega arith)

@@ -8,5 +8,7 @@ pub returns : goal.returns
 returns c =
     let whole = c.in_ok-whole.whole in
     let fraction = c.in_ok-fraction.fraction in
-    number_then (phase_of whole.phase) (phase_of fraction.phase) c.args.bytes.now whole.length fraction.length c.in_ok-whole.ensures.begins
-    (subst (λ (z : List ℕ). EndsNumber (phase_of whole.phase) z fraction.length (phase_of fraction.phase)) (behind whole.length c.args.bytes.now) c.in_ok-fraction.ensures)
+    number_then (phase_of whole.phase) (phase_of fraction.phase) c.args.bytes.now whole.length fraction.length
+    c.in_ok-whole.ensures.begins
+    (subst (λ (z : List ℕ). EndsNumber (phase_of whole.phase) z fraction.length (phase_of fraction.phase))
+    (behind whole.length c.args.bytes.now) c.in_ok-fraction.ensures)

@@ -5,4 +5,7 @@ use Rattle.json_laws.proofs.Loop.{Came}
 use Rattle.json_tree.proofs.tree_reader.read_tree.Given as goal
 
 abbrev pub invariant-loop-i : goal.invariant-loop-i
-invariant-loop-i l = record { came : Came (state_of l.machine) (built_of l.builder) (take l.i l.bytes); sound : IsSound l.i l.machine }
+invariant-loop-i l = record {
+  came : Came (state_of l.machine) (built_of l.builder) (take l.i l.bytes);
+  sound : IsSound l.i l.machine;
+}

@@ -10,14 +10,20 @@ loop-c-init c = record { value = sym (sum_below-zero _); small = omega arith }
 
 pub loop-c-preserved : goal.loop-c-preserved
 loop-c-preserved c =
-    let few : (c.loop-c.c + 1) * 51_200_000_000_000_000_000_000_000_000_000 < 2 ^ 127 = omega (arith, c.resources-c-end.ensures.few) in
+    let few : (c.loop-c.c + 1) * 51_200_000_000_000_000_000_000_000_000_000 < 2 ^ 127 =
+    omega (arith, c.resources-c-end.ensures.few) in
     record {
-      value = sum_step _ _ c.loop-c.c 51_200_000_000_000_000_000_000_000_000_000 _ c.loop-c.invariant.value c.loop-c.invariant.small c.band_cost_of-cost.ensures.value c.band_cost_of-cost.ensures.small few;
-      small = sum_step_small (to_z w128 c.loop-c.cost-bits) c.band_cost_of-cost.result c.loop-c.c 51_200_000_000_000_000_000_000_000_000_000 c.loop-c.invariant.small c.band_cost_of-cost.ensures.small few;
+      value = sum_step _ _ c.loop-c.c 51_200_000_000_000_000_000_000_000_000_000 _ c.loop-c.invariant.value
+          c.loop-c.invariant.small c.band_cost_of-cost.ensures.value c.band_cost_of-cost.ensures.small few;
+      small = sum_step_small (to_z w128 c.loop-c.cost-bits) c.band_cost_of-cost.result c.loop-c.c
+          51_200_000_000_000_000_000_000_000_000_000 c.loop-c.invariant.small c.band_cost_of-cost.ensures.small few;
     }
 
 pub returns-clause-value : goal.returns-clause-value
 unfolding band_part
 returns-clause-value c =
     let e : c.loop-c.c ≡ length c.args.inst.now.resource_names = omega arith in
-    c.loop-c.invariant.value ∙ ap (λ (n : ℕ). sum_below n (λ d. sum_below c.args.inst.now.periods (λ u. band_share c.args.inst.now c.args.prices.now c.args.i c.args.s d (u + 1)))) e
+    c.loop-c.invariant.value
+    ∙ ap (λ (n : ℕ). sum_below n
+    (λ d. sum_below c.args.inst.now.periods
+    (λ u. band_share c.args.inst.now c.args.prices.now c.args.i c.args.s d (u + 1)))) e

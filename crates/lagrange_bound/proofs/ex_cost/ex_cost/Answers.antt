@@ -12,7 +12,9 @@ overflow_add-cost c =
 
 pub returns-clause-value : goal.returns-clause-value
 returns-clause-value c =
-    ex_sum_all c.args.inst.now c.ex_prices-x-items.result.now c.args.i c.args.s c.loop-x.x-index c.loop-x.cost c.loop-x.invariant.value (omega arith) ∙ ap (λ (xs : List ExPrice). ex_part c.args.inst.now xs c.args.i c.args.s) c.ex_prices-x-items.ensures
+    ex_sum_all c.args.inst.now c.ex_prices-x-items.result.now c.args.i c.args.s c.loop-x.x-index c.loop-x.cost
+    c.loop-x.invariant.value (omega arith)
+    ∙ ap (λ (xs : List ExPrice). ex_part c.args.inst.now xs c.args.i c.args.s) c.ex_prices-x-items.ensures
 
 pub returns-clause-small : goal.returns-clause-small
 returns-clause-small c =

@@ -6,7 +6,8 @@ pub loop-low-preserved-then-is_before : goal.loop-low-preserved-then-is_before
 loop-low-preserved-then-is_before c = record {
   order = omega arith;
   within = omega arith;
-  before = before_more c.args.ex.now c.args.e c.args.t (c.loop-low.low + (c.loop-low.high - c.loop-low.low) / 2) (record { exclusion = 0; period = 0; value = 0 }) c.requires (omega arith) (search rules);
+  before = before_more c.args.ex.now c.args.e c.args.t (c.loop-low.low + (c.loop-low.high - c.loop-low.low) / 2)
+      (record { exclusion = 0; period = 0; value = 0 }) c.requires (omega arith) (search rules);
   after = c.loop-low.invariant.after;
 }
 
@@ -15,5 +16,6 @@ loop-low-preserved c = record {
   order = omega arith;
   within = omega arith;
   before = c.loop-low.invariant.before;
-  after = after_more c.args.ex.now c.args.e c.args.t (c.loop-low.low + (c.loop-low.high - c.loop-low.low) / 2) (record { exclusion = 0; period = 0; value = 0 }) c.requires (omega arith) (search rules);
+  after = after_more c.args.ex.now c.args.e c.args.t (c.loop-low.low + (c.loop-low.high - c.loop-low.low) / 2)
+      (record { exclusion = 0; period = 0; value = 0 }) c.requires (omega arith) (search rules);
 }

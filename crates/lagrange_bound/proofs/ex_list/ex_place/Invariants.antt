@@ -8,7 +8,8 @@ invariant-loop-low l = record {
   order : l.low ≤ l.high;
   within : l.high ≤ length l.ex;
   before : (j : ℕ) (d : ExPrice) → j < l.low → PairBefore (get_or l.ex j d).exclusion (get_or l.ex j d).period l.e l.t;
-  after : (j : ℕ) (d : ExPrice) → l.high ≤ j → j < length l.ex → PairBefore l.e l.t (get_or l.ex j d).exclusion (get_or l.ex j d).period;
+  after : (j : ℕ) (d : ExPrice) → l.high ≤ j → j < length l.ex
+      → PairBefore l.e l.t (get_or l.ex j d).exclusion (get_or l.ex j d).period;
 }
 
 abbrev pub decreases-loop-low : goal.decreases-loop-low

@@ -6,7 +6,8 @@ use Rattle.lagrange_bound.proofs.ex_sums.prefix_sums.Goals as goal
 pub loop-u-init : goal.loop-u-init
 loop-u-init c = record {
   sum = sym (count_sum-zero (λ v. get_or c.args.numbers.now (c.args.from + v) 0));
-  prefixes = ArePrefixes-none c.args.numbers.now c.args.from _ (c.in_ok-push.ensures.items ∙ ap (λ (xs : List ℕ). xs ++ 0 ∷ []) c.in_ok-prefixes.ensures.items);
+  prefixes = ArePrefixes-none c.args.numbers.now c.args.from _
+      (c.in_ok-push.ensures.items ∙ ap (λ (xs : List ℕ). xs ++ 0 ∷ []) c.in_ok-prefixes.ensures.items);
 }
 
 pub overflow_add-sum-in-loop-u : goal.overflow_add-sum-in-loop-u
@@ -19,5 +20,7 @@ loop-u-preserved c =
     let more = sum_more c.args.numbers.now c.args.from c.loop-u.u c.loop-u.sum c.loop-u.invariant.sum in
     record {
       sum = more;
-      prefixes = ArePrefixes-more c.loop-u.u c.args.numbers.now c.args.from c.loop-u.prefixes.items _ (c.loop-u.sum + get_or c.args.numbers.now (c.args.from + c.loop-u.u) 0) c.loop-u.invariant.prefixes more c.in_ok-push-2.ensures.items;
+      prefixes = ArePrefixes-more c.loop-u.u c.args.numbers.now c.args.from c.loop-u.prefixes.items _
+          (c.loop-u.sum + get_or c.args.numbers.now (c.args.from + c.loop-u.u) 0) c.loop-u.invariant.prefixes more
+          c.in_ok-push-2.ensures.items;
     }

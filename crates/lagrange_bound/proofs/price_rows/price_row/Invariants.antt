@@ -6,6 +6,7 @@ use Rattle.lagrange_bound.proofs.price_rows.price_row.Given as goal
 
 abbrev pub invariant-loop-s : goal.invariant-loop-s
 invariant-loop-s g l = record {
-  value : l.row.items ≡ map (price_entry (g.G.Goal.base_gives l.goal l.inst l.prices) l.inst l.prices l.i) (range_with_len 1 (l.s - 1));
+  value : l.row.items ≡ map (price_entry (g.G.Goal.base_gives l.goal l.inst l.prices) l.inst l.prices l.i)
+      (range_with_len 1 (l.s - 1));
   small : (k : ℕ) → IsSmallPrice (get_or l.row.items k None);
 }

@@ -7,6 +7,7 @@ use Rattle.lagrange_bound.proofs.table.least_prices.Given as goal
 
 abbrev pub invariant-loop-i : goal.invariant-loop-i
 invariant-loop-i l = record {
-  value : l.sum ≡ sum_below l.i (λ i. least_over (λ s. unwrap_or (entry_of l.table i s) (pos 0)) (priced_in l.table i (span_of l.spans i)));
+  value : l.sum ≡ sum_below l.i (λ i. least_over (λ s. unwrap_or (entry_of l.table i s) (pos 0))
+      (priced_in l.table i (span_of l.spans i)));
   small : unsigned_abs l.sum ≤ l.i * 2_000_000_000_000_000_000_000_000_000_000_000;
 }

@@ -2,7 +2,8 @@ use Rattle.lagrange_bound.proofs.BaseLemmas.{fraction_is}
 use Rattle.lagrange_bound.proofs.term.fraction_of.Goals as goal
 
 pub returns-clause-value : goal.returns-clause-value
-returns-clause-value c = (fraction_is c.args.alpha c.args.sum c.args.part c.requires.alpha c.requires.sum c.requires.part).0
+returns-clause-value c =
+    (fraction_is c.args.alpha c.args.sum c.args.part c.requires.alpha c.requires.sum c.requires.part).0
 
 pub returns-clause-small : goal.returns-clause-small
 returns-clause-small c =

@@ -15,4 +15,5 @@ returns-in_err-start-clause-none c =
     let words = c.in_ok-words.words in
     rw c.from_residual-in_err-start.ensures
     (no_move c.args.line.now words.now (behind c.args.line.now (codes "move ") words c.in_ok-words.ensures.cases)
-    (no_start words.now c.in_ok-name.name.now c.in_ok-name.digits.now c.in_ok-name.ensures.cut c.in_ok-name.ensures.first c.in_err-start.ensures.none))
+    (no_start words.now c.in_ok-name.name.now c.in_ok-name.digits.now c.in_ok-name.ensures.cut
+    c.in_ok-name.ensures.first c.in_err-start.ensures.none))

@@ -11,7 +11,8 @@ invariant-loop-i g l =
       instance : l.kept.instance ≡ l.fn.kept.instance;
       reached : Reaches l.fn.kept.instance (present l.fn.kept.plans) l.script l.i l.kept.plans;
       room : length l.script ≤ l.i + l.kept.spare;
-      said : ShowsSame (shows l.desk) (after_say (text_to l.fn.kept.instance (present l.fn.kept.plans) l.script (l.i + 1)) (shows l.fn.desk));
+      said : ShowsSame (shows l.desk)
+          (after_say (text_to l.fn.kept.instance (present l.fn.kept.plans) l.script (l.i + 1)) (shows l.fn.desk));
       later : (shows l.fn.desk).faults ≤ (shows l.desk).faults;
       same : (shows l.desk).last ≡ (shows l.fn.desk).last;
     }

@@ -14,8 +14,11 @@ pub returns-in_err-write_change-clause-written : goal.returns-in_err-write_chang
 returns-in_err-write_change-clause-written g c =
     let names = c.args.inst.now.names in
     let n = c.loop-change.change-index in
-    stops_at writing (change_text names) c.args.moves.now n (Move 0 0) (omega (arith, ap length c.as_slice-change-items.ensures)) c.from_residual.result (search rules) c.loop-change.invariant
-    (respelled writing (ap (λ (changes : List Change). change_text names (get_or changes n (Move 0 0))) c.as_slice-change-items.ensures) c.in_err-write_change.ensures)
+    stops_at writing (change_text names) c.args.moves.now n (Move 0 0)
+    (omega (arith, ap length c.as_slice-change-items.ensures)) c.from_residual.result (search rules)
+    c.loop-change.invariant
+    (respelled writing (ap (λ (changes : List Change). change_text names (get_or changes n (Move 0 0)))
+    c.as_slice-change-items.ensures) c.in_err-write_change.ensures)
 
 pub returns-in_err-write_change-clause-spelled : goal.returns-in_err-write_change-clause-spelled
 returns-in_err-write_change-clause-spelled g c =
@@ -25,8 +28,10 @@ pub loop-change-preserved : goal.loop-change-preserved
 loop-change-preserved g c =
     let names = c.args.inst.now.names in
     let n = c.loop-change.change-index in
-    next writing (change_text names) c.args.moves.now n (Move 0 0) (omega (arith, ap length c.as_slice-change-items.ensures)) c.loop-change.invariant
-    (respelled writing (ap (λ (changes : List Change). change_text names (get_or changes n (Move 0 0))) c.as_slice-change-items.ensures) c.in_ok-write_change.ensures)
+    next writing (change_text names) c.args.moves.now n (Move 0 0)
+    (omega (arith, ap length c.as_slice-change-items.ensures)) c.loop-change.invariant
+    (respelled writing (ap (λ (changes : List Change). change_text names (get_or changes n (Move 0 0)))
+    c.as_slice-change-items.ensures) c.in_ok-write_change.ensures)
 
 pub returns-clause-spelled : goal.returns-clause-spelled
 returns-clause-spelled g c =

@@ -11,7 +11,8 @@ invariant-pieces g l =
       from : vec_len l.fn.bytes ≤ vec_len l.bytes;
       within : vec_len l.bytes ≤ l.limit;
       shows : ShowsSame (d.shows l.desk) (after_read n (d.shows l.fn.desk));
-      read : IfSome (d.shows l.fn.desk).input.unread (λ rest. (n ≤ length rest) × (l.bytes.items ≡ l.fn.bytes.items ++ take n rest));
+      read : IfSome (d.shows l.fn.desk).input.unread
+          (λ rest. (n ≤ length rest) × (l.bytes.items ≡ l.fn.bytes.items ++ take n rest));
       later : (d.shows l.fn.desk).faults ≤ (d.shows l.desk).faults;
       same : (d.shows l.desk).last ≡ (d.shows l.fn.desk).last;
     }

@@ -5,11 +5,13 @@ use Rattle.plan_desk.proofs.loops.say_pieces.Goals as goal
 
 pub returns-in_err-say_all : goal.returns-in_err-say_all
 returns-in_err-say_all g c =
-    stops_at saying (λ piece. piece.now) c.args.pieces.now c.loop-piece.piece-index _ (search rules) c.from_residual.result (search rules) c.loop-piece.invariant c.in_err-say_all.ensures
+    stops_at saying (λ piece. piece.now) c.args.pieces.now c.loop-piece.piece-index _ (search rules)
+    c.from_residual.result (search rules) c.loop-piece.invariant c.in_err-say_all.ensures
 
 pub loop-piece-preserved : goal.loop-piece-preserved
 loop-piece-preserved g c =
-    next saying (λ piece. piece.now) c.args.pieces.now c.loop-piece.piece-index _ (search rules) c.loop-piece.invariant c.in_ok-say_all.ensures
+    next saying (λ piece. piece.now) c.args.pieces.now c.loop-piece.piece-index _ (search rules) c.loop-piece.invariant
+    c.in_ok-say_all.ensures
 
 pub loop-piece-init : goal.loop-piece-init
 loop-piece-init g c = begins saying (g.D.Desk.shows c.args.desk.now)

@@ -9,10 +9,12 @@ loop-e-init c = first_of-zero _
 pub returns-in-Some : goal.returns-in-Some
 unfolding first_clash_rule
 returns-in-Some c =
-    sym (first_of_ends c.loop-e.e _ (clash_rule_at c.args.inst.now c.args.plan.now) c.in-Some.rule (omega arith) c.loop-e.invariant (sym c.clash_rule.ensures ∙ c.in-Some.is))
+    sym (first_of_ends c.loop-e.e _ (clash_rule_at c.args.inst.now c.args.plan.now) c.in-Some.rule (omega arith)
+    c.loop-e.invariant (sym c.clash_rule.ensures ∙ c.in-Some.is))
 
 pub loop-e-preserved : goal.loop-e-preserved
-loop-e-preserved c = first_of_pass c.loop-e.e (clash_rule_at c.args.inst.now c.args.plan.now) c.loop-e.invariant (sym c.clash_rule.ensures ∙ c.in_default.is)
+loop-e-preserved c = first_of_pass c.loop-e.e (clash_rule_at c.args.inst.now c.args.plan.now) c.loop-e.invariant
+    (sym c.clash_rule.ensures ∙ c.in_default.is)
 
 pub returns : goal.returns
 unfolding first_clash_rule

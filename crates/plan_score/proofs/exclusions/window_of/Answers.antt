@@ -6,4 +6,5 @@ use Rattle.plan_score.proofs.exclusions.window_of.Goals as goal
 pub run-requires-clause-allowed : goal.run-requires-clause-allowed
 unfolding RunsAreAllowed
 run-requires-clause-allowed c =
-    subst (λ (o : Option ℕ). IfSome o (λ s. IsTrue (is_allowed c.args.inst.now c.args.i s))) c.in_ok-s.was (c.requires.allowed c.args.i (omega arith))
+    subst (λ (o : Option ℕ). IfSome o (λ s. IsTrue (is_allowed c.args.inst.now c.args.i s))) c.in_ok-s.was
+    (c.requires.allowed c.args.i (omega arith))

@@ -9,7 +9,8 @@ loop-sum-preserved g c =
     let i = c.loop-sum.sum-index in
     let read = c.value.ensures.value ∙ c.sum-item.is ∙ get_or_default xs i c.sum-item.result (pos 0) (omega arith) in
     c.in_ok-push.ensures.items
-    ∙ ap (λ (x : ℤ). c.loop-sum.values.items ++ x ∷ []) (back_from_abs c.value.result (omega (arith, c.value.ensures.small)) ∙ read)
+    ∙ ap (λ (x : ℤ). c.loop-sum.values.items ++ x ∷ [])
+    (back_from_abs c.value.result (omega (arith, c.value.ensures.small)) ∙ read)
     ∙ ap (λ (ys : List ℤ). ys ++ get_or xs i (pos 0) ∷ []) c.loop-sum.invariant
     ∙ sym (take_more xs i (pos 0) (omega arith))
 

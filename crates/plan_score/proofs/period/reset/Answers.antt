@@ -4,7 +4,8 @@ use Rattle.fixed_num.proofs.SumLemmas.{list_of_more}
 use Rattle.plan_score.proofs.period.reset.Goals as goal
 
 pub loop-k-preserved : goal.loop-k-preserved
-loop-k-preserved c = c.in_ok-push.ensures.items ∙ ap (λ (x : ℤ). c.loop-k.sums.items ++ x ∷ []) c.zero.ensures ∙ ap (λ (xs : List ℤ). xs ++ pos 0 ∷ []) c.loop-k.invariant ∙ sym (list_of_more c.loop-k.k (λ j. pos 0))
+loop-k-preserved c = c.in_ok-push.ensures.items ∙ ap (λ (x : ℤ). c.loop-k.sums.items ++ x ∷ []) c.zero.ensures
+    ∙ ap (λ (xs : List ℤ). xs ++ pos 0 ∷ []) c.loop-k.invariant ∙ sym (list_of_more c.loop-k.k (λ j. pos 0))
 
 pub returns : goal.returns
 returns c =

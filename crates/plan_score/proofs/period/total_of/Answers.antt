@@ -15,6 +15,9 @@ loop-one-preserved c =
     let one = All-get_or IsSmallSum c.args.sums.now c.loop-one.one-index (pos 0) (omega arith) c.requires.small in
     let few : (c.loop-one.one-index + 1) * 102_400_000_000_000_000_000_000 < 2 ^ 127 = omega arith in
     record {
-      value = added s x (c.loop-one.one-index * 102_400_000_000_000_000_000_000) 102_400_000_000_000_000_000_000 c.loop-one.invariant.small one.small (omega (arith, few)) ∙ ap (λ (y : ℤ). y +ℤ x) c.loop-one.invariant.value ∙ sym (total_more c.args.sums.now c.loop-one.one-index (pos 0) (omega arith));
-      small = sum_step_small s x c.loop-one.one-index 102_400_000_000_000_000_000_000 c.loop-one.invariant.small one.small few;
+      value = added s x (c.loop-one.one-index * 102_400_000_000_000_000_000_000) 102_400_000_000_000_000_000_000
+          c.loop-one.invariant.small one.small (omega (arith, few)) ∙ ap (λ (y : ℤ). y +ℤ x) c.loop-one.invariant.value
+          ∙ sym (total_more c.args.sums.now c.loop-one.one-index (pos 0) (omega arith));
+      small = sum_step_small s x c.loop-one.one-index 102_400_000_000_000_000_000_000
+          c.loop-one.invariant.small one.small few;
     }

@@ -7,9 +7,14 @@ use Rattle.plan_score.proofs.verdict.judge.Goals as goal
 pub plan_values-requires-clause-allowed : goal.plan_values-requires-clause-allowed
 unfolding first_rule
 plan_values-requires-clause-allowed c =
-    RunsAreAllowed-from_none c.args.inst.now c.args.plan.now c.requires (or_else-none (first_start_rule c.args.inst.now c.args.plan.now) _ (sym c.broken_rule.ensures ∙ c.in_default.is)).0
+    RunsAreAllowed-from_none c.args.inst.now c.args.plan.now c.requires
+    (or_else-none (first_start_rule c.args.inst.now c.args.plan.now) _
+    (sym c.broken_rule.ensures ∙ c.in_default.is)).0
 
 pub returns-clause-encloses : goal.returns-clause-encloses
 unfolding first_rule
 returns-clause-encloses c = λ f numbers reading.
-    c.printed_values_enclose.ensures c.args.plan.now f numbers (RunsAreAllowed-from_none c.args.inst.now c.args.plan.now c.requires (or_else-none (first_start_rule c.args.inst.now c.args.plan.now) _ (sym c.broken_rule.ensures ∙ c.in_default.is)).0) reading
+    c.printed_values_enclose.ensures c.args.plan.now f numbers
+    (RunsAreAllowed-from_none c.args.inst.now c.args.plan.now c.requires
+    (or_else-none (first_start_rule c.args.inst.now c.args.plan.now) _
+    (sym c.broken_rule.ensures ∙ c.in_default.is)).0) reading

@@ -16,14 +16,16 @@ returns-in_default-clause-err c = (
 pub returns-then-is_some-clause-err : goal.returns-then-is_some-clause-err
 returns-then-is_some-clause-err c =
     let found = c.in-Some-find_name.ensures in
-    let taken = taken_at c.args.starts.now.items c.in-Some-find_name.i c.index.result.now c.index.ensures (omega arith) (sym c.is_some.ensures ∙ c.if-is_some.true) in (
+    let taken = taken_at c.args.starts.now.items c.in-Some-find_name.i c.index.result.now c.index.ensures (omega
+    arith) (sym c.is_some.ensures ∙ c.if-is_some.true) in (
       refl,
       record {
         i = c.in-Some-find_name.i;
         start = c.in-Some.start;
         given = record {
           place = found.found;
-          gives = subst (λ (name : List ℕ). Gives c.args.line.now name c.in-Some.start) (sym found.name) c.in-Some.ensures.found;
+          gives = subst (λ (name : List ℕ). Gives c.args.line.now name c.in-Some.start) (sym found.name)
+              c.in-Some.ensures.found;
         };
         had = taken.0;
         taken = taken.1;

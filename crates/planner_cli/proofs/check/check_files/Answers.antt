@@ -18,7 +18,8 @@ returns g c =
     let e = c.check_certificate-report.ensures in
     check_runs standard_limits source plan c.args.certificate.now old new c.say_report.result
     (report_ends (λ at. AnswersCheck standard_limits
-    (reading old at) source.slack source.instance plan c.args.certificate.now) old mid new c.check_certificate-report.result
+    (reading old at) source.slack source.instance plan c.args.certificate.now) old mid new
+    c.check_certificate-report.result
     c.say_report.result
     (check_stays standard_limits source plan c.args.certificate.now old mid new e.only_reads.later) e.only_reads
     c.say_report.ensures.keeps e.last e.kept e.ok e.err c.say_report.ensures.ends)

@@ -6,7 +6,8 @@ use Rattle.planner_cli.specs.Asked.{source_view}
 use Rattle.planner_cli.specs.Files.{reading, OnPlan, OnScript}
 use Rattle.planner_cli.specs.Replaying.{Replays}
 use Rattle.planner_cli.proofs.FileLemmas.{is_read}
-use Rattle.planner_cli.proofs.ReadLemmas.{kept_before, refuses_instance, refuses_plan, replay_refuses_script, replay_reads}
+use Rattle.planner_cli.proofs.ReadLemmas.{kept_before, refuses_instance, refuses_plan, replay_refuses_script}
+use Rattle.planner_cli.proofs.ReadLemmas.{replay_reads}
 use Rattle.planner_cli.proofs.replay.read_files.Goals as goal
 
 pub returns-in_err-inst-clause-err : goal.returns-in_err-inst-clause-err

@@ -3,7 +3,8 @@ use Rattle.std.proofs.Common.{◌<◌, length, map, string_bytes, arith, rules}
 use Rattle.std.proofs.lemmas.List.{length-map}
 use Rattle.planner_cli.proofs.WordLemmas.{few_check, many_check}
 use Rattle.planner_cli.proofs.words.check_of.Goals as goal
-use Rattle.planner_cli.proofs.words.check_of.Goals.{in_default-via-then-words-lt4, in_default-via-else-words-lt4+else-words-lt5+else-words-lt6}
+use Rattle.planner_cli.proofs.words.check_of.Goals.{in_default-via-then-words-lt4}
+use Rattle.planner_cli.proofs.words.check_of.Goals.{in_default-via-else-words-lt4+else-words-lt5+else-words-lt6}
 
 pub returns-in_default-clause-none : goal.returns-in_default-clause-none
 returns-in_default-clause-none c =

@@ -3,7 +3,8 @@ use Rattle.std.proofs.Common.{◌<◌, length, map, string_bytes, arith, rules}
 use Rattle.std.proofs.lemmas.List.{length-map}
 use Rattle.planner_cli.proofs.WordLemmas.{few_evaluate, many_evaluate}
 use Rattle.planner_cli.proofs.words.evaluate_of.Goals as goal
-use Rattle.planner_cli.proofs.words.evaluate_of.Goals.{in_default-via-then-words-lt3, in_default-via-else-words-lt3+else-words-lt4+else-words-lt5}
+use Rattle.planner_cli.proofs.words.evaluate_of.Goals.{in_default-via-then-words-lt3}
+use Rattle.planner_cli.proofs.words.evaluate_of.Goals.{in_default-via-else-words-lt3+else-words-lt4+else-words-lt5}
 
 pub returns-in_default-clause-none : goal.returns-in_default-clause-none
 returns-in_default-clause-none c =

@@ -1,5 +1,6 @@
 use Rattle.std.proofs.Common.{◌≡◌, ◌+◌, ◌∷◌, ◌++◌, ◌<◌, ap, length, rules, arith, length-append}
-use Rattle.quantile_index.proofs.OrderLemmas.{ordered_front, ordered_back, is_in_left, is_in_right, ordered_less_left, ordered_less_right}
+use Rattle.quantile_index.proofs.OrderLemmas.{ordered_front, ordered_back, is_in_left, is_in_right, ordered_less_left}
+use Rattle.quantile_index.proofs.OrderLemmas.{ordered_less_right}
 use Rattle.quantile_index.proofs.OrderLemmas.{ordered_less_middle, inserts_right}
 use Rattle.quantile_index.proofs.change.+take_out.Goals as goal
 
@@ -18,7 +19,8 @@ take_out-node-requires g t c κs within =
 
 pub balanced-requires-clause-ordered : goal.balanced-requires-clause-ordered
 balanced-requires-clause-ordered g t c =
-    ordered_less_left _ _ _ _ _ c.take_out-node.ensures.removed c.take_out-node.ensures.ordered c.into_parts-left.ensures.ordered
+    ordered_less_left _ _ _ _ _ c.take_out-node.ensures.removed c.take_out-node.ensures.ordered
+    c.into_parts-left.ensures.ordered
 
 pub take_out-node-requires-in-Greater : goal.take_out-node-requires-in-Greater
 take_out-node-requires-in-Greater g t c κs within =
@@ -43,9 +45,11 @@ joined-requires-clause-ordered g t c = ordered_less_middle _ _ _ c.into_parts-le
 
 pub returns-in-Greater-clause-removed : goal.returns-in-Greater-clause-removed
 returns-in-Greater-clause-removed g t c =
-    rw (c.into_parts-left.ensures.entries, c.balanced-in-Greater.ensures.entries) (inserts_right _ _ _ _ _ c.take_out-node-in-Greater.ensures.removed)
+    rw (c.into_parts-left.ensures.entries, c.balanced-in-Greater.ensures.entries)
+    (inserts_right _ _ _ _ _ c.take_out-node-in-Greater.ensures.removed)
 
 pub returns-in-Greater-clause-ordered : goal.returns-in-Greater-clause-ordered
 returns-in-Greater-clause-ordered g t c =
     let rest = c.take_out-node-in-Greater.ensures in
-    rw c.balanced-in-Greater.ensures.entries (ordered_less_right _ _ _ _ _ rest.removed rest.ordered c.into_parts-left.ensures.ordered)
+    rw c.balanced-in-Greater.ensures.entries
+    (ordered_less_right _ _ _ _ _ rest.removed rest.ordered c.into_parts-left.ensures.ordered)

@@ -13,7 +13,8 @@ loop-i-preserved g c =
     record {
       ranking = record {
         ordered = c.put_in.ensures.ordered;
-        bag = bag_grown _ _ c.args.from.now c.loop-i.i c.index-from-i.result _ c.loop-i-test.true had c.index-from-i.is refl inserted;
+        bag = bag_grown _ _ c.args.from.now c.loop-i.i c.index-from-i.result _ c.loop-i-test.true had
+            c.index-from-i.is refl inserted;
       };
       len = omega arith;
       room = omega arith;

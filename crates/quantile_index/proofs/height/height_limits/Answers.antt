@@ -1,4 +1,5 @@
-use Rattle.quantile_index.proofs.HeightLimitLemmas.{IsHeightLimit-height_limit, height_limit_1, height_limit_2, height_limit_8, height_limit_1024}
+use Rattle.quantile_index.proofs.HeightLimitLemmas.{IsHeightLimit-height_limit, height_limit_1, height_limit_2}
+use Rattle.quantile_index.proofs.HeightLimitLemmas.{height_limit_8, height_limit_1024}
 use Rattle.quantile_index.proofs.height.height_limits.Goals as goal
 
 pub returns-clause-limit : goal.returns-clause-limit

@@ -11,10 +11,15 @@ loop-c-preserved c =
     let rows = c.loop-c.rows in
     let new = c.change_row.new.row in
     let row = get_or_default rows d c.index-rows-c.result [] (omega arith) in
-    let changed = subst (λ (x : List ℤ). IsRowChanged inst d c.args.i c.args.s c.args.change x new) row c.change_row.ensures.changed in
-    let gap = subst (λ (x : List ℤ). row_gap inst d new ≡ row_gap inst d x +ℤ c.change_row.result) row c.change_row.ensures.gap in
+    let changed = subst (λ (x : List ℤ). IsRowChanged inst d c.args.i c.args.s c.args.change x new) row
+    c.change_row.ensures.changed in
+    let gap = subst (λ (x : List ℤ). row_gap inst d new ≡ row_gap inst d x +ℤ c.change_row.result) row
+    c.change_row.ensures.gap in
     record {
-      partly = ArePartlyChanged-more inst c.args.i c.args.s c.args.change d c.args.rows.now rows new c.loop-c.invariant.partly (omega arith) changed;
-      gap = rows_gap-more inst d rows new (rows_gap inst c.args.rows.now) c.loop-c.further c.change_row.result c.plus-further.result (omega arith) (omega arith) gap c.loop-c.invariant.gap c.plus-further.ensures;
-      small = small_more d 10_000_000_000_000_000_000_000_000_000 c.loop-c.further c.change_row.result c.plus-further.result c.loop-c.invariant.small c.change_row.ensures.small c.plus-further.ensures;
+      partly = ArePartlyChanged-more inst c.args.i c.args.s c.args.change d c.args.rows.now rows new
+          c.loop-c.invariant.partly (omega arith) changed;
+      gap = rows_gap-more inst d rows new (rows_gap inst c.args.rows.now) c.loop-c.further c.change_row.result
+          c.plus-further.result (omega arith) (omega arith) gap c.loop-c.invariant.gap c.plus-further.ensures;
+      small = small_more d 10_000_000_000_000_000_000_000_000_000 c.loop-c.further c.change_row.result
+          c.plus-further.result c.loop-c.invariant.small c.change_row.ensures.small c.plus-further.ensures;
     }

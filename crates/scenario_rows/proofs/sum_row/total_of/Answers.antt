@@ -1,4 +1,5 @@
-use Rattle.std.proofs.Common.{◌≡◌, ◌∙◌, sym, ap, subst, arith, pos, ◌+◌, ◌*◌, ◌+ℤ◌, ◌<◌, ◌≤◌, ◌^◌, ℕ, ℤ, List, length, get_or, take, All, unsigned_abs}
+use Rattle.std.proofs.Common.{◌≡◌, ◌∙◌, sym, ap, subst, arith, pos, ◌+◌, ◌*◌, ◌+ℤ◌, ◌<◌, ◌≤◌, ◌^◌, ℕ, ℤ, List, length}
+use Rattle.std.proofs.Common.{get_or, take, All, unsigned_abs}
 use Rattle.std.proofs.lemmas.List.{take_all}
 use Rattle.std.proofs.lemmas.List.Elements.{All-get_or}
 use Rattle.fixed_num.specs.Sums.{total}
@@ -10,7 +11,8 @@ use Rattle.scenario_rows.proofs.ListLemmas.{read_at}
 use Rattle.scenario_rows.proofs.sum_row.total_of.Goals as goal
 
 -- the number that was read is the one at this place
-read_is : (xs : List ℤ) (i : ℕ) (x v w : ℤ) → i < length xs → All IsSmallSum xs → x ≡ get_or xs i x → v ≡ x → w ≡ by_bits v → (w ≡ get_or xs i (pos 0)) × (unsigned_abs w ≤ 102_400_000_000_000_000_000_000)
+read_is : (xs : List ℤ) (i : ℕ) (x v w : ℤ) → i < length xs → All IsSmallSum xs → x ≡ get_or xs i x → v ≡ x
+    → w ≡ by_bits v → (w ≡ get_or xs i (pos 0)) × (unsigned_abs w ≤ 102_400_000_000_000_000_000_000)
 read_is xs i x v w h all ex ev ew =
     let at = read_at xs i x (pos 0) h ex in
     let small = All-get_or IsSmallSum xs i (pos 0) h all in
@@ -19,19 +21,26 @@ read_is xs i x v w h all ex ev ew =
     (e, rw e small.small)
 
 pub loop-sum-init : goal.loop-sum-init
-loop-sum-init g c = record { value = c.zero-total.ensures ∙ sym total-none; small = rw c.zero-total.ensures (omega arith) }
+loop-sum-init g c =
+    record { value = c.zero-total.ensures ∙ sym total-none; small = rw c.zero-total.ensures (omega arith) }
 
 pub plus-total-requires : goal.plus-total-requires
 plus-total-requires g c =
-    let r = read_is c.args.sums.now c.loop-sum.sum-index c.sum-item.result c.value.result c.of.result (omega arith) c.requires.small c.sum-item.is c.value.ensures.value c.of.ensures in
+    let r = read_is c.args.sums.now c.loop-sum.sum-index c.sum-item.result c.value.result c.of.result (omega arith)
+    c.requires.small c.sum-item.is c.value.ensures.value c.of.ensures in
     omega (arith, r.1, abs-sum c.loop-sum.total c.of.result, c.loop-sum.invariant.small, c.requires.few)
 
 pub loop-sum-preserved : goal.loop-sum-preserved
 loop-sum-preserved g c =
-    let r = read_is c.args.sums.now c.loop-sum.sum-index c.sum-item.result c.value.result c.of.result (omega arith) c.requires.small c.sum-item.is c.value.ensures.value c.of.ensures in
+    let r = read_is c.args.sums.now c.loop-sum.sum-index c.sum-item.result c.value.result c.of.result (omega arith)
+    c.requires.small c.sum-item.is c.value.ensures.value c.of.ensures in
     record {
-      value = c.plus-total.ensures ∙ ap (λ (x : ℤ). x +ℤ c.of.result) c.loop-sum.invariant.value ∙ ap (λ (x : ℤ). total (take c.loop-sum.sum-index c.args.sums.now) +ℤ x) r.0 ∙ sym (total_more c.args.sums.now c.loop-sum.sum-index (pos 0) (omega arith));
-      small = rw c.plus-total.ensures (omega (arith, r.1, abs-sum c.loop-sum.total c.of.result, c.loop-sum.invariant.small));
+      value = c.plus-total.ensures ∙ ap (λ (x : ℤ). x +ℤ c.of.result) c.loop-sum.invariant.value
+          ∙ ap (λ (x : ℤ). total (take c.loop-sum.sum-index c.args.sums.now) +ℤ x) r.0
+          ∙ sym (total_more c.args.sums.now c.loop-sum.sum-index (pos 0) (omega arith));
+      small =
+          rw c.plus-total.ensures
+          (omega (arith, r.1, abs-sum c.loop-sum.total c.of.result, c.loop-sum.invariant.small));
     }
 
 pub returns : goal.returns

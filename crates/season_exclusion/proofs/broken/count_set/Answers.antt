@@ -13,9 +13,11 @@ loop-flag-preserved c =
     let flags = c.args.flags.now in
     let e = c.loop-flag.flag-index in
     let f : ℕ → ℕ = λ k. bit (get_or flags k false) in
-    let added : c.from-count.result ≡ bit (get_or flags e false) = bit_from c.from-count.result (get_or flags e false) c.from-count.ensures in
+    let added : c.from-count.result ≡ bit (get_or flags e false) =
+    bit_from c.from-count.result (get_or flags e false) c.from-count.ensures in
     record {
-      value = ap (λ (n : ℕ). n + c.from-count.result) c.loop-flag.invariant.value ∙ ap (λ (n : ℕ). count_sum e f + n) added ∙ sym (count_sum_more e f);
+      value = ap (λ (n : ℕ). n + c.from-count.result) c.loop-flag.invariant.value
+          ∙ ap (λ (n : ℕ). count_sum e f + n) added ∙ sym (count_sum_more e f);
       small = omega (arith, added, bit_small (get_or flags e false));
     }
 

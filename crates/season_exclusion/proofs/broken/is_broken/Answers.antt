@@ -11,8 +11,10 @@ returns c =
     let second = c.run-second.result in
     let tested : IsTested inst starts c.args.e x first second c.meets_in.result = record {
       exclusion = c.exclusion-exclusion.ensures.value;
-      first_window = IsWindowOf-run inst starts x.first first (omega (arith, c.exclusion-exclusion.ensures.first)) c.run-first.ensures.periods;
-      second_window = IsWindowOf-run inst starts x.second second (omega (arith, c.exclusion-exclusion.ensures.second)) c.run-second.ensures.periods;
+      first_window = IsWindowOf-run inst starts x.first first (omega (arith, c.exclusion-exclusion.ensures.first))
+          c.run-first.ensures.periods;
+      second_window = IsWindowOf-run inst starts x.second second (omega (arith, c.exclusion-exclusion.ensures.second))
+          c.run-second.ensures.periods;
       horizon = c.run-first.ensures.horizon;
       found = c.meets_in.ensures.found;
       none = c.meets_in.ensures.none;

@@ -1,7 +1,8 @@
 use Rattle.std.proofs.Common.{◌≡◌, ◌≤◌, get_or, length, arith}
 use Rattle.text_lines.proofs.NumeralLemmas.{no_zero_in_front, numeral_found, numeral_none}
 use Rattle.text_lines.proofs.number.numeral.Goals as goal
-use Rattle.text_lines.proofs.number.numeral.Goals.{else-bytes-gt1-via-then-bytes-gt1+else-bytes-eq48, else-bytes-gt1-via-else-bytes-gt1}
+use Rattle.text_lines.proofs.number.numeral.Goals.{else-bytes-gt1-via-then-bytes-gt1+else-bytes-eq48}
+use Rattle.text_lines.proofs.number.numeral.Goals.{else-bytes-gt1-via-else-bytes-gt1}
 
 pub returns-then-bytes-eq48-clause-none : goal.returns-then-bytes-eq48-clause-none
 returns-then-bytes-eq48-clause-none c = λ n e l.
@@ -14,7 +15,9 @@ returns-clause-found c =
       | else-bytes-gt1-via-then-bytes-gt1+else-bytes-eq48 w ↦ λ z. absurd (w.if-bytes-eq48.false z)
       | else-bytes-gt1-via-else-bytes-gt1 w ↦ λ z. w.if-bytes-gt1.false
     ] in
-    numeral_found bytes c.args.most c.value_of_digits.result c.requires front c.value_of_digits.ensures.found c.value_of_digits.ensures.digits c.value_of_digits.ensures.few
+    numeral_found bytes c.args.most c.value_of_digits.result c.requires front c.value_of_digits.ensures.found
+    c.value_of_digits.ensures.digits c.value_of_digits.ensures.few
 
 pub returns-clause-none : goal.returns-clause-none
-returns-clause-none c = numeral_none c.args.bytes.now c.args.most c.value_of_digits.result c.requires c.value_of_digits.ensures.none
+returns-clause-none c =
+    numeral_none c.args.bytes.now c.args.most c.value_of_digits.result c.requires c.value_of_digits.ensures.none

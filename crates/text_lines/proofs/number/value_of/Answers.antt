@@ -6,19 +6,32 @@ use Rattle.text_lines.proofs.number.value_of.Goals as goal
 
 pub overflow_mul-value : goal.overflow_mul-value
 overflow_mul-value c =
-    omega (arith, (next_value 19 c.args.digits.now _ _ c.loop-digit-test.true c.requires.few c.requires.digits c.loop-digit.invariant).small)
+    omega (
+      arith,
+      (next_value 38 c.args.digits.now _ _ c.loop-digit-test.true c.requires.few c.requires.digits
+          c.loop-digit.invariant).small,
+    )
 
 pub overflow_sub-digit : goal.overflow_sub-digit
 overflow_sub-digit c =
-    (next_value 19 c.args.digits.now _ _ c.loop-digit-test.true c.requires.few c.requires.digits c.loop-digit.invariant).from
+    (next_value 38 c.args.digits.now _ _ c.loop-digit-test.true c.requires.few c.requires.digits
+    c.loop-digit.invariant).from
 
 pub overflow_add-value : goal.overflow_add-value
 overflow_add-value c =
-    omega (arith, (next_value 19 c.args.digits.now _ _ c.loop-digit-test.true c.requires.few c.requires.digits c.loop-digit.invariant).small)
+    omega (
+      arith,
+      (next_value 38 c.args.digits.now _ _ c.loop-digit-test.true c.requires.few c.requires.digits
+          c.loop-digit.invariant).small,
+    )
 
 pub loop-digit-preserved : goal.loop-digit-preserved
 loop-digit-preserved c =
-    omega (arith, (next_value 19 c.args.digits.now _ _ c.loop-digit-test.true c.requires.few c.requires.digits c.loop-digit.invariant).is)
+    omega (
+      arith,
+      (next_value 38 c.args.digits.now _ _ c.loop-digit-test.true c.requires.few c.requires.digits
+          c.loop-digit.invariant).is,
+    )
 
 pub returns : goal.returns
 returns c =

@@ -1,25 +1,8 @@
-use Rattle.std.proofs.Common.{arith, rules, ◌≡◌, length}
-use Rattle.std.specs.Str.Parse.{AllDigits}
-use Rattle.std.proofs.lemmas.Bool.{false≢true}
-use Rattle.text_lines.proofs.DigitLemmas.{each-digits, digits-each, digits_value-small}
+use Rattle.std.proofs.Common.{◌<◌, ◌≤◌, ◌^◌, arith}
+use Rattle.std.proofs.Math.Nat.{pow-le-pow_right}
 use Rattle.text_lines.proofs.number.value_of_digits.Goals as goal
-use Rattle.text_lines.proofs.number.value_of_digits.Goals.{then-is_empty-via-then-is_empty, then-is_empty-via-else-is_empty+then-bytes-most, then-is_empty-via-else-is_empty+else-bytes-most+then-not-are_digits}
 
-pub returns-then-is_empty-clause-none : goal.returns-then-is_empty-clause-none
-returns-then-is_empty-clause-none c = λ h few.
-    elim c.then-is_empty.branch [
-      | then-is_empty-via-then-is_empty w ↦ let none : length c.args.bytes.now ≡ 0 = search rules in omega (arith, none, h.0)
-      | then-is_empty-via-else-is_empty+then-bytes-most w ↦ omega (arith, w.if-bytes-most.true, few)
-      | then-is_empty-via-else-is_empty+else-bytes-most+then-not-are_digits w ↦ false≢true (w.if-not-are_digits.ensures.1 (digits-each c.args.bytes.now h.1))
-    ]
-
-pub value_of-requires-clause-digits : goal.value_of-requires-clause-digits
-value_of-requires-clause-digits c = each-digits c.args.bytes.now (c.if-not-are_digits.ensures.0 (search rules))
-
-pub returns-clause-digits : goal.returns-clause-digits
-returns-clause-digits c = (search rules, each-digits c.args.bytes.now (c.if-not-are_digits.ensures.0 (search rules)))
-
-pub returns-clause-small : goal.returns-clause-small
-returns-clause-small c =
-    let digits : AllDigits 10 c.args.bytes.now = each-digits c.args.bytes.now (c.if-not-are_digits.ensures.0 (search rules)) in
-    omega (arith, c.value_of.ensures, digits_value-small c.args.most c.args.bytes.now digits c.if-bytes-most.false)
+pub overflow_cast-result : goal.overflow_cast-result
+overflow_cast-result c =
+    let most : 10 ^ c.args.most ≤ 10 ^ 19 = pow-le-pow_right {n = 10} (omega arith) c.requires in
+    omega (arith, most, c.in_ok-n.ensures.small)

@@ -6,5 +6,10 @@ use Rattle.instance_model.proofs.instance.Instance.tmax.Goals as goal
 
 pub returns-clause-few : goal.returns-clause-few
 returns-clause-few c =
-    let e : c.start_count.result ≡ tmax c.args.self.now c.args.i = c.start_count.ensures.value ∙ ap (λ (t : Tables). tmax t c.args.i) c.self.view_is in
-    omega (arith, e, tmax_small c.args.self.now c.args.i (subst IsFitting c.self.view_is c.self.invariant.fits) c.requires)
+    let e : c.start_count.result ≡ tmax c.args.self.now c.args.i =
+    c.start_count.ensures.value ∙ ap (λ (t : Tables). tmax t c.args.i) c.self.view_is in
+    omega (
+      arith,
+      e,
+      tmax_small c.args.self.now c.args.i (subst IsFitting c.self.view_is c.self.invariant.fits) c.requires,
+    )

@@ -6,4 +6,7 @@ use Rattle.instance_model.proofs.offsets.Offsets.of.Given as goal
 
 abbrev pub invariant-loop-i : goal.invariant-loop-i
 invariant-loop-i l =
-    (l.first ≡ count_sum l.i (entries_of (tables_of l.parts) (column_at l.before.items))) × (l.first ≤ l.i * 268_435_456) × (length l.places.items ≡ l.i) × ((j : ℕ) → j < l.i → AreRowPlaces (tables_of l.parts) (column_at l.before.items) j (slice_index_or (rows_of l.places.items) j []))
+    (l.first ≡ count_sum l.i (entries_of (tables_of l.parts) (column_at l.before.items)))
+    × (l.first ≤ l.i * 268_435_456) × (length l.places.items ≡ l.i)
+    × ((j : ℕ) → j < l.i → AreRowPlaces (tables_of l.parts) (column_at l.before.items) j (slice_index_or
+    (rows_of l.places.items) j []))

@@ -14,5 +14,6 @@ returns-in_default c = λ at end.
     let kept = kept_of c.args.self.now in
     sym (
     ap (λ r. keep_rows c.args.spot (key at end c.args.text) r kept) c.requires
-    ∙ other_key c.args.spot at end c.args.text kept d.not-Resources d.not-Seasons d.not-Interventions d.not-Exclusions d.not-Workload d.not-WorkloadResource d.not-WorkloadPeriod d.not-Risk d.not-RiskPeriod
+    ∙ other_key c.args.spot at end c.args.text kept d.not-Resources d.not-Seasons d.not-Interventions d.not-Exclusions
+    d.not-Workload d.not-WorkloadResource d.not-WorkloadPeriod d.not-Risk d.not-RiskPeriod
     )

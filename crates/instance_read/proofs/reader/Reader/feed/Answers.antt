@@ -11,4 +11,5 @@ pub returns-clause-read : goal.returns-clause-read
 returns-clause-read c = λ limits bytes h.
     let r = c.args.self.now in
     c.in_ok-self.ensures.follows limits (bytes ++ c.args.piece.now)
-    (pushed_follows r.fault limits r.pull c.push.new.self r.walk r.keeper bytes c.args.piece.now (search rules) (λ given s. c.in_ok-push.ensures.pushed bytes given s) h)
+    (pushed_follows r.fault limits r.pull c.push.new.self r.walk r.keeper bytes c.args.piece.now (search rules)
+    (λ given s. c.in_ok-push.ensures.pushed bytes given s) h)

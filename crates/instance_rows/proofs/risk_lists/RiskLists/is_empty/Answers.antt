@@ -4,5 +4,6 @@ use Rattle.instance_rows.proofs.risk_lists.RiskLists.is_empty.Goals as goal
 
 pub returns : goal.returns
 returns c =
-    let same : length c.self.inside.heads.items ≡ length c.args.self.now = omega (arith, ap length c.self.view_is, length-lists_of c.self.inside.heads.items c.self.inside.numbers.items) in
+    let same : length c.self.inside.heads.items ≡ length c.args.self.now =
+    omega (arith, ap length c.self.view_is, length-lists_of c.self.inside.heads.items c.self.inside.numbers.items) in
     c.is_empty.ensures ∙ ap (λ n. n == 0) (omega (arith, same))

@@ -3,4 +3,5 @@ use Rattle.instance_rows.proofs.RiskListLemmas.{length-lists_of}
 use Rattle.instance_rows.proofs.risk_lists.RiskLists.len.Goals as goal
 
 pub returns : goal.returns
-returns c = omega (arith, ap length c.self.view_is, length-lists_of c.self.inside.heads.items c.self.inside.numbers.items)
+returns c =
+    omega (arith, ap length c.self.view_is, length-lists_of c.self.inside.heads.items c.self.inside.numbers.items)

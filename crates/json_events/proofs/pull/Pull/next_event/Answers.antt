@@ -6,5 +6,6 @@ use Rattle.json_events.proofs.pull.Pull.next_event.Goals as goal
 
 pub returns-in-Used-clause-more : goal.returns-in-Used-clause-more
 returns-in-Used-clause-more c stream given h _ =
-    let step = subst (λ (s : Step). Steps (Ok s) c.advance.new.self stream given false) c.in-Used.is (c.in_ok-event.ensures.steps stream given false h) in
+    let step = subst (λ (s : Step). Steps (Ok s) c.advance.new.self stream given false) c.in-Used.is
+    (c.in_ok-event.ensures.steps stream given false h) in
     used_count c.advance.new.self stream given step.0

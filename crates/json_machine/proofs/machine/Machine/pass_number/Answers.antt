@@ -6,7 +6,8 @@ use Rattle.json_machine.specs.declared.machine.Mode.TheVariants.{Want, First}
 use Rattle.json_machine.proofs.PlainNumbers.{number_taken}
 use Rattle.json_machine.proofs.machine.Machine.pass_number.Goals as goal
 
-value_mode : (mode : Mode) (at : ℕ) (token : List ℕ) → (mode ≡ Want) ⊎ (mode ≡ First) → (mode_of mode at token ≡ machine.want) ⊎ (mode_of mode at token ≡ machine.first)
+value_mode : (mode : Mode) (at : ℕ) (token : List ℕ) → (mode ≡ Want) ⊎ (mode ≡ First)
+    → (mode_of mode at token ≡ machine.want) ⊎ (mode_of mode at token ≡ machine.first)
 value_mode mode at token (inl e) = inl (ap (λ (m : Mode). mode_of m at token) e)
 value_mode mode at token (inr e) = inr (ap (λ (m : Mode). mode_of m at token) e)
 
@@ -15,5 +16,7 @@ returns-clause-takes c k t =
     let m = c.args.self.now in
     let n = c.args.length in
     let is = c.requires in
-    number_taken k n (levels_of m.levels.items) (mode_of m.mode m.at m.token.items) (mode_of c.in-Some.behind m.at m.token.items) c.args.bytes.now (take n c.args.bytes.now) is.to
-    (value_mode m.mode m.at m.token.items (search rules)) is.begins is.within is.comma (c.in-Some.ensures.moves (k + n) m.at m.token.items) refl
+    number_taken k n (levels_of m.levels.items) (mode_of m.mode m.at m.token.items)
+    (mode_of c.in-Some.behind m.at m.token.items) c.args.bytes.now (take n c.args.bytes.now) is.to
+    (value_mode m.mode m.at m.token.items (search rules)) is.begins is.within is.comma
+    (c.in-Some.ensures.moves (k + n) m.at m.token.items) refl

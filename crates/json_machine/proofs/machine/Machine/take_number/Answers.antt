@@ -7,7 +7,8 @@ use Rattle.json_machine.specs.declared.machine.Mode.TheVariants.{Want, First}
 use Rattle.json_machine.proofs.PlainNumbers.{number_taken}
 use Rattle.json_machine.proofs.machine.Machine.take_number.Goals as goal
 
-value_mode : (mode : Mode) (at : ℕ) (token : List ℕ) → (mode ≡ Want) ⊎ (mode ≡ First) → (mode_of mode at token ≡ machine.want) ⊎ (mode_of mode at token ≡ machine.first)
+value_mode : (mode : Mode) (at : ℕ) (token : List ℕ) → (mode ≡ Want) ⊎ (mode ≡ First)
+    → (mode_of mode at token ≡ machine.want) ⊎ (mode_of mode at token ≡ machine.first)
 value_mode mode at token (inl e) = inl (ap (λ (m : Mode). mode_of m at token) e)
 value_mode mode at token (inr e) = inr (ap (λ (m : Mode). mode_of m at token) e)
 
@@ -15,5 +16,8 @@ pub returns-clause-takes : goal.returns-clause-takes
 returns-clause-takes c =
     let m = c.args.self.now in
     let run = c.in-Some-number_run.run' in
-    number_taken c.args.k run.length (levels_of m.levels.items) (mode_of m.mode m.at m.token.items) (mode_of c.in-Some.behind m.at m.token.items) c.args.bytes.now c.in_ok-token.token.items (phase_of run.phase)
-    (value_mode m.mode m.at m.token.items (search rules)) c.in-Some-number_run.ensures (omega (arith, c.in-Some-number_run.ensures.number.goes_on.within)) (omega arith) (c.in-Some.ensures.moves (c.args.k + run.length) m.at m.token.items) (search rules)
+    number_taken c.args.k run.length (levels_of m.levels.items) (mode_of m.mode m.at m.token.items)
+    (mode_of c.in-Some.behind m.at m.token.items) c.args.bytes.now c.in_ok-token.token.items (phase_of run.phase)
+    (value_mode m.mode m.at m.token.items (search rules)) c.in-Some-number_run.ensures
+    (omega (arith, c.in-Some-number_run.ensures.number.goes_on.within)) (omega arith)
+    (c.in-Some.ensures.moves (c.args.k + run.length) m.at m.token.items) (search rules)

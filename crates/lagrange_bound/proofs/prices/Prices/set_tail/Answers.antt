@@ -5,4 +5,5 @@ use Rattle.lagrange_bound.proofs.prices.Prices.set_tail.Goals as goal
 
 pub returns-clause-in_range : goal.returns-clause-in_range
 returns-clause-in_range c =
-    tail_in_range c.args.inst.now _ c.args.t c.args.tail (subst (IsPriceList c.args.inst.now) (sym c.self.view_is) c.requires.prices) c.requires.from c.requires.to c.requires.tail
+    tail_in_range c.args.inst.now _ c.args.t c.args.tail (subst (IsPriceList c.args.inst.now) (sym c.self.view_is)
+    c.requires.prices) c.requires.from c.requires.to c.requires.tail

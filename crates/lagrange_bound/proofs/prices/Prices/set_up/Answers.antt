@@ -5,4 +5,5 @@ use Rattle.lagrange_bound.proofs.prices.Prices.set_up.Goals as goal
 
 pub returns-clause-in_range : goal.returns-clause-in_range
 returns-clause-in_range c =
-    up_in_range c.args.inst.now _ c.place_in-place.result c.args.v (subst (IsPriceList c.args.inst.now) (sym c.self.view_is) c.requires.prices) c.requires.small
+    up_in_range c.args.inst.now _ c.place_in-place.result c.args.v
+    (subst (IsPriceList c.args.inst.now) (sym c.self.view_is) c.requires.prices) c.requires.small

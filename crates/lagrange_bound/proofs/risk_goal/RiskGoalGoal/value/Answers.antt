@@ -9,7 +9,8 @@ use Rattle.lagrange_bound.proofs.risk_goal.RiskGoalGoal.value.Goals as goal
 
 pub plan_values-requires-clause-allowed : goal.plan_values-requires-clause-allowed
 plan_values-requires-clause-allowed c =
-    subst (RunsAreAllowed c.args.inst.now) (sym (c.as_slice.ensures.value ∙ c.in_ok-plan.ensures)) (RunsAreAllowed-starts c.args.inst.now c.args.starts.now c.requires)
+    subst (RunsAreAllowed c.args.inst.now) (sym (c.as_slice.ensures.value ∙ c.in_ok-plan.ensures))
+    (RunsAreAllowed-starts c.args.inst.now c.args.starts.now c.requires)
 
 pub returns-clause-value : goal.returns-clause-value
 unfolding values_of

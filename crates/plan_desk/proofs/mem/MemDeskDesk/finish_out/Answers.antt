@@ -9,6 +9,7 @@ invariant_of-self c =
     record {
       taken_at = c.self.invariant.taken_at;
       open_at = tt;
-      last_at = subst (IsLastAt s.files.items) (sym c.fail.ensures.kept) (open_within s.files.items s.writing c.in-Some.at c.in-Some.is c.self.invariant.open_at);
+      last_at = subst (IsLastAt s.files.items) (sym c.fail.ensures.kept)
+          (open_within s.files.items s.writing c.in-Some.at c.in-Some.is c.self.invariant.open_at);
       some_most = c.self.invariant.some_most;
     }

@@ -30,13 +30,16 @@ invariant_of-self-in-Err c =
     record {
       taken_at = tt;
       open_at = tt;
-      last_at = subst (IsLastAt c.put.new.files.items) (sym c.fail-in-Err.ensures.kept) (c.named-fault-in-Err.ensures.kept c.put.new.files.items);
+      last_at = subst (IsLastAt c.put.new.files.items) (sym c.fail-in-Err.ensures.kept)
+          (c.named-fault-in-Err.ensures.kept c.put.new.files.items);
       some_most = c.self.invariant.some_most;
     }
 
 pub returns-in-Ok-clause-call : goal.returns-in-Ok-clause-call
 returns-in-Ok-clause-call c =
     let s = c.self.inside in
-    puts_out s.files.items c.put.new.files.items c.in-Ok.at c.args.name.now s.taken s.writing s.spoken.items s.faults s.last _
-    (subst (λ (l : List ℕ). IsPut s.files.items c.put.new.files.items c.in-Ok.at (record { name = c.args.name.now; bytes = l; put_out = true })) c.new.ensures.items c.in-Ok.ensures.ok)
+    puts_out s.files.items c.put.new.files.items c.in-Ok.at c.args.name.now s.taken s.writing
+    s.spoken.items s.faults s.last _
+    (subst (λ (l : List ℕ). IsPut s.files.items c.put.new.files.items c.in-Ok.at
+    (record { name = c.args.name.now; bytes = l; put_out = true })) c.new.ensures.items c.in-Ok.ensures.ok)
     c.self.invariant.last_at (ap mem_shows c.self.view_is)

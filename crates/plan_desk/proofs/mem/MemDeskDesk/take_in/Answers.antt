@@ -10,7 +10,9 @@ use Rattle.plan_desk.proofs.mem.MemDeskDesk.take_in.Goals as goal
 pub invariant_of-self : goal.invariant_of-self
 invariant_of-self c =
     let s = c.self.inside in
-    let at : IsAt s.files.items c.in-Some.file c.args.name.now = subst (λ (l : List Stored). IsAt l c.in-Some.file c.args.name.now) c.deref-then-not-is_listed.ensures.value c.in-Some.ensures in
+    let at : IsAt s.files.items c.in-Some.file c.args.name.now = subst
+    (λ (l : List Stored). IsAt l c.in-Some.file c.args.name.now)
+    c.deref-then-not-is_listed.ensures.value c.in-Some.ensures in
     record {
       taken_at = (at_own s.files.items c.in-Some.file c.args.name.now at, omega arith);
       open_at = c.self.invariant.open_at;
@@ -31,14 +33,21 @@ invariant_of-self-2 c =
 pub returns-in-Some-clause-call : goal.returns-in-Some-clause-call
 returns-in-Some-clause-call c =
     let s = c.self.inside in
-    let at : IsAt s.files.items c.in-Some.file c.args.name.now = subst (λ (l : List Stored). IsAt l c.in-Some.file c.args.name.now) c.deref-then-not-is_listed.ensures.value c.in-Some.ensures in
-    takes_in s.files.items c.in-Some.file c.args.name.now s.taken s.writing s.spoken.items s.faults (option_map (fault_of s.files.items) s.last) _ at (ap mem_shows c.self.view_is)
+    let at : IsAt s.files.items c.in-Some.file c.args.name.now = subst
+    (λ (l : List Stored). IsAt l c.in-Some.file c.args.name.now)
+    c.deref-then-not-is_listed.ensures.value c.in-Some.ensures in
+    takes_in s.files.items c.in-Some.file c.args.name.now s.taken s.writing s.spoken.items s.faults
+    (option_map (fault_of s.files.items) s.last) _ at (ap mem_shows c.self.view_is)
 
 pub returns-in-Some-clause-exact : goal.returns-in-Some-clause-exact
 returns-in-Some-clause-exact c =
     let s = c.self.inside in
-    let at : IsAt s.files.items c.in-Some.file c.args.name.now = subst (λ (l : List Stored). IsAt l c.in-Some.file c.args.name.now) c.deref-then-not-is_listed.ensures.value c.in-Some.ensures in
+    let at : IsAt s.files.items c.in-Some.file c.args.name.now = subst
+    (λ (l : List Stored). IsAt l c.in-Some.file c.args.name.now)
+    c.deref-then-not-is_listed.ensures.value c.in-Some.ensures in
     let files : s.files.items ≡ c.args.self.now.files = ap (λ (d : MemState). d.files) c.self.view_is in
-    let held : held_by c.args.self.now.files c.args.name.now ≡ Some (file_at s.files.items c.in-Some.file).bytes = ap (λ (l : List Stored). held_by l c.args.name.now) (sym files) ∙ first_at (λ f. Some f.bytes) s.files.items c.in-Some.file c.args.name.now at in
+    let held : held_by c.args.self.now.files c.args.name.now ≡ Some (file_at s.files.items c.in-Some.file).bytes =
+    ap (λ (l : List Stored). held_by l c.args.name.now) (sym files)
+    ∙ first_at (λ f. Some f.bytes) s.files.items c.in-Some.file c.args.name.now at in
     let due : is_due c.args.self.now DeskCall.TakeIn ≡ false = search rules in
     rw (due, held) refl

@@ -9,4 +9,5 @@ pub invariant_of-result : goal.invariant_of-result
 invariant_of-result g c =
     let made = IsTrailOf-make c.args.inst.now c.args.starts.now c.requires in
     let over = subst (λ (b : Board). IsTrailOf b.instance [] b.starts) (sym c.in_ok-board.ensures) made in
-    subst (λ (t : List Step × ℕ). IsTrailOf c.in_ok-board.board.instance t.0 c.in_ok-board.board.starts) (sym c.make-2.ensures) over
+    subst (λ (t : List Step × ℕ). IsTrailOf c.in_ok-board.board.instance t.0 c.in_ok-board.board.starts)
+    (sym c.make-2.ensures) over

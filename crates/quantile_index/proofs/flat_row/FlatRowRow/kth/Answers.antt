@@ -14,7 +14,8 @@ pub returns-clause-kth : goal.returns-clause-kth
 returns-clause-kth g c =
     let entries = c.self.inside.entries.items in
     let count = length_ranked _ c.self.inside.sums.items c.self.invariant.ranking.bag in
-    let within : c.args.m - 1 < length entries = omega (arith, ap length c.self.view_is, c.requires.first, c.requires.last) in
+    let within : c.args.m - 1 < length entries =
+    omega (arith, ap length c.self.view_is, c.requires.first, c.requires.last) in
     let at = sum_at_place entries (c.args.m - 1) c.index.result.now within c.index.ensures in
     rw (sym c.self.view_is) (kth_at _ _ c.args.m _ c.self.invariant.ranking c.requires.first at)
 

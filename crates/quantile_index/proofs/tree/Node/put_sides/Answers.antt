@@ -13,5 +13,6 @@ returns-clause-sound c =
       height = omega arith;
       size = omega arith;
       balanced = c.requires.balanced;
-      low = low_same _ _ _ _ (low_join _ _ _ _ c.height.ensures.low c.height-2.ensures.low c.requires.balanced) (omega arith) count;
+      low = low_same _ _ _ _ (low_join _ _ _ _ c.height.ensures.low c.height-2.ensures.low c.requires.balanced)
+          (omega arith) count;
     }

@@ -14,7 +14,8 @@ change_rows-further-requires-clause-rows c =
 pub plus-self-inside-requires : goal.plus-self-inside-requires
 plus-self-inside-requires c =
     let over = subst (λ (v : BoardLoads). IsOver c.args.inst.now v) (sym c.self.view_is) c.requires.over in
-    violation_fits c.args.inst.now _ c.change_rows-further.result c.fits.ensures over c.change_rows-further.ensures.small
+    violation_fits c.args.inst.now _ c.change_rows-further.result c.fits.ensures over
+    c.change_rows-further.ensures.small
 
 pub returns-clause-over : goal.returns-clause-over
 returns-clause-over c =
@@ -27,12 +28,26 @@ returns-clause-over c =
     let further = c.change_rows-further.result in
     let violation = c.plus-self-inside.result in
     let over = subst (λ (v : BoardLoads). IsOver inst v) (sym c.self.view_is) c.requires.over in
-    let before = subst (λ (v : BoardLoads). start_of v.board i ≡ start_before change s) (sym c.self.view_is) c.requires.start in
+    let before =
+    subst (λ (v : BoardLoads). start_of v.board i ≡ start_before change s) (sym c.self.view_is) c.requires.start in
     let lent = c.deref_mut.ensures.value in
-    let changed = subst (λ (x : List (List ℤ)). AreRowsChanged inst i s change x rows) lent c.change_rows-further.ensures.changed in
-    let gap = subst (λ (x : List (List ℤ)). rows_gap inst rows ≡ rows_gap inst x +ℤ further) lent c.change_rows-further.ensures.gap in
+    let changed =
+    subst (λ (x : List (List ℤ)). AreRowsChanged inst i s change x rows) lent c.change_rows-further.ensures.changed in
+    let gap = subst (λ (x : List (List ℤ)). rows_gap inst rows ≡ rows_gap inst x +ℤ further) lent
+    c.change_rows-further.ensures.gap in
     let written = with_items_is c.self.inside.rows rows (omega (arith, changed.each, c.self.inside.rows.ok.0)) in
     let replaced = IsReplaced-by inst i s change (start_of board i) before c.requires.allowed in
-    let after = IsOver-after inst _ i s change (start_after change s) rows further violation over c.requires.number replaced changed gap c.plus-self-inside.ensures in
-    let kept = subst (λ (x : List (List ℤ)). IsOver inst (record { board = set board i (start_after change s); loads = x; violation = violation })) (sym written) after in
-    subst (λ (o : Option ℕ). IsOver inst (record { board = set board i o; loads = (Rattle.std.specs.Vec.with_items c.self.inside.rows rows).items; violation = violation })) (sym c.start.ensures) kept
+    let after = IsOver-after inst _ i s change (start_after change s) rows further violation over c.requires.number
+    replaced changed gap c.plus-self-inside.ensures in
+    let kept = subst
+    (λ (x : List (List ℤ)). IsOver inst (record {
+      board = set board i (start_after change s);
+      loads = x;
+      violation = violation;
+    })) (sym written) after in
+    subst (λ (o : Option ℕ). IsOver inst
+    (record {
+      board = set board i o;
+      loads = (Rattle.std.specs.Vec.with_items c.self.inside.rows rows).items;
+      violation = violation;
+    })) (sym c.start.ensures) kept

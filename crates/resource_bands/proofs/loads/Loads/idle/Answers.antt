@@ -8,4 +8,5 @@ returns-clause-over c =
     let inst = c.args.inst.now in
     let none : Option ℕ = None in
     let board : c.in_ok-board.board.items ≡ replicate (length inst.names) none = search rules in
-    IsOver-idle inst c.in_ok-board.board.items c.in_ok-rows.rows.items c.gap_of_rows-violation.result board c.in_ok-rows.ensures (c.gap_of_rows-violation.ensures ∙ ap (rows_gap inst) c.deref.ensures.value)
+    IsOver-idle inst c.in_ok-board.board.items c.in_ok-rows.rows.items c.gap_of_rows-violation.result board
+    c.in_ok-rows.ensures (c.gap_of_rows-violation.ensures ∙ ap (rows_gap inst) c.deref.ensures.value)

@@ -7,17 +7,28 @@ pub minus-requires : goal.minus-requires
 minus-requires g c =
     let a = part_of_small _ c.part-old.ensures.sound in
     let s = scored_small c.self.inside.periods.items c.self.inside.score c.self.invariant in
-    (exchange_small c.self.inside.score c.part-old.result c.part-old.result s (rw c.part-old.ensures.value a) (rw c.part-old.ensures.value a)).0
+    (exchange_small c.self.inside.score c.part-old.result c.part-old.result s (rw c.part-old.ensures.value a)
+    (rw c.part-old.ensures.value a)).0
 
 pub plus-self-inside-requires : goal.plus-self-inside-requires
 plus-self-inside-requires g c =
     let a = part_of_small _ c.part-old.ensures.sound in
     let b = part_of_small _ c.part-new.ensures.sound in
     let s = scored_small c.self.inside.periods.items c.self.inside.score c.self.invariant in
-    rw c.minus.ensures ((exchange_small c.self.inside.score c.part-old.result c.part-new.result s (rw c.part-old.ensures.value a) (rw c.part-new.ensures.value b)).1)
+    rw c.minus.ensures
+    ((exchange_small c.self.inside.score c.part-old.result c.part-new.result s (rw c.part-old.ensures.value a)
+    (rw c.part-new.ensures.value b)).1)
 
 pub invariant_of-self : goal.invariant_of-self
 invariant_of-self g c =
-    let within : c.args.t - 1 < length c.self.inside.periods.items = omega (arith, ap (λ (v : RiskState). length v.periods) c.self.view_is, c.requires.each, c.requires.can.from, c.requires.can.to) in
-    let s = IsScored-set c.self.inside.periods.items c.self.inside.score (c.args.t - 1) c.index_mut-period.result.now c.change.new.self c.part-old.result c.part-new.result c.self.invariant within c.index_mut-period.ensures.value c.part-old.ensures.value c.part-new.ensures.sound c.part-new.ensures.value in
+    let within : c.args.t - 1 < length c.self.inside.periods.items = omega (
+      arith,
+      ap (λ (v : RiskState). length v.periods) c.self.view_is,
+      c.requires.each,
+      c.requires.can.from,
+      c.requires.can.to,
+    ) in
+    let s = IsScored-set c.self.inside.periods.items c.self.inside.score (c.args.t - 1) c.index_mut-period.result.now
+    c.change.new.self c.part-old.result c.part-new.result c.self.invariant within c.index_mut-period.ensures.value
+    c.part-old.ensures.value c.part-new.ensures.sound c.part-new.ensures.value in
     rw (c.plus-self-inside.ensures, c.minus.ensures) s

@@ -9,4 +9,5 @@ pub change_run-requires-clause-allowed : goal.change_run-requires-clause-allowed
 unfolding RunsAreAllowed
 change_run-requires-clause-allowed g c =
     let e : get_or c.args.self.now.board c.args.i None ≡ Some c.in-Some.s = grind (arith, common_steps) in
-    subst (λ (o : Option ℕ). IfSome o (λ s. IsTrue (is_allowed c.args.inst.now c.args.i s))) e (c.requires.over.allowed c.args.i (omega (arith, c.requires.over.each, c.requires.number)))
+    subst (λ (o : Option ℕ). IfSome o (λ s. IsTrue (is_allowed c.args.inst.now c.args.i s))) e
+    (c.requires.over.allowed c.args.i (omega (arith, c.requires.over.each, c.requires.number)))

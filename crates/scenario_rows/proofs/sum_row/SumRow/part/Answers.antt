@@ -12,4 +12,7 @@ part-requires-clause-total g c =
 
 pub returns-clause-value : goal.returns-clause-value
 returns-clause-value g c =
-    part_made c.args.alpha c.args.rank c.len.result (g.R.Row.sums c.self.inside.row) c.value-quantile.result c.number.result c.part.result c.len.ensures.value (c.value-quantile.ensures.value ∙ c.kth.ensures.value) (c.number.ensures.value ∙ c.self.invariant.value) (omega (arith, c.value-quantile.ensures.small)) (omega (arith, c.number.ensures.small)) c.part.ensures ∙ ap (part_in c.args.alpha c.args.rank) c.self.view_is
+    part_made c.args.alpha c.args.rank c.len.result (g.R.Row.sums c.self.inside.row) c.value-quantile.result
+    c.number.result c.part.result c.len.ensures.value (c.value-quantile.ensures.value ∙ c.kth.ensures.value)
+    (c.number.ensures.value ∙ c.self.invariant.value) (omega (arith, c.value-quantile.ensures.small)) (omega
+    (arith, c.number.ensures.small)) c.part.ensures ∙ ap (part_in c.args.alpha c.args.rank) c.self.view_is

@@ -8,7 +8,8 @@ returns c = rw (← c.self.view_is) (record {
   first = search (rules, first_flaw-append);
   state = λ n.
       let none : c.or.result ≡ None = no_flaw c.args.at c.or.result (sym c.fault_at-self-inside.ensures ∙ n) in
-      let within : c.count-past.result ≡ None = no_later c.judge_number-judged.result.flaw c.count-past.result (sym c.or.ensures ∙ none) in
+      let within : c.count-past.result ≡ None =
+      no_later c.judge_number-judged.result.flaw c.count-past.result (sym c.or.ensures ∙ none) in
       let risks = c.count-past.ensures.risks within in
       let workloads = c.count-past.ensures.workloads within in
       search rules;
