@@ -21,6 +21,7 @@ impl Machine {
             ≡ machine.go (state_of self.new).levels (state_of self.new).mode }
         ensures sound { result ≡ Ok true → IsSound (k + 1) self.new }
         ensures left { result ≡ Ok false → self.new ≡ self.old }
+        ensures kept { OnErr result (SameMachine self.old self.new) }
     {
         match self.mode {
             Mode::Number(phase) => match phase.step(byte) {

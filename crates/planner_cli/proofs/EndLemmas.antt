@@ -1,5 +1,5 @@
 -- How a run comes to its end, and what follows of an end.
-use Rattle.std.proofs.Common.{◌≡◌, ◌≢◌, ℕ, ◌≤◌, ◌⊎◌, inl, inr, List, take, refl, sym, ◌∙◌, subst, arith}
+use Rattle.std.proofs.Common.{◌≡◌, ◌≢◌, ℕ, inl, inr, List, take, refl, sym, ◌∙◌, subst, arith}
 use Rattle.std.specs.Prelude.{Result, Ok, Err, OnOk, IfOk, IfErr}
 use Rattle.plan_desk.specs.Desk.{Shown}
 use Rattle.plan_desk.specs.Contents.{Says, OnlyReads, KeepsFiles}
@@ -12,7 +12,8 @@ use Rattle.planner_cli.specs.Ending.Behind.{of_command, unsaid as behind_unsaid,
 use Rattle.planner_cli.specs.declared.report.Report.{Report}
 use Rattle.planner_cli.specs.declared.refusal.Refusal.{Refusal}
 use Rattle.planner_cli.specs.declared.refusal.Refusal.TheVariants as refusal
-use Rattle.planner_cli.specs.Refusals.{KeepsLast, status_of, line_of, IsDueAs, SaysOrFails, SaysAnswer, SaysReport}
+use Rattle.planner_cli.specs.Refusals.{KeepsLast, status_of, line_of, IsDueAs, SaysOrFails, SaysAnswer, SaysRefused}
+use Rattle.planner_cli.specs.Refusals.{SaysReport}
 use Rattle.planner_cli.proofs.SayLemmas.{rose_before, says_before}
 use Rattle.planner_cli.proofs.FileLemmas.{Goes, OrUnread}
 
@@ -42,7 +43,7 @@ keeps_more old mid new first second =
 -- files were read, and then what is due was said, or saying it failed
 pub said_ends : (Due : Shown → Answer → Type 0) (old mid new : Shown) (due : ℕ) (text : List ℕ) (status : ℕ)
     → (Goes mid new → Due mid (reply due text) → Due new (reply due text)) → OnlyReads old mid → KeepsFiles mid new
-    → (due ≢ 7 → due ≢ 11 → mid.last ≡ old.last) → Due mid (reply due text) → SaysOrFails due text mid new status
+    → (due ≢ 7 → mid.last ≡ old.last) → Due mid (reply due text) → SaysOrFails due text mid new status
     → Ends Due old new status
 said_ends Due old mid new due text status later reads keeps quiet is (inl all) =
     done status
@@ -52,7 +53,7 @@ said_ends Due old mid new due text status later reads keeps quiet is (inl all) =
       status_is = all.status_is;
       writes = keeps.output ∙ reads.output;
       says = says_before old mid new text reads.said all.says;
-      quiet = λ a b c. all.same ∙ quiet (λ e. a (all.status_is ∙ e)) (λ e. c (all.status_is ∙ e));
+      quiet = λ a b. all.same ∙ quiet (λ e. a (all.status_is ∙ e));
     })
 said_ends Due old mid new due text status later reads keeps quiet is (inr some) =
     subst (λ (n : ℕ). Ends Due old new n) (sym some.status_is)
@@ -62,7 +63,7 @@ said_ends Due old mid new due text status later reads keeps quiet is (inr some) 
       due = is;
       silent = reads.said;
       later = reads.later;
-      quiet = λ a b c. quiet a c;
+      quiet = λ a b. quiet a;
       writes = keeps.output ∙ reads.output;
       part = some.part;
       within = some.within;
@@ -78,18 +79,18 @@ or_memory_later A B a f no_memory = no_memory
 abbrev pub Stays : (Shown → Answer → Type 0) → (mid new : Shown) → Type 0
 Stays Answers mid new = Goes mid new → (a : Answer) → Answers mid a → Answers new a
 
--- memory ran out
+-- memory ran out, where the last fault is what it was
 pub memory_ends : (Answers : Shown → Answer → Type 0) (old mid new : Shown) (status : ℕ) → OnlyReads old mid
-    → KeepsFiles mid new
+    → KeepsFiles mid new → mid.last ≡ old.last
     → SaysOrFails 11 memory_line mid new status → Ends (λ at. OrMemory (Answers at)) old new status
-memory_ends Answers old mid new status reads keeps says =
+memory_ends Answers old mid new status reads keeps same says =
     said_ends (λ at. OrMemory (Answers at)) old mid new 11 memory_line status (λ goes is. no_memory) reads keeps
-    (λ a b. absurd (b refl)) no_memory says
+    (λ a. same) no_memory says
 
 -- an answer of the command
 pub command_ends : (Answers : Shown → Answer → Type 0) (old mid new : Shown) (due : ℕ) (text : List ℕ) (status : ℕ)
     → Stays Answers mid new
-    → OnlyReads old mid → KeepsFiles mid new → (due ≢ 7 → due ≢ 11 → mid.last ≡ old.last) → Answers mid (reply due text)
+    → OnlyReads old mid → KeepsFiles mid new → (due ≢ 7 → mid.last ≡ old.last) → Answers mid (reply due text)
     → SaysOrFails due text mid new status → Ends (λ at. OrMemory (Answers at)) old new status
 command_ends Answers old mid new due text status stays reads keeps quiet is says =
     said_ends (λ at. OrMemory (Answers at)) old mid new due text status
@@ -101,9 +102,9 @@ pub answer_ends : (Answers : Shown → Answer → Type 0) (old mid new : Shown) 
     → OnlyReads old mid → KeepsFiles mid new
     → mid.last ≡ old.last → SaysAnswer (Answers mid) mid new status → Ends (λ at. OrMemory (Answers at)) old new status
 answer_ends Answers old mid new status stays reads keeps same (inl (due, text, is, says)) =
-    command_ends Answers old mid new due text status stays reads keeps (λ a b. same) is says
+    command_ends Answers old mid new due text status stays reads keeps (λ a. same) is says
 answer_ends Answers old mid new status stays reads keeps same (inr says) =
-    memory_ends Answers old mid new status reads keeps says
+    memory_ends Answers old mid new status reads keeps same says
 
 keeps_last : (old mid : Shown) (r : Refusal) → KeepsLast old mid r → status_of r ≢ 7 → mid.last ≡ old.last
 keeps_last old mid (refusal.Unread word) kept n = absurd (n refl)
@@ -120,17 +121,16 @@ keeps_last old mid refusal.Memory kept n = kept
 -- a refusal that is due was said, or that memory ran out for its line
 pub refusal_ends : (Answers : Shown → Answer → Type 0) (old mid new : Shown) (r : Refusal) (status : ℕ)
     → Stays Answers mid new → OnlyReads old mid → KeepsFiles mid new
-    → KeepsLast old mid r → IsDueAs (Answers mid) r → SaysOrFails (status_of r) (line_of r) mid new status
-    ⊎ SaysOrFails 11 memory_line mid new status
+    → KeepsLast old mid r → IsDueAs (Answers mid) r → SaysRefused r mid new status
     → Ends (λ at. OrMemory (Answers at)) old new status
-refusal_ends Answers old mid new r status stays reads keeps kept due (inr says) =
-    memory_ends Answers old mid new status reads keeps says
+refusal_ends Answers old mid new r status stays reads keeps kept due (inr (other, says)) =
+    memory_ends Answers old mid new status reads keeps (keeps_last old mid r kept other) says
 refusal_ends Answers old mid new r status stays reads keeps kept (inl memory) (inl says) =
-    memory_ends Answers old mid new status reads keeps
+    memory_ends Answers old mid new status reads keeps (subst (KeepsLast old mid) memory kept)
     (subst (λ (x : Refusal). SaysOrFails (status_of x) (line_of x) mid new status) memory says)
 refusal_ends Answers old mid new r status stays reads keeps kept (inr due) (inl says) =
     command_ends Answers old mid new (status_of r) (line_of r) status stays reads keeps
-    (λ a b. keeps_last old mid r kept a) due says
+    (keeps_last old mid r kept) due says
 
 -- a report was said, or why there is none
 pub report_ends : (Answers : Shown → Answer → Type 0) (old mid new : Shown)
@@ -141,7 +141,7 @@ pub report_ends : (Answers : Shown → Answer → Type 0) (old mid new : Shown)
     → IfErr report (IsDueAs (Answers mid)) → SaysReport report mid new status
     → Ends (λ at. OrMemory (Answers at)) old new status
 report_ends Answers old mid new (Ok report) status stays reads keeps same kept ok err says =
-    command_ends Answers old mid new report.status report.text status stays reads keeps (λ a b. same) ok says
+    command_ends Answers old mid new report.status report.text status stays reads keeps (λ a. same) ok says
 report_ends Answers old mid new (Err r) status stays reads keeps same kept ok err says =
     refusal_ends Answers old mid new r status stays reads keeps kept err says
 
@@ -150,7 +150,7 @@ report_ends Answers old mid new (Err r) status stays reads keeps same kept ok er
 pub ends_quiet : (Due : Shown → Answer → Type 0) (old new : Shown) (status : ℕ) → Ends Due old new status
     → IsQuiet status old new
 ends_quiet Due old new status (done n d) = d.quiet
-ends_quiet Due old new status (unsaid u) = λ a b c. absurd (b refl)
+ends_quiet Due old new status (unsaid u) = λ a b. absurd (b refl)
 
 pub unsaid_fails : (Due : Shown → Answer → Type 0) (old new : Shown) → IsUnsaid Due old new → SayFails old new
 unsaid_fails Due old new u =

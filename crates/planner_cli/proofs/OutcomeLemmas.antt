@@ -1,5 +1,5 @@
 -- What a run of the words promises, from what a run of their command does.
-use Rattle.std.proofs.Common.{◌≡◌, ℕ, ◌≤◌, inl, inr, List, Option, Some, None, refl, sym, ◌∙◌, ap, subst, arith}
+use Rattle.std.proofs.Common.{◌≡◌, ℕ, List, Option, Some, None, refl, sym, ◌∙◌, ap, subst}
 use Rattle.plan_desk.specs.Desk.{Shown}
 use Rattle.plan_desk.specs.Contents.{Says, KeepsFiles}
 use Rattle.instance_model.specs.Limits.{standard_limits}
@@ -33,7 +33,7 @@ refuses : (old new : Shown) (status : ℕ) → KeepsFiles old new → SaysOrFail
     → RefusesWords old new status
 refuses old new status keeps says =
     let ends : Ends DueRefusal old new status = said_ends DueRefusal old old new 2 words_line status (λ goes due. due)
-    (reads_none old) keeps (λ a b. refl) refl says in
+    (reads_none old) keeps (λ a. refl) refl says in
     record {
       ends = ends;
       behind = refusal_behind old new status ends;

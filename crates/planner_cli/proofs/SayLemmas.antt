@@ -1,13 +1,15 @@
 -- What was said, piece by piece.
-use Rattle.std.proofs.Common.{◌≡◌, ℕ, ◌+◌, ◌≤◌, inl, inr, List, ◌++◌, length, take, Option, Some, None, sym, ◌∙◌, ap}
-use Rattle.std.proofs.Common.{subst, arith, length-append, append_assoc}
+use Rattle.std.proofs.Common.{◌≡◌, ◌≢◌, ℕ, ◌+◌, ◌≤◌, inl, inr, List, ◌++◌, length, take, Option, Some, None, refl, sym}
+use Rattle.std.proofs.Common.{◌∙◌, ap, subst, arith, length-append, append_assoc}
 use Rattle.std.specs.Prelude.{option_map}
 use Rattle.std.proofs.Math.Seq.{take-append-add}
 use Rattle.std.proofs.lemmas.List.{take-append-le}
 use Rattle.plan_desk.specs.Desk.{Shown}
 use Rattle.plan_desk.specs.Faults.{Rose}
 use Rattle.plan_desk.specs.Contents.{Says}
-use Rattle.planner_cli.specs.Refusals.{SaysSome, SaysOrFails}
+use Rattle.planner_cli.specs.declared.refusal.Refusal.{Refusal}
+use Rattle.planner_cli.specs.declared.refusal.Refusal.TheVariants as refusal
+use Rattle.planner_cli.specs.Refusals.{SaysSome, SaysOrFails, status_of}
 
 pub rose_later : (a b c : ℕ) → a ≤ b → b ≤ c → Rose a b → Rose a c
 rose_later a b c ab bc rose = grind (arith, rose)
@@ -63,3 +65,16 @@ pub or_more : (a b : List ℕ) (old mid new : Shown) (due status : ℕ) → Says
 or_more a b old mid new due status first later same (inl all) =
     inl (record { status_is = all.status_is; says = says_more a b old mid new first all.says; same = all.same ∙ same })
 or_more a b old mid new due status first later same (inr some) = inr (some_more a b old mid new status first later some)
+
+-- of all refusals only that of a file that could not be read has status 7
+pub other_status : (r : Refusal) → ((word : ℕ) → r ≡ refusal.Unread word → ⊥) → status_of r ≢ 7
+other_status (refusal.Unread word) other e = other word refl
+other_status refusal.LongInstance other e = grind (arith, e)
+other_status (refusal.Instance fault) other e = grind (arith, e)
+other_status refusal.LongPlan other e = grind (arith, e)
+other_status (refusal.Plan fault) other e = grind (arith, e)
+other_status refusal.LongScript other e = grind (arith, e)
+other_status (refusal.Script fault) other e = grind (arith, e)
+other_status refusal.LongCertificate other e = grind (arith, e)
+other_status (refusal.Certificate fault) other e = grind (arith, e)
+other_status refusal.Memory other e = grind (arith, e)

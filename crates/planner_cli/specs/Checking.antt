@@ -225,6 +225,6 @@ pub record RunsCheck (limits : Limits) (source : Source) (name : Option (List �
       → IsOneAnswer (AnswersCheck limits by_bytes slack instance plan cert)
   -- no file is changed
   pub output : new.output ≡ old.output
-  -- the last fault is what it was, but at 7, 8 and 11, and faults never fall
+  -- the last fault is what it was, but at 7 and 8, and faults never fall
   pub quiet : IsQuiet status old new
   pub later : old.faults ≤ new.faults

@@ -32,10 +32,10 @@ pub data OrMemory (Answers : Answer → Type 0) : Answer → Type 0 where
 
 -- ---- the end of a run
 
--- The last fault is what it was, but where a file could not be read (7), what was due could not be said (8) or memory
--- ran out (11).
+-- The last fault is what it was, but where a file could not be read (7) or what was due could not be said (8). So want
+-- of memory (11) is never told in the place of a call that failed.
 abbrev pub IsQuiet : ℕ → (old new : Shown) → Type 0
-IsQuiet status old new = status ≢ 7 → status ≢ 8 → status ≢ 11 → new.last ≡ old.last
+IsQuiet status old new = status ≢ 7 → status ≢ 8 → new.last ≡ old.last
 
 -- faults rose, and the last fault, where told, is a `say`
 pub record SayFails (old new : Shown) : Type 0 where

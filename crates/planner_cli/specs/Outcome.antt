@@ -31,7 +31,7 @@ pub record RefusesWords (old new : Shown) (status : ℕ) : Type 0 where
   pub behind : BehindRefusal old new status
   -- no file is changed
   pub output : new.output ≡ old.output
-  -- the last fault is what it was, but at 7, 8 and 11, and faults never fall
+  -- the last fault is what it was, but at 7 and 8, and faults never fall
   pub quiet : IsQuiet status old new
   pub later : old.faults ≤ new.faults
 
@@ -44,6 +44,6 @@ pub record Outcome (words : List (List ℕ)) (old new : Shown) (status : ℕ) : 
       → RunsReplay standard_limits source plan script old new status
   pub checks : (source : Source) (plan : Option (List ℕ)) (cert : List ℕ) → Asks words (check source plan cert)
       → RunsCheck standard_limits source plan cert old new status
-  -- the last fault is what it was, but at 7, 8 and 11, and faults never fall
+  -- the last fault is what it was, but at 7 and 8, and faults never fall
   pub quiet : IsQuiet status old new
   pub later : old.faults ≤ new.faults

@@ -1,5 +1,5 @@
 -- The status and the line of a refusal, and how what is due is said. No part of any promise.
-use Rattle.std.specs.Prelude.{◌≡◌, ◌≢◌, ◌⊎◌, ℕ, ◌<◌, ◌≤◌, ◌^◌, ⊤, ℤ, List, [], length, take, All, Option, Some, None}
+use Rattle.std.specs.Prelude.{◌≡◌, ◌≢◌, ◌⊎◌, ℕ, ◌<◌, ◌^◌, ⊤, ℤ, List, [], length, take, All, Option, Some, None}
 use Rattle.std.specs.Prelude.{option_map, IfSome, unsigned_abs, Result, Ok, Err}
 use Rattle.plan_desk.specs.Desk.{Shown, ShowsSame, after_take_in}
 use Rattle.plan_desk.specs.Contents.{WhereToldHolds, Says}
@@ -160,11 +160,16 @@ SaysAnswer Answers old new status =
     ((due : ℕ) × (text : List ℕ) × Answers (reply due text) × SaysOrFails due text old new status)
     ⊎ SaysOrFails 11 memory_line old new status
 
--- a report was said, or the line of a refusal, or that memory ran out for that line, or saying it failed
+-- the line of a refusal was said, or that memory ran out for that line, or saying it failed; that a file could not be
+-- read is said without memory
+abbrev pub SaysRefused : Refusal → (old new : Shown) → ℕ → Type 0
+SaysRefused refusal old new status = SaysOrFails (status_of refusal) (line_of refusal) old new status
+    ⊎ ((status_of refusal ≢ 7) × SaysOrFails 11 memory_line old new status)
+
+-- a report was said, or why there is none
 abbrev pub SaysReport : Result Report Refusal → (old new : Shown) → ℕ → Type 0
 SaysReport (Ok report) old new status = SaysOrFails report.status report.text old new status
-SaysReport (Err refusal) old new status =
-    SaysOrFails (status_of refusal) (line_of refusal) old new status ⊎ SaysOrFails 11 memory_line old new status
+SaysReport (Err refusal) old new status = SaysRefused refusal old new status
 
 -- ---- of `replay`
 

@@ -18,6 +18,9 @@ pub const WORDS_LINE: &str = "refused words\n";
 /// The line where memory ran out.
 pub const MEMORY_LINE: &str = "refused memory\n";
 
+/// The line where a file could not be read, before the number of its word.
+pub const READ_WORDS: &str = "refused read ";
+
 /// Why the files that the words name are refused.
 #[derive(Debug, Drop)]
 pub enum Refusal {
@@ -76,7 +79,7 @@ impl Refusal {
             Refusal::Script(fault) => push_script_fault(&mut line, *fault)?,
             Refusal::LongCertificate => line.push("refused certificate too long\n")?,
             Refusal::Certificate(fault) => push_certificate_fault(&mut line, *fault)?,
-            Refusal::Unread { word } => push_numbered(&mut line, "refused read ", *word)?,
+            Refusal::Unread { word } => push_numbered(&mut line, READ_WORDS, *word)?,
             Refusal::Memory => line.push(MEMORY_LINE)?,
         }
         Ok(line)

@@ -1,11 +1,10 @@
 //! What is due is said.
-ghost use Rattle.std.specs.Prelude.{◌⊎◌};
 ghost use Rattle.plan_desk.specs.Contents.{KeepsFiles};
 ghost use Rattle.plan_desk.specs.Written.{SaysText};
-ghost use Rattle.planner_cli.specs.Lines.{memory_line, numbered_line};
-ghost use Rattle.planner_cli.specs.Refusals.{SaysOrFails, SaysReport, status_of, line_of};
+ghost use Rattle.planner_cli.specs.Lines.{numbered_line};
+ghost use Rattle.planner_cli.specs.Refusals.{SaysOrFails, SaysRefused, SaysReport};
 
-use crate::refusal::{MEMORY_LINE, Refusal};
+use crate::refusal::{MEMORY_LINE, READ_WORDS, Refusal};
 use crate::report::Report;
 use fixed_num::Line;
 use plan_desk::{Desk, Failed, say_all, say_pieces};
@@ -33,16 +32,17 @@ pub fn say_report<D: Desk>(alloc: Global, desk: &mut D, report: Result<Report, R
     }
 }
 
-/// Says the line of a refusal, or that memory ran out for it.
+/// Says the line of a refusal, or that memory ran out for it. That a file could not be read is said without memory.
 pub fn refuse<D: Desk>(alloc: Global, desk: &mut D, refusal: &Refusal) -> u8
-    ensures ends { SaysOrFails (status_of refusal.now) (line_of refusal.now) (D.shows desk.old)
-        (D.shows desk.new) result
-        ⊎ SaysOrFails 11 memory_line (D.shows desk.old) (D.shows desk.new) result }
+    ensures ends { SaysRefused refusal.now (D.shows desk.old) (D.shows desk.new) result }
     ensures keeps { KeepsFiles (D.shows desk.old) (D.shows desk.new) }
 {
-    match refusal.line(alloc) {
-        Ok(line) => say(desk, refusal.status(), line.as_slice()),
-        Err(_) => say(desk, 11, MEMORY_LINE.as_bytes()),
+    match refusal {
+        Refusal::Unread { word } => say_numbered(desk, 7, READ_WORDS, *word),
+        _ => match refusal.line(alloc) {
+            Ok(line) => say(desk, refusal.status(), line.as_slice()),
+            Err(_) => say(desk, 11, MEMORY_LINE.as_bytes()),
+        },
     }
 }
 

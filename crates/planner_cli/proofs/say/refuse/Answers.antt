@@ -1,8 +1,20 @@
-use Rattle.std.proofs.Common.{List, ℕ, inr, subst}
-use Rattle.planner_cli.specs.Refusals.{SaysOrFails}
+use Rattle.std.proofs.Common.{List, ℕ, inl, inr, sym, subst}
+use Rattle.planner_cli.specs.declared.refusal.Refusal.{Refusal}
+use Rattle.planner_cli.specs.Refusals.{SaysOrFails, SaysRefused}
+use Rattle.planner_cli.proofs.SayLemmas.{other_status}
 use Rattle.planner_cli.proofs.say.refuse.Goals as goal
+
+pub returns-in-Unread-clause-ends : goal.returns-in-Unread-clause-ends
+returns-in-Unread-clause-ends g c =
+    let old = g.D.Desk.shows c.args.desk.now in
+    let new = g.D.Desk.shows c.say_numbered.new.desk in
+    subst (λ (r : Refusal). SaysRefused r old new c.say_numbered.result) (sym c.in-Unread.is)
+    (inl c.say_numbered.ensures.ends)
 
 pub returns-in-Err-clause-ends : goal.returns-in-Err-clause-ends
 returns-in-Err-clause-ends g c =
-    inr (subst (λ (t : List ℕ). SaysOrFails 11 t (g.D.Desk.shows c.args.desk.now)
-    (g.D.Desk.shows c.say-in-Err.new.desk) c.say-in-Err.result) c.as_bytes.ensures.value c.say-in-Err.ensures.ends)
+    let old = g.D.Desk.shows c.args.desk.now in
+    let new = g.D.Desk.shows c.say-in-Err.new.desk in
+    let says = subst (λ (t : List ℕ). SaysOrFails 11 t old new c.say-in-Err.result) c.as_bytes.ensures.value
+    c.say-in-Err.ensures.ends in
+    inr (other_status c.args.refusal.now c.in_default.not-Unread, says)
