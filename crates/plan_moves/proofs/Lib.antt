@@ -1,4 +1,5 @@
 pub mod BoardLemmas
 pub mod KeyLemmas
 pub mod TrailLemmas
+pub mod ChangingLemmas
 pub mod SampleLemmas
