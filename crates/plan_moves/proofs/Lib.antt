@@ -1,3 +1,4 @@
 pub mod BoardLemmas
 pub mod KeyLemmas
 pub mod TrailLemmas
+pub mod ChangingLemmas

@@ -1,9 +1,11 @@
 -- The list of plans that a present plan and its trail stand for.
-use Rattle.std.specs.Prelude.{ℕ, ◌<◌, List, [], ◌∷◌, ◌++◌, length, reverse, swap, slice_set, All}
+use Rattle.std.specs.Prelude.{ℕ, ◌<◌, List, [], ◌∷◌, ◌++◌, length, reverse, swap, slice_index, slice_set, All}
 use Rattle.undo_trail.specs.declared.Step.{Step}
 use Rattle.undo_trail.specs.declared.Step.TheVariants.{Move, Swap}
 use Rattle.instance_model.specs.Tables.{Tables}
 use Rattle.instance_model.specs.Plans.{AreAllowedStarts}
+use Rattle.plan_moves.specs.declared.change.Change.{Change}
+use Rattle.plan_moves.specs.declared.change.Change.TheVariants as change
 use Rattle.plan_moves.specs.Boards.{Board}
 use Rattle.plan_moves.specs.KeptPlans.{KeptPlans}
 
@@ -11,6 +13,11 @@ use Rattle.plan_moves.specs.KeptPlans.{KeptPlans}
 abbrev pub undone : Step → List ℕ → List ℕ
 undone (Move i from) plan = slice_set plan i from
 undone (Swap i j) plan = swap plan i j
+
+-- the step back from a change of a plan
+abbrev pub step_back : Change → List ℕ → Step
+step_back (change.Move i s) plan = Move i (slice_index plan i)
+step_back (change.Swap i j) plan = Swap i j
 
 -- the plans before, the steps being given from the last one back
 abbrev pub plans_before : List Step → List ℕ → List (List ℕ)

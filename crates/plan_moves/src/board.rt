@@ -6,9 +6,11 @@ ghost use Rattle.instance_model.specs.Plans.{AreAllowedStarts, start_of};
 ghost use Rattle.instance_model.specs.Keys.{key_of};
 ghost use Rattle.scenario_rows.specs.RiskStates.{IsOver as AreRowsOver};
 ghost use Rattle.resource_bands.specs.BoardLoads.{IsOver as AreLoadsOver};
+ghost use Rattle.plan_moves.specs.Changing.{CanChange, after_change};
 ghost use Rattle.plan_moves.specs.KeptPlans.{move_bound};
-ghost use Rattle.plan_moves.specs.Trails.{undone, NamesBelow};
+ghost use Rattle.plan_moves.specs.Trails.{undone, step_back, NamesBelow};
 
+use crate::change::Change;
 use fixed_num::Steps;
 use instance_model::{Instance, Key};
 use quantile_index::Row;
@@ -127,6 +129,13 @@ impl<'a, R: Row> Board<'a, R> {
         self.starts[i as usize]
     }
 
+    /// The starts are allowed.
+    fn allowed(&self)
+        ensures { AreAllowedStarts self.now.instance self.now.starts }
+    {
+        let _ = &self.starts;
+    }
+
     /// The key of the starts.
     pub(crate) fn key(&self) -> Key
         ensures value { result ≡ key_of self.now.instance (map Some self.now.starts) }
@@ -199,5 +208,38 @@ impl<'a, R: Row> Board<'a, R> {
             }
             Step::Swap { i, j } => self.exchange(i, j, steps),
         }
+    }
+
+    /// Makes a change; the answer is the step back.
+    pub(crate) fn change<L: Ledger>(&mut self, change: Change, steps: &mut Steps<L>) -> Step
+        requires { CanChange self.old.instance self.old.starts change }
+        ensures starts { self.new ≡ record self.old { starts = after_change change self.old.starts } }
+        ensures back { result ≡ step_back change self.old.starts }
+        ensures forward { steps.old ≤ steps.new }
+    {
+        match change {
+            Change::Move { i, s } => {
+                let from = self.set_start(i, s, steps);
+                Step::Move { i, from }
+            }
+            Change::Swap { i, j } => {
+                self.exchange(i, j, steps);
+                Step::Swap { i, j }
+            }
+        }
+    }
+
+    /// The key after a change, which is made and taken back.
+    pub(crate) fn key_after<L: Ledger>(&mut self, change: Change, steps: &mut Steps<L>) -> Key
+        requires { CanChange self.old.instance self.old.starts change }
+        ensures value { result ≡ key_of self.old.instance (map Some (after_change change self.old.starts)) }
+        ensures same { self.new ≡ self.old }
+        ensures forward { steps.old ≤ steps.new }
+    {
+        self.allowed();
+        let back = self.change(change, steps);
+        let key = self.key();
+        self.undo(back, steps);
+        key
     }
 }

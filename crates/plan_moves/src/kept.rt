@@ -1,13 +1,17 @@
 //! A plan that is changed and undone: contracts see the list of plans that its changes made.
 ghost use Rattle.std.specs.Prelude.{◌≡◌, ◌+◌, ◌^◌, ◌<◌, ◌≤◌, ◌↔◌, max, [], ◌∷◌, length, swap, slice_index, slice_set};
-ghost use Rattle.std.specs.Prelude.{unsigned_abs, IfOk, OnOk, OnErr, IfSome, IsTrue};
+ghost use Rattle.std.specs.Prelude.{unsigned_abs, IfOk, OnOk, OnErr, IfSome, IfNone, IsTrue};
 ghost use Rattle.std.specs.Bool.{OnTrue, OnFalse};
 ghost use Rattle.instance_model.specs.Tables.{is_allowed};
 ghost use Rattle.instance_model.specs.Plans.{AreAllowedStarts};
+ghost use Rattle.instance_model.specs.Keys.{KeyBelow};
+ghost use Rattle.plan_moves.specs.Changing.{CanChange, after_change, changed_key};
 ghost use Rattle.plan_moves.specs.KeptPlans.{AreKeptPlans, present, present_key, with_plan, without_present};
 ghost use Rattle.plan_moves.specs.KeptPlans.{move_bound};
 
 use crate::board::Board;
+use crate::change::Change;
+use crate::key_order::is_lower;
 use fixed_num::Steps;
 use instance_model::{Instance, Key};
 use quantile_index::Row;
@@ -94,6 +98,17 @@ impl<'a, R: Row> Kept<'a, R> {
         self.trail.push(Step::Swap { i, j });
     }
 
+    /// Makes a change, as `move_start` or `swap` does.
+    pub fn change<L: Ledger>(&mut self, change: Change, steps: &mut Steps<L>)
+        requires can { CanChange self.old.instance (present self.old.plans) change }
+        requires spare { 0 < self.old.spare }
+        ensures plans { self.new ≡ with_plan (after_change change (present self.old.plans)) self.old }
+        ensures forward { steps.old ≤ steps.new }
+    {
+        let back = self.board.change(change, steps);
+        self.trail.push(back);
+    }
+
     /// Takes the present plan off, unless it is the only one.
     pub fn undo<L: Ledger>(&mut self, steps: &mut Steps<L>) -> bool
         ensures undone { IsTrue result ↔ (1 < length self.old.plans) }
@@ -116,6 +131,40 @@ impl<'a, R: Row> Kept<'a, R> {
         ensures small { unsigned_abs result.score < 10 ^ 33 }
     {
         self.board.key()
+    }
+
+    /// The key of the present plan after a change, where it is below `limit`. Takes no memory.
+    pub fn key_below<L: Ledger>(
+        &mut self,
+        change: Change,
+        limit: Key,
+        steps: &mut Steps<L>,
+    ) -> Option<Key>
+        requires { CanChange self.old.instance (present self.old.plans) change }
+        ensures value { IfSome result (λ key. key ≡ changed_key self.old change) }
+        ensures below { IfSome result (λ key. KeyBelow key limit) }
+        ensures none { IfNone result (¬ KeyBelow (changed_key self.old change) limit) }
+        ensures same { self.new ≡ self.old }
+        ensures forward { steps.old ≤ steps.new }
+    {
+        let key = self.board.key_after(change, steps);
+        if is_lower(key, limit) {
+            Some(key)
+        } else {
+            None
+        }
+    }
+
+    /// Whether a change lowers the key. Takes no memory.
+    pub fn lowers<L: Ledger>(&mut self, change: Change, steps: &mut Steps<L>) -> bool
+        requires { CanChange self.old.instance (present self.old.plans) change }
+        ensures value { IsTrue result
+            ↔ KeyBelow (changed_key self.old change) (present_key self.old.instance self.old.plans) }
+        ensures same { self.new ≡ self.old }
+        ensures forward { steps.old ≤ steps.new }
+    {
+        let key = self.key();
+        self.key_below(change, key, steps).is_some()
     }
 
     /// The start of intervention `i` in the present plan.

@@ -1,0 +1,5 @@
+pub mod KeyLemmas
+pub mod ChangeLemmas
+pub mod LeadsLemmas
+pub mod SweepLemmas
+pub mod BestLemmas
