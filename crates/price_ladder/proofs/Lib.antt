@@ -1,0 +1,11 @@
+pub mod ExMaps
+pub mod PlaceLemmas
+pub mod StepLemmas
+pub mod GainLemmas
+pub mod TriedLemmas
+pub mod CountLemmas
+pub mod PlanTailLemmas
+pub mod GreatestLemmas
+pub mod ScanLemmas
+pub mod ClimbLemmas
+pub mod PlainLemmas

@@ -1,0 +1,6 @@
+-- What contracts say of ladder steps and of raised price lists.
+pub mod Places
+pub mod Tails
+pub mod Steps
+pub mod Raised
+pub mod Tried
