@@ -1,7 +1,11 @@
 -- Columns and rows of offsets.
 use Rattle.std.proofs.Common.{◌≡◌, ℕ, zero, suc, ◌+◌, ◌-◌, ◌<◌, ◌≤◌, refl, sym, ◌∙◌, ap, subst, arith, List, [], ◌∷◌}
 use Rattle.std.proofs.Common.{◌++◌, length, get_or, Bool, true, false, Vec, below_more, ℤ, pos}
+use Rattle.std.proofs.Common.{take, drop}
 use Rattle.std.proofs.lemmas.Grind.{common_steps}
+use Rattle.std.proofs.lemmas.List.{length-take, length-drop, get_or-take, get_or-drop}
+use Rattle.fixed_num.specs.Sums.{list_of}
+use Rattle.fixed_num.proofs.SumLemmas.{list_of-from}
 use Rattle.std.specs.declared.alloc.Global.{Global}
 use Rattle.instance_model.specs.declared.parts.Parts.{Parts}
 use Rattle.instance_model.specs.declared.offsets.Offsets.{Offsets}
@@ -35,7 +39,8 @@ IsColumnOf-scenarios p sums f a =
         small = λ x l. omega (
           arith,
           a.up_to x (omega (arith, f.scenarios_each)),
-          take_sum_small p.scenarios.items x (omega (arith, f.scenarios_each, f.few_periods)) f.scenarios_few,
+          take_sum_small p.scenarios.items x
+              (omega (arith, f.scenarios_each, f.few_periods)) f.scenarios_few,
         );
       };
       values = λ t l m. a.up_to (t - 1) (omega (arith, f.scenarios_each));
@@ -157,6 +162,28 @@ unfolding risk_of risk_place
 risk_read p inst i s t k n v e m h r = subst
     (λ (x : Tables). v ≡ get_or x.risks (entry_place x (scenarios_before x) i s t + (k - 1)) (pos 0)) e
     (r ∙ get_or_default p.risks.items n v (pos 0) h ∙ ap (λ j. get_or p.risks.items j (pos 0)) m)
+
+-- the risks of a period, one behind the other
+pub risks_read : (p : Parts) (inst : Tables) (i s t place n : ℕ) (risks : List ℤ) → tables_of p ≡ inst
+    → risks ≡ p.risks.items → place ≡ entry_place (tables_of p) (scenarios_before (tables_of p)) i s t
+    → place + n ≤ length p.risks.items → n ≡ scenarios_of inst t
+    → take (place + n - place) (drop place risks) ≡ list_of (scenarios_of inst t) (λ k. risk_of inst i s t (k + 1))
+unfolding risk_of risk_place
+risks_read p inst i s t place n risks e same m room count =
+    let back : place + n - place ≡ n = omega arith in
+    let each : length (take n (drop place risks)) ≡ n =
+    omega (arith, length-take n (drop place risks), length-drop place risks, ap length same, room) in
+    ap (λ (j : ℕ). take j (drop place risks)) back
+    ∙ list_of-from (scenarios_of inst t) (λ k. risk_of inst i s t (k + 1))
+    (take n (drop place risks)) (each ∙ count) (λ k l.
+    let low : k < n = omega (arith, l, count) in
+    let next : k ≡ k + 1 - 1 = omega arith in
+    get_or-take n (drop place risks) k (pos 0) low
+    ∙ get_or-drop place risks k (pos 0)
+    ∙ ap (λ (xs : List ℤ). get_or xs (place + k) (pos 0)) same
+    ∙ ap (λ (j : ℕ). get_or p.risks.items (place + j) (pos 0)) next
+    ∙ ap (λ (j : ℕ). get_or p.risks.items (j + (k + 1 - 1)) (pos 0)) m
+    ∙ ap (λ (x : Tables). get_or x.risks (entry_place x (scenarios_before x) i s t + (k + 1 - 1)) (pos 0)) e)
 
 pub soft_read : (p : Parts) (inst : Tables) (i s t n : ℕ) (v : Bool) → tables_of p ≡ inst
     → n ≡ entry_place (tables_of p) periods_before i s t → n < length p.soft.items → v ≡ get_or p.soft.items n v

@@ -1,6 +1,7 @@
 //! The instance: contracts see it as the record `Tables`, and each call reads one function of those tables.
 ghost use Rattle.std.specs.Prelude.{◌^◌, ◌≡◌, ℕ, ◌+◌, ◌<◌, ◌≤◌, ◌*◌, length, IfOk, IfSome, IfNone, IsTrue, Contains};
 ghost use Rattle.std.specs.Prelude.{slice_index, slice_get, None, Some, position, bytes_eq, unsigned_abs};
+ghost use Rattle.fixed_num.specs.Sums.{list_of};
 ghost use Rattle.instance_model.specs.Fitting.{IsFitting};
 ghost use Rattle.instance_model.specs.View.{tables_of};
 ghost use Rattle.instance_model.specs.Tables.{scenarios_of, tmax, delta_of, is_allowed, in_run, risk_of, soft_of};
@@ -32,6 +33,15 @@ impl Model for Instance {
     ghost view = { view_of };
 
     ghost invariant = { IsIndexed };
+}
+
+/// Counts `count` steps.
+fn count_steps<L: Ledger>(count: u32, steps: &mut Steps<L>)
+    ensures { steps.new ≡ steps.old + count }
+{
+    for k in 0..count {
+        steps.tick();
+    }
 }
 
 impl Instance {
@@ -302,6 +312,23 @@ impl Instance {
         steps.tick();
         let place = self.risks.place(i, s, t) + (k as usize - 1);
         self.parts.risks[place]
+    }
+
+    /// The risks of intervention `i` at start `s` in period `t`, by scenario. Counts as one step for each.
+    pub fn risks<L: Ledger>(&self, i: u32, s: u32, t: u32, steps: &mut Steps<L>) -> &[Fixed]
+        requires number { i < length self.now.names }
+        requires allowed { IsTrue (is_allowed self.now i s) }
+        requires running { IsTrue (in_run self.now i s t) }
+        requires from { 1 ≤ t }
+        requires to { t ≤ self.now.periods }
+        ensures each { length result.now ≡ scenarios_of self.now t }
+        ensures value { result.now ≡ list_of (scenarios_of self.now t) (λ k. risk_of self.now i s t (k + 1)) }
+        ensures cost { steps.new ≡ steps.old + scenarios_of self.now t }
+    {
+        let count = self.scenarios(t);
+        count_steps(count, steps);
+        let place = self.risks.place(i, s, t);
+        &self.parts.risks[place..place + count as usize]
     }
 
     /// Whether one of the risk numbers of intervention `i` at start `s` in period `t` was changed by rounding.

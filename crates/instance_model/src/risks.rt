@@ -30,9 +30,10 @@ impl Instance {
             slice_index_or sums.old k (pos 0) +ℤ risk_of self.now i s t (k + 1)) }
         ensures cost { steps.new ≡ steps.old + scenarios_of self.now t }
     {
-        for k in 0..self.scenarios(t) {
-            let risk = self.risk_cell(i, s, t, k + 1, steps);
-            sums[k as usize] = sums[k as usize].plus(risk);
+        self.fits();
+        let risks = self.risks(i, s, t, steps);
+        for (k, risk) in risks.iter().enumerate() {
+            sums[k] = sums[k].plus(*risk);
         }
     }
 }

@@ -37,6 +37,10 @@ impl Row for NoRow {
         self.row.replace(k, sum, steps);
     }
 
+    fn replace_all<L: Ledger>(&mut self, from: &[Sum], steps: &mut Steps<L>) {
+        self.row.replace_all(from, steps);
+    }
+
     fn kth<L: Ledger>(&self, m: u32, steps: &mut Steps<L>) -> Sum {
         self.row.kth(m, steps)
     }

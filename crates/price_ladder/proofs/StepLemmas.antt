@@ -27,11 +27,15 @@ price_step_small u v s = at s.changed (power_small s.exponent s.few)
     at (inl e) p = omega (arith, e, p)
     at (inr e) p = omega (arith, e, p)
 
-tail_step_small : (inst : Tables) (starts : List ℕ) (old new : PriceList) (t : ℕ) → IsTailStep inst starts old t new → IsSmallStep old new
-tail_step_small inst starts old new t (inl w) = moved_small old new 0 0 (tail_moved old new t (Some (plan_tail inst starts t)) w.1) (omega arith)
+tail_step_small : (inst : Tables) (starts : List ℕ) (old new : PriceList) (t : ℕ)
+    → IsTailStep inst starts old t new → IsSmallStep old new
+tail_step_small inst starts old new t (inl w) =
+    moved_small old new 0 0 (tail_moved old new t (Some (plan_tail inst starts t)) w.1) (omega arith)
 tail_step_small inst starts old new t (inr w) = moved_small old new 0 0 (tail_moved old new t None w.1) (omega arith)
 
-pub ladder_step_small : (inst : Tables) (starts : List ℕ) (old new : PriceList) → IsPriceList inst old → IsPriceList inst new → IsLadderStep inst starts old new → IsSmallStep old new
+pub ladder_step_small : (inst : Tables) (starts : List ℕ) (old new : PriceList) → IsPriceList inst old
+    → IsPriceList inst new → IsLadderStep inst starts old new → IsSmallStep old new
 ladder_step_small inst starts old new h k (of_number place w s) =
-    moved_small old new (value_at inst old place) s.value (value_moved inst old new place s.value h k w s.changed) (price_step_small (value_at inst old place) s.value s.step)
+    moved_small old new (value_at inst old place) s.value (value_moved inst old new place s.value h k w s.changed)
+    (price_step_small (value_at inst old place) s.value s.step)
 ladder_step_small inst starts old new h k (of_tail t from to s) = tail_step_small inst starts old new t s

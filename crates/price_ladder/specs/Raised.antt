@@ -22,11 +22,13 @@ root_starts inst i = starts_in inst i (span_of (root_box inst) i)
 
 -- the sum over the interventions of the least base by the list of zeros
 unfoldable pub least_total : Tables → ℤ
-least_total inst = sum_below (length inst.names) (λ i. least_over (risk_base inst (zero_list inst) i) (root_starts inst i))
+least_total inst =
+    sum_below (length inst.names) (λ i. least_over (risk_base inst (zero_list inst) i) (root_starts inst i))
 
 -- the sum of the greatest ones
 unfoldable pub greatest_total : Tables → ℤ
-greatest_total inst = sum_below (length inst.names) (λ i. greatest_over (risk_base inst (zero_list inst) i) (root_starts inst i))
+greatest_total inst =
+    sum_below (length inst.names) (λ i. greatest_over (risk_base inst (zero_list inst) i) (root_starts inst i))
 
 -- what a step has to gain at least to be taken: more than a 200th of the difference of the two
 unfoldable pub least_gain : Tables → ℤ
@@ -38,11 +40,14 @@ enough_worth inst = pos 2 *ℤ greatest_total inst -ℤ least_total inst
 
 -- no ladder step takes the worth of the root to a target
 pub record NoStepReaches (inst : Tables) (starts : List ℕ) (prices : PriceList) (target : ℤ) : Type 0 where
-  pub none : (new : PriceList) → IsPriceList inst new → IsLadderStep inst starts prices new → root_worth inst new <ℤ target
+  pub none : (new : PriceList) → IsPriceList inst new → IsLadderStep inst starts prices new
+      → root_worth inst new <ℤ target
 
--- a list is raised for a plan: no ladder step raises the worth of the root by the least gain or more, or that worth is good enough
+-- a list is raised for a plan: no ladder step raises the worth of the root by the least
+-- gain or more, or that worth is good enough
 abbrev pub IsRaised : Tables → List ℕ → PriceList → Type 0
-IsRaised inst starts prices = NoStepReaches inst starts prices (root_worth inst prices +ℤ least_gain inst) ⊎ (enough_worth inst <ℤ root_worth inst prices)
+IsRaised inst starts prices = NoStepReaches inst starts prices (root_worth inst prices +ℤ least_gain inst)
+    ⊎ (enough_worth inst <ℤ root_worth inst prices)
 
 -- the sum of all numbers of a list
 unfoldable pub price_total : PriceList → ℕ

@@ -20,10 +20,12 @@ pub record IsStepAt (inst : Tables) (old : PriceList) (place : Place) (new : Pri
   pub step : IsPriceStep (value_at inst old place) value
   pub changed : IsWithValue inst old new place value
 
--- new is old with the tail of the plan in period t in place of none, or the other way round; where old has another tail there, there is no such step
+-- new is old with the tail of the plan in period t in place of none, or the other way round; where old
+-- has another tail there, there is no such step
 abbrev pub IsTailStep : Tables → List ℕ → PriceList → ℕ → PriceList → Type 0
 IsTailStep inst starts old t new =
-    ((tail_of old t ≡ None) × (new ≡ with_tail old t (Some (plan_tail inst starts t)))) ⊎ ((tail_of old t ≡ Some (plan_tail inst starts t)) × (new ≡ with_tail old t None))
+    ((tail_of old t ≡ None) × (new ≡ with_tail old t (Some (plan_tail inst starts t))))
+    ⊎ ((tail_of old t ≡ Some (plan_tail inst starts t)) × (new ≡ with_tail old t None))
 
 -- a ladder step for a plan, given by its starts, leads from old to new
 pub data IsLadderStep (inst : Tables) (starts : List ℕ) (old new : PriceList) : Type 0 where

@@ -14,8 +14,8 @@ use std::alloc::{AllocError, Global};
 /// How many steps lead to a worth that is good enough.
 const STEPS: u32 = 400;
 
-/// Takes the first step in a fixed order that gains enough, until there is none, or the worth is good enough. The list may be any whose
-/// worth isn't below that of zeros.
+/// Takes the first step in a fixed order that gains enough, until there is none, or the worth is good enough. The list
+/// may be any whose worth isn't below that of zeros.
 pub(crate) fn climb<L: Ladder>(
     alloc: Global,
     inst: &Instance,

@@ -73,7 +73,8 @@ impl Ladder for Plain {
     }
 }
 
-/// Puts another tail of period `t`, or none, in place of the one before, if that leads to a worth of at least the target.
+/// Puts another tail of period `t`, or none, in place of the one before, if
+/// that leads to a worth of at least the target.
 fn try_switch(
     alloc: Global,
     inst: &Instance,
@@ -106,8 +107,8 @@ fn is_same(a: &Tail, b: &Tail) -> bool
     a.weight == b.weight && a.places.as_slice() == b.places.as_slice()
 }
 
-/// A list that is raised for a plan, given by one allowed start for each intervention: from zeros, the first step in a fixed order that
-/// gains enough, until there is none. Slow: each worth is computed whole.
+/// A list that is raised for a plan, given by one allowed start for each intervention: from zeros, the first step in a
+/// fixed order that gains enough, until there is none. Slow: each worth is computed whole.
 pub fn raise_plainly(alloc: Global, inst: &Instance, starts: &[u32]) -> Result<Prices, AllocError>
     requires { AreAllowedStarts inst.now starts.now }
     ensures in_range { IfOk result (IsPriceList inst.now) }

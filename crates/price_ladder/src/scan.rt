@@ -5,7 +5,8 @@ ghost use Rattle.lagrange_bound.specs.Prices.{IsPriceList};
 ghost use Rattle.lagrange_bound.specs.Boxes.{HasStarts};
 ghost use Rattle.branch_tree.specs.Trees.{root_box};
 ghost use Rattle.price_ladder.specs.Steps.{IsLadderStep};
-ghost use Rattle.price_ladder.specs.Tried.{IsTried, IsStepAmong, IsAnyTailStep, IsLimitIn, IsLimitOf, IsLimit, IsExcludedIn, IsExcludedOf, IsExcluded};
+ghost use Rattle.price_ladder.specs.Tried.{IsTried, IsStepAmong, IsAnyTailStep, IsLimitIn, IsLimitOf, IsLimit};
+ghost use Rattle.price_ladder.specs.Tried.{IsExcludedIn, IsExcludedOf, IsExcluded};
 
 use crate::Place;
 use crate::ladder::Ladder;

@@ -118,7 +118,7 @@ is_in_bag e left all entries i h =
     let s = score_yes (is_same e) e (is_same_self e) in is_in_from_count e entries (omega arith)
 
 -- ---- scenarios
-none_numbered : (k n : ℕ) (sums : List ℤ) → k < n → count_by (has_scenario k) (numbered n sums) ≡ 0
+pub none_numbered : (k n : ℕ) (sums : List ℤ) → k < n → count_by (has_scenario k) (numbered n sums) ≡ 0
 none_numbered k n [] h = refl
 none_numbered k n (s ∷ sums) h =
     let first : Entry = record { sum = s; scenario = n } in

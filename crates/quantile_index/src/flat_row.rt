@@ -6,28 +6,31 @@ ghost use Rattle.quantile_index.specs.Order.{AllEntries, IsBefore, IsOrdered, In
 ghost use Rattle.quantile_index.specs.Ranking.{IsRanking, has_scenario};
 
 use crate::entry::{Entry, is_before};
+use crate::ranks::{rank, write_entries};
 use crate::row::Row;
 use fixed_num::{Steps, Sum};
 use std::alloc::{AllocError, Global};
 use std::marker::{Brand, Model};
 use std::sync::ledger::{Blank, Ledger};
 
-/// A row as a vector of entries in order, beside the sums by scenario. Nothing is claimed of its steps.
+/// A row as a vector of entries in order, beside the sums by scenario and room to bring all of them into order at once.
+/// Nothing is claimed of its steps.
 #[derive(Drop)]
 pub struct FlatRow {
     sums: Vec<Sum>,
     entries: Vec<Entry>,
+    pairs: Vec<(i128, u32)>,
 }
 
 impl Model for FlatRow {
-    ghost use Rattle.std.specs.Prelude.{ℤ, List};
+    ghost use Rattle.std.specs.Prelude.{ℤ, List, length};
     ghost use Rattle.quantile_index.specs.Ranking.{IsRow};
 
     ghost Value = { List ℤ };
 
     ghost view = { λ r. r.sums.items };
 
-    ghost invariant = { λ r. IsRow r.entries.items r.sums.items };
+    ghost invariant = { λ r. IsRow r.entries.items r.sums.items (length r.pairs.items) };
 }
 
 /// Where the entry of scenario `k` is.
@@ -141,7 +144,12 @@ impl Row for FlatRow {
     fn make(alloc: Global, from: &[Sum]) -> Result<FlatRow, AllocError> {
         let entries = ranked::<Brand>(alloc, from, Blank::new(1))?;
         let sums = Vec::from_slice(alloc, from)?;
-        Ok(FlatRow { sums, entries })
+        let pairs = vec![in alloc; (0, 0); from.len()]?;
+        Ok(FlatRow {
+            sums,
+            entries,
+            pairs,
+        })
     }
 
     fn len(&self) -> u32 {
@@ -154,6 +162,12 @@ impl Row for FlatRow {
 
     fn replace<L: Ledger>(&mut self, k: u32, sum: Sum, steps: &mut Steps<L>) {
         change(&mut self.entries, &mut self.sums, k, sum, steps);
+    }
+
+    fn replace_all<L: Ledger>(&mut self, from: &[Sum], steps: &mut Steps<L>) {
+        rank(from, &mut self.pairs, steps);
+        write_entries(from, &self.pairs, &mut self.entries);
+        self.sums.copy_from_slice(from);
     }
 
     fn kth<L: Ledger>(&self, m: u32, steps: &mut Steps<L>) -> Sum {

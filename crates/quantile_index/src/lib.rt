@@ -8,6 +8,7 @@ mod change;
 mod entry;
 mod flat_row;
 mod height;
+mod ranks;
 mod row;
 #[cfg(test)]
 mod tests;

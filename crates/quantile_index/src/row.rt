@@ -5,8 +5,8 @@ use std::sync::ledger::Ledger;
 
 /// A finite map from the scenarios 1 to n to sums, in which the m-th smallest sum is found.
 pub trait Row: Drop {
-    ghost use Rattle.std.specs.Prelude.{◌≡◌, ℕ, ◌+◌, ◌-◌, ◌≤◌, ℤ, pos, List, Option, length, slice_index_or, slice_set};
-    ghost use Rattle.std.specs.Prelude.{IfOk, IfSome};
+    ghost use Rattle.std.specs.Prelude.{◌≡◌, ℕ, ◌+◌, ◌-◌, ◌*◌, ◌≤◌, ℤ, pos, List, Option, length, slice_index_or};
+    ghost use Rattle.std.specs.Prelude.{slice_set, IfOk, IfSome};
     ghost use Rattle.fixed_num.specs.Rank.{IsMthSmallest, mth_smallest};
     ghost use Rattle.quantile_index.specs.Row.{Grows};
 
@@ -42,6 +42,13 @@ pub trait Row: Drop {
         ensures map { sums self.new ≡ slice_set (sums self.old) (k - 1) sum }
         ensures cost { IfSome most (λ bound. steps.new ≤ steps.old + bound (length (sums self.old))) }
         ensures forward { steps.old ≤ steps.new };
+
+    /// Changes all sums. Reads each once, and counts no comparison inside the sort of the numbers that were read.
+    fn replace_all<L: Ledger>(&mut self, from: &[Sum], steps: &mut Steps<L>)
+        requires each { length from.now ≡ length (sums self.old) }
+        ensures map { sums self.new ≡ from.now }
+        ensures cost { IfSome most (λ bound. steps.new ≤ steps.old + length from.now * bound (length from.now)) }
+        ensures counted { steps.old + length from.now ≤ steps.new };
 
     /// The `m`-th smallest sum, where equal sums count as often as they are there.
     fn kth<L: Ledger>(&self, m: u32, steps: &mut Steps<L>) -> Sum

@@ -51,6 +51,22 @@ fn rank_few<R: Row, L: Ledger>(rt: &impl Abort, alloc: Global, blank: Blank) -> 
     Ok(())
 }
 
+/// A row of three sums, all changed at once, and then one of them.
+fn change_all<R: Row, L: Ledger>(rt: &impl Abort, alloc: Global, blank: Blank) -> Result<(), Fail>
+    requires name { blank.name ≡ L.name }
+    requires parts { blank.parts ≡ L.parts }
+    requires some { 0 < blank.parts }
+{
+    let mut steps = Steps::<L>::zero(blank);
+    let five = sum_of(5)?;
+    let mut row = R::make(alloc, &[Sum::zero(), five, sum_of(-3)?])?;
+    row.replace_all(&[five, sum_of(-1)?, five], &mut steps);
+    assert_ranks(rt, &row, &[-1, 5, 5], &mut steps);
+    row.replace(3, sum_of(-7)?, &mut steps);
+    assert_ranks(rt, &row, &[-7, -1, 5], &mut steps);
+    Ok(())
+}
+
 /// Gives each scenario a sum, one after another: 1, 2 and so on, or the same from the last one on.
 fn refill<R: Row, L: Ledger>(row: &mut R, rising: bool, steps: &mut Steps<L>) -> Result<(), Fail>
     ensures { length (R.sums row.new) ≡ length (R.sums row.old) }
@@ -104,4 +120,10 @@ fn finds_ranks_among_few_sums(rt: HostRuntime) -> Result<(), Fail> {
 fn finds_ranks_among_1024_sums(rt: HostRuntime) -> Result<(), Fail> {
     rank_most::<FlatRow, Brand>(&rt, rt.alloc(), Blank::new(1))?;
     rank_most::<TreeRow, Brand>(&rt, rt.alloc(), Blank::new(1))
+}
+
+#[test]
+fn changes_all_sums_at_once(rt: HostRuntime) -> Result<(), Fail> {
+    change_all::<TreeRow, Brand>(&rt, rt.alloc(), Blank::new(1))?;
+    change_all::<FlatRow, Brand>(&rt, rt.alloc(), Blank::new(1))
 }

@@ -1,10 +1,13 @@
 //! A height-balanced tree of entries. Contracts see it as its entries in order, beside its height.
-ghost use Rattle.std.specs.Prelude.{◌≡◌, true, false, ◌+◌, ◌*◌, ◌^◌, ◌<◌, ◌≤◌, max, [], ◌∷◌, ◌++◌, length, IfOk};
+ghost use Rattle.std.specs.Prelude.{◌≡◌, true, false, ◌+◌, ◌*◌, ◌^◌, ◌<◌, ◌≤◌, max, [], ◌∷◌, ◌++◌, map, length, All};
+ghost use Rattle.std.specs.Prelude.{IfOk};
 ghost use Rattle.quantile_index.specs.Order.{IsOrdered};
+ghost use Rattle.quantile_index.specs.Pairs.{entry_of, IsPairOf};
 ghost use Rattle.quantile_index.specs.Ranking.{HasSumAt};
 ghost use Rattle.quantile_index.specs.Tree.{contents, entries_of, IsLow, IsSound, IsSoundLink, DifferByAtMost};
 
 use crate::entry::Entry;
+use crate::ranks::entry_at;
 use fixed_num::Sum;
 use std::alloc::{AllocError, Global};
 use std::marker::Model;
@@ -119,6 +122,25 @@ impl Tree {
                 } else {
                     node.right.sum_at(index - before - 1)
                 }
+            }
+        }
+    }
+
+    /// Writes the entries of pairs that were read of these sums over those of the tree, whose shape stays.
+    pub fn overwrite(&mut self, pairs: &[(i128, u32)], from: &[Sum])
+        requires each { length pairs.now ≡ length self.old.0 }
+        requires read { All (IsPairOf from.now) pairs.now }
+        requires ordered { IsOrdered (map entry_of pairs.now) }
+        ensures entries { self.new.0 ≡ map entry_of pairs.now }
+        ensures height { self.new.1 ≡ self.old.1 }
+    {
+        match &mut self.root {
+            Link::Leaf => {}
+            Link::Fork(node) => {
+                let before = node.left.size() as usize;
+                node.left.overwrite(&pairs[..before], from);
+                node.entry = entry_at(from, &pairs[before]);
+                node.right.overwrite(&pairs[before + 1..], from);
             }
         }
     }

@@ -5,6 +5,7 @@ ghost use Rattle.quantile_index.specs.Ranking.{IsRanking};
 
 use crate::change::{put_in, take_out};
 use crate::entry::Entry;
+use crate::ranks::rank;
 use crate::row::Row;
 use crate::tree::{Node, Tree};
 use fixed_num::{Steps, Sum};
@@ -13,24 +14,27 @@ use std::marker::{Brand, Model};
 use std::mem;
 use std::sync::ledger::{Blank, Ledger};
 
-/// A row as a height-balanced tree of entries in order, beside the sums by scenario.
+/// A row as a height-balanced tree of entries in order, beside the sums by scenario and room to bring all of them into
+/// order at once.
 ///
-/// A change takes the scenario's node out, gives it the new sum and puts the same node in again.
+/// A change takes the scenario's node out, gives it the new sum and puts the same node in again. A change of all sums
+/// sorts them, and writes them over the entries of the tree, whose shape stays.
 #[derive(Drop)]
 pub struct TreeRow {
     sums: Vec<Sum>,
     tree: Tree,
+    pairs: Vec<(i128, u32)>,
 }
 
 impl Model for TreeRow {
-    ghost use Rattle.std.specs.Prelude.{ℤ, List};
+    ghost use Rattle.std.specs.Prelude.{ℤ, List, length};
     ghost use Rattle.quantile_index.specs.Ranking.{IsRow};
 
     ghost Value = { List ℤ };
 
     ghost view = { λ r. r.sums.items };
 
-    ghost invariant = { λ r. IsRow r.tree.0 r.sums.items };
+    ghost invariant = { λ r. IsRow r.tree.0 r.sums.items (length r.pairs.items) };
 }
 
 /// Changes the sum of scenario `k`, by scenario and in the tree, which is handed back.
@@ -89,7 +93,8 @@ impl Row for TreeRow {
     fn make(alloc: Global, from: &[Sum]) -> Result<TreeRow, AllocError> {
         let tree = tree_of::<Brand>(alloc, from, Blank::new(1))?;
         let sums = Vec::from_slice(alloc, from)?;
-        Ok(TreeRow { sums, tree })
+        let pairs = vec![in alloc; (0, 0); from.len()]?;
+        Ok(TreeRow { sums, tree, pairs })
     }
 
     fn len(&self) -> u32 {
@@ -103,6 +108,12 @@ impl Row for TreeRow {
     fn replace<L: Ledger>(&mut self, k: u32, sum: Sum, steps: &mut Steps<L>) {
         let tree = mem::replace(&mut self.tree, Tree::leaf());
         self.tree = change(tree, &mut self.sums, k, sum, steps);
+    }
+
+    fn replace_all<L: Ledger>(&mut self, from: &[Sum], steps: &mut Steps<L>) {
+        rank(from, &mut self.pairs, steps);
+        self.tree.overwrite(&self.pairs, from);
+        self.sums.copy_from_slice(from);
     }
 
     fn kth<L: Ledger>(&self, m: u32, steps: &mut Steps<L>) -> Sum {

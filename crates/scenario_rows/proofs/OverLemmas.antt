@@ -3,7 +3,7 @@ use Rattle.std.proofs.Common.{◌≡◌, ℕ, ◌+◌, ◌-◌, ◌*◌, ◌<◌
 use Rattle.std.proofs.Common.{None, length, map, get_or, max, fold, true, IsTrue, inl, inr, zero, suc, get_or-set_same}
 use Rattle.std.proofs.Common.{get_or-set_other}
 use Rattle.std.specs.Prelude.{IfSome}
-use Rattle.std.specs.List.{range_with_len}
+use Rattle.std.specs.List.{range_with_len, All}
 use Rattle.std.proofs.Math.ListN.{set}
 use Rattle.std.proofs.Math.Nat.{le-max_left, le-max_right}
 use Rattle.std.proofs.lemmas.Bool.{cases_lt}
@@ -127,6 +127,21 @@ pub IsOver-starts : (inst : Tables) (starts : List ℕ) (periods : List PeriodSt
     → IsOver inst (record { board = map Some starts; periods = periods })
 IsOver-starts inst starts periods a e =
     record { each = length-map starts Some ∙ a.each; allowed = RunsAreAllowed-starts inst starts a; periods = e }
+
+-- ---- room
+
+-- no period of a board has more sums than the longest period has scenarios
+pub room_for : (inst : Tables) (board : List (Option ℕ)) (periods : List PeriodState) (n size : ℕ)
+    → periods ≡ map (λ k. period_of inst board (k + 1)) (range_with_len 0 n) → n ≤ inst.periods
+    → ((t : ℕ) → 1 ≤ t → t ≤ inst.periods → scenarios_of inst t ≤ size) → All (λ p. length p.sums ≤ size) periods
+room_for inst board periods n size made few most = λ k d l.
+    let low : k < n =
+    omega (arith, l, ap length made, length-map-range_with_len (λ k. period_of inst board (k + 1)) 0 n) in
+    let at = ap (λ (ps : List PeriodState). get_or ps k d) made
+    ∙ get_or-map-range_with_len (λ k. period_of inst board (k + 1)) 0 n k k d low (omega arith) in
+    let small = most (k + 1) (omega arith) (omega (arith, low, few)) in
+    subst (λ (p : PeriodState). length p.sums ≤ size) (sym at)
+    (omega (arith, small, length-scenario_sums inst board (k + 1)))
 
 -- ---- steps
 

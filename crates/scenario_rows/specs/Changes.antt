@@ -14,6 +14,11 @@ abbrev pub changed : Change → ℤ → ℤ → ℤ
 changed Add sum risk = sum +ℤ risk
 changed Take sum risk = sum -ℤ risk
 
+-- sums after the change, each by the risk of its scenario
+unfoldable pub changed_by : Change → List ℤ → List ℤ → List ℤ
+changed_by change risks sums =
+    list_of (length sums) (λ k. changed change (slice_index_or sums k (pos 0)) (slice_index_or risks k (pos 0)))
+
 -- the sums of period t after the change by the risks of intervention i at start s
 unfoldable pub changed_sums : Tables → Change → ℕ → ℕ → ℕ → List ℤ → List ℤ
 changed_sums inst change i s t sums =

@@ -24,15 +24,14 @@ impl Change {
         }
     }
 
-    /// A total of scenario sums after the change by a risk.
-    pub(crate) fn total_after(self, total: Amount, risk: Fixed) -> Amount
-        requires { unsigned_abs (changed self total risk) < 10 ^ 37 }
-        ensures { result ≡ changed self total risk }
+    /// A total of scenario sums after the change by risks with this total.
+    pub(crate) fn total_after(self, total: Amount, risk_total: Amount) -> Amount
+        requires { unsigned_abs (changed self total risk_total) < 10 ^ 37 }
+        ensures { result ≡ changed self total risk_total }
     {
-        let risk = Amount::of(risk.count());
         match self {
-            Change::Add => total.plus(risk),
-            Change::Take => total.minus(risk),
+            Change::Add => total.plus(risk_total),
+            Change::Take => total.minus(risk_total),
         }
     }
 

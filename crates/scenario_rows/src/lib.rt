@@ -9,6 +9,7 @@ mod part;
 mod period_row;
 mod risk_rows;
 mod runs;
+mod shift;
 mod sum_row;
 
 pub use risk_rows::RiskRows;

@@ -1,15 +1,15 @@
 //! One period of the rows: contracts see its scenario sums, its rank and the weight of the mean.
-ghost use Rattle.std.specs.Prelude.{◌≡◌, ◌+◌, ◌*◌, ◌≤◌, length, map, Some, IfOk, IfSome};
+ghost use Rattle.std.specs.Prelude.{◌≡◌, ◌+◌, ◌≤◌, length, map, Some, IfOk, IfSome};
 ghost use Rattle.instance_model.specs.Plans.{AreAllowedStarts};
 ghost use Rattle.scenario_rows.specs.RiskStates.{period_of};
 ghost use Rattle.scenario_rows.specs.Bounds.{period_bound};
-ghost use Rattle.scenario_rows.specs.Changes.{CanChange, changed_sums, changed_period};
+ghost use Rattle.scenario_rows.specs.Changes.{CanChange, changed_period};
 ghost use Rattle.scenario_rows.specs.Parts.{part_of, IsSoundPeriod};
 
 use crate::change::Change;
 use crate::runs::sums_of;
 use crate::sum_row::SumRow;
-use fixed_num::{Amount, Steps};
+use fixed_num::{Amount, Steps, Sum};
 use instance_model::Instance;
 use quantile_index::Row;
 use std::alloc::{AllocError, Global};
@@ -34,27 +34,6 @@ impl<R: Row> Model for PeriodRow<R> {
     ghost view = { λ p. record { alpha = p.alpha; rank = p.rank; sums = p.row } };
 
     ghost invariant = { λ p. IsWeighed (record { alpha = p.alpha; rank = p.rank; sums = p.row }) p.part };
-}
-
-/// Changes the sums of period `t` by the risks of intervention `i` at start `s`.
-fn change_sums<R: Row, L: Ledger>(
-    row: &mut SumRow<R>,
-    inst: &Instance,
-    i: u32,
-    s: u32,
-    t: u32,
-    change: Change,
-    steps: &mut Steps<L>,
-)
-    requires { CanChange inst.now change i s t row.old }
-    ensures sums { row.new ≡ changed_sums inst.now change i s t row.old }
-    ensures cost { IfSome R.most (λ most. steps.new ≤ steps.old + length row.old * (most (length row.old) + 1)) }
-    ensures forward { steps.old ≤ steps.new }
-{
-    for k in 0..inst.scenarios(t) {
-        let risk = inst.risk_cell(i, s, t, k + 1, steps);
-        row.change(k + 1, risk, change, steps);
-    }
 }
 
 impl<R: Row> PeriodRow<R> {
@@ -93,7 +72,8 @@ impl<R: Row> PeriodRow<R> {
         self.part
     }
 
-    /// Changes the sums of period `t`, which this is, by the risks of intervention `i` at start `s`.
+    /// Changes the sums of period `t`, which this is, by the risks of intervention `i` at start `s`. The new sums are
+    /// made on scratch.
     pub(crate) fn change<L: Ledger>(
         &mut self,
         inst: &Instance,
@@ -101,14 +81,19 @@ impl<R: Row> PeriodRow<R> {
         s: u32,
         t: u32,
         change: Change,
+        scratch: &mut [Sum],
         steps: &mut Steps<L>,
     )
-        requires { CanChange inst.now change i s t self.old.sums }
+        requires can { CanChange inst.now change i s t self.old.sums }
+        requires room { length self.old.sums ≤ length scratch.old }
+        ensures room { length scratch.new ≡ length scratch.old }
         ensures value { self.new ≡ changed_period inst.now change i s t self.old }
         ensures cost { IfSome R.most (λ most. steps.new ≤ steps.old + period_bound most (length self.old.sums)) }
         ensures forward { steps.old ≤ steps.new }
     {
-        change_sums(&mut self.row, inst, i, s, t, change, steps);
+        let risks = inst.risks(i, s, t, steps);
+        let scratch = &mut scratch[..risks.len()];
+        self.row.change(risks, change, scratch, steps);
         self.part = self.row.part(self.alpha, self.rank, steps);
     }
 }

@@ -12,7 +12,7 @@ ghost use Rattle.scenario_rows.specs.Changes.{CanChange, changed_period, start_b
 use crate::change::Change;
 use crate::period_row::PeriodRow;
 use duration_calendar::run;
-use fixed_num::{Amount, Steps};
+use fixed_num::{Amount, Steps, Sum};
 use instance_model::{Instance, plan_of};
 use quantile_index::Row;
 use std::alloc::{AllocError, Global};
@@ -27,17 +27,31 @@ pub struct RiskRows<R: Row> {
     board: Vec<Option<u32>>,
     periods: Vec<PeriodRow<R>>,
     score: Amount,
+    /// Room for the sums of the longest period.
+    scratch: Vec<Sum>,
 }
 
 impl<R: Row> Model for RiskRows<R> {
     ghost use Rattle.scenario_rows.specs.RiskStates.{RiskState};
-    ghost use Rattle.scenario_rows.specs.Parts.{IsScored};
+    ghost use Rattle.scenario_rows.specs.Parts.{AreKept};
+    ghost use Rattle.std.specs.Prelude.{length};
 
     ghost Value = { RiskState };
 
     ghost view = { λ r. record { board = r.board.items; periods = r.periods.items } };
 
-    ghost invariant = { λ r. IsScored r.periods.items r.score };
+    ghost invariant = { λ r. AreKept r.periods.items r.score (length r.scratch.items) };
+}
+
+/// The greatest number of scenarios of a period.
+fn most_scenarios(inst: &Instance) -> u32
+    ensures { (t : ℕ) → 1 ≤ t → t ≤ inst.now.periods → scenarios_of inst.now t ≤ result }
+{
+    let mut most = 0;
+    for u in 0..inst.periods() {
+        most = inst.scenarios(u + 1).max(most);
+    }
+    most
 }
 
 /// The rows with all interventions on board. Steps are counted on a counter of its own.
@@ -63,10 +77,12 @@ fn rows_of<R: Row, L: Ledger>(
         score = score.plus(period.part());
         periods.push(period)?;
     }
+    let scratch = vec![in alloc; Sum::zero(); most_scenarios(inst) as usize]?;
     Ok(RiskRows {
         board,
         periods,
         score,
+        scratch,
     })
 }
 
@@ -165,7 +181,7 @@ impl<R: Row> RiskRows<R> {
     {
         let period = &mut self.periods[t as usize - 1];
         let old = period.part();
-        period.change(inst, i, s, t, change, steps);
+        period.change(inst, i, s, t, change, &mut self.scratch, steps);
         let new = period.part();
         self.score = self.score.minus(old).plus(new);
     }

@@ -1,13 +1,12 @@
 //! A row of scenario sums with their total, which is kept as they change: contracts see the sums.
-ghost use Rattle.std.specs.Prelude.{◌≡◌, ◌+◌, ◌-◌, ◌*◌, ◌≤◌, pos, length, take, IfOk, IfSome, slice_index_or};
-ghost use Rattle.std.specs.Prelude.{slice_set};
+ghost use Rattle.std.specs.Prelude.{◌≡◌, ◌+◌, ◌*◌, ◌≤◌, length, IfOk, IfSome};
 ghost use Rattle.fixed_num.specs.Sums.{total};
-ghost use Rattle.instance_model.specs.Plans.{IsSmallSum};
-ghost use Rattle.scenario_rows.specs.Changes.{changed};
+ghost use Rattle.scenario_rows.specs.Changes.{changed_by};
 ghost use Rattle.scenario_rows.specs.Parts.{AreRowSums, part_in};
 
 use crate::change::Change;
 use crate::part::part;
+use crate::shift::{copy_sums, risk_total, shift};
 use fixed_num::{Amount, Fixed, Steps, Sum};
 use quantile_index::Row;
 use std::alloc::{AllocError, Global};
@@ -58,25 +57,26 @@ impl<R: Row> SumRow<R> {
         Ok(SumRow { row, total })
     }
 
-    /// Changes the sum of scenario `k` by a risk.
+    /// Changes each sum by the risk of its scenario. The new sums are made on scratch.
     pub(crate) fn change<L: Ledger>(
         &mut self,
-        k: u32,
-        risk: Fixed,
+        risks: &[Fixed],
         change: Change,
+        scratch: &mut [Sum],
         steps: &mut Steps<L>,
     )
-        requires from { 1 ≤ k }
-        requires to { k ≤ length self.old }
-        requires small { IsSmallSum (changed change (slice_index_or self.old (k - 1) (pos 0)) risk) }
-        ensures sums { self.new
-            ≡ slice_set self.old (k - 1) (changed change (slice_index_or self.old (k - 1) (pos 0)) risk) }
-        ensures cost { IfSome R.most (λ most. steps.new ≤ steps.old + most (length self.old)) }
+        requires each { length risks.now ≡ length self.old }
+        requires room { length scratch.old ≡ length self.old }
+        requires small { AreRowSums (changed_by change risks.now self.old) }
+        ensures sums { self.new ≡ changed_by change risks.now self.old }
+        ensures room { length scratch.new ≡ length scratch.old }
+        ensures cost { IfSome R.most (λ most. steps.new ≤ steps.old + length self.old * most (length self.old)) }
         ensures forward { steps.old ≤ steps.new }
     {
-        let sum = change.sum_after(self.row.get(k), risk);
-        self.row.replace(k, sum, steps);
-        self.total = change.total_after(self.total, risk);
+        copy_sums(&self.row, scratch);
+        shift(scratch, risks, change);
+        self.row.replace_all(scratch, steps);
+        self.total = change.total_after(self.total, risk_total(risks));
     }
 
     /// What the sums add to the score. One step reads the quantile.

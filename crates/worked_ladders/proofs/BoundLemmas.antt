@@ -20,13 +20,17 @@ use Rattle.worked_ladders.specs.Bounding.{BoundsScores}
 pub record AreAllowedTo (inst : Tables) (starts : List ℕ) (n : ℕ) : Type 0 where
   pub allowed : (i : ℕ) → i < n → IsTrue (is_allowed inst i (get_or starts i 0))
 
-pub BoundsScores-from : (inst : Tables) (prices : PriceList) (bound : ℤ) → IsFitting inst → IsPriceList inst prices → WorthBoundsPlans risk_base risk_value → bound ≡ root_worth inst prices → BoundsScores inst bound
+pub BoundsScores-from : (inst : Tables) (prices : PriceList) (bound : ℤ) → IsFitting inst → IsPriceList inst prices
+    → WorthBoundsPlans risk_base risk_value → bound ≡ root_worth inst prices → BoundsScores inst bound
 BoundsScores-from inst prices bound f h law e = record {
   bounds = λ starts each feasible.
-      subst (λ (z : ℤ). z ≤ℤ score_of inst (map Some starts)) (sym e) (law inst prices (root_box inst) starts f h (record {
+      subst (λ (z : ℤ). z ≤ℤ score_of inst (map Some starts)) (sym e)
+      (law inst prices (root_box inst) starts f h (record {
         each = each;
         feasible = feasible;
-        from = λ i l. rw (root_at inst i l) ((is_allowed_facts inst i (get_or starts i 0) (feasible_allowed inst starts each feasible i l)).0);
-        to = λ i l. rw (root_at inst i l) ((is_allowed_facts inst i (get_or starts i 0) (feasible_allowed inst starts each feasible i l)).1);
+        from = λ i l. rw (root_at inst i l)
+            ((is_allowed_facts inst i (get_or starts i 0) (feasible_allowed inst starts each feasible i l)).0);
+        to = λ i l. rw (root_at inst i l)
+            ((is_allowed_facts inst i (get_or starts i 0) (feasible_allowed inst starts each feasible i l)).1);
       }));
 }

@@ -46,7 +46,8 @@ pub fn root_worth(
     Ok(Some(worth(&table, root.spans())))
 }
 
-/// A bound on the scores of all plans, by the list that is raised for a plan of these starts. None where one of them isn't allowed.
+/// A bound on the scores of all plans, by the list that is raised for a plan of these
+/// starts. None where one of them isn't allowed.
 pub fn raised_bound(
     alloc: Global,
     inst: &Instance,

@@ -14,8 +14,8 @@ use std::test::Fail;
 /// What a risk of 1 adds to a score.
 const ONE: i128 = 1_000_000_000_000_000_000;
 
-/// Two interventions of one period each, both of which may run in either of two periods. Together they load `c` by 12 of 10. The mean
-/// alone costs.
+/// Two interventions of one period each, both of which may run in either of two periods. Together they
+/// load `c` by 12 of 10. The mean alone costs.
 const PAIR: &str = r#"{"Resources":{"c":{"max":[10,10],"min":[0,0]}},"Seasons":{},
 "Interventions":{
 "A":{"tmax":2,"Delta":[1,1],
@@ -48,7 +48,8 @@ const FLOOR: &str = r#"{"Resources":{"c":{"max":[9,9],"min":[5,0]}},"Seasons":{}
 "Exclusions":{},"T":2,"Scenarios_number":[1,1],
 "Quantile":1,"Alpha":1}"#;
 
-/// One intervention with one start, and two scenarios. Half the mean costs, and half of what the greater risk is above it.
+/// One intervention with one start, and two scenarios. Half the mean costs, and
+/// half of what the greater risk is above it.
 const SKEWED: &str = r#"{"Resources":{},"Seasons":{},
 "Interventions":{"A":{"tmax":1,"Delta":[1],"workload":{},
 "risk":{"1":{"1":[1,3]}}}},
@@ -59,8 +60,8 @@ const SKEWED: &str = r#"{"Resources":{},"Seasons":{},
 const IDLE: &str = r#"{"Resources":{},"Seasons":{},"Interventions":{},"Exclusions":{},
 "T":1,"Scenarios_number":[1],"Quantile":1,"Alpha":1}"#;
 
-/// What a raised list has in period 1, or none of it: the prices on the limits of the first resource, that of the first exclusion, and
-/// the tail's weight with its scenario, where it is one.
+/// What a raised list has in period 1, or none of it: the prices on the limits of the first resource, that of the first
+/// exclusion, and the tail's weight with its scenario, where it is one.
 #[derive(Clone, Copy, Debug, PartialEq, Eq)]
 struct Row {
     worth: i128,
@@ -124,8 +125,8 @@ fn raised(alloc: Global, text: &str, starts: &[u32]) -> Result<Option<Row>, Fail
     Ok(row_of(alloc, &inst, starts)?)
 }
 
-// g is 3 * 10^16 and 1 more. A step of 10^5 on the upper limit makes A and B cost 0.6 more each in period 1, and takes 1 off. After a
-// fourth, B would start in period 2.
+// g is 3 * 10^16 and 1 more. A step of 10^5 on the upper limit makes A and B cost 0.6 more each in period 1, and takes
+// 1 off. After a fourth, B would start in period 2.
 #[test]
 fn full_resources_get_a_price(rt: HostRuntime) -> Result<(), Fail> {
     let row = raised(rt.alloc(), PAIR, &[1, 1])?;
@@ -141,7 +142,8 @@ fn full_resources_get_a_price(rt: HostRuntime) -> Result<(), Fail> {
     Ok(())
 }
 
-// A step of 10^5 makes A and B cost 0.1 more each in period 1, and takes 0.1 off. After the twentieth, B would start in period 2.
+// A step of 10^5 makes A and B cost 0.1 more each in period 1, and takes 0.1 off.
+// After the twentieth, B would start in period 2.
 #[test]
 fn exclusions_get_a_price(rt: HostRuntime) -> Result<(), Fail> {
     let row = raised(rt.alloc(), APART, &[1, 1])?;
@@ -157,7 +159,8 @@ fn exclusions_get_a_price(rt: HostRuntime) -> Result<(), Fail> {
     Ok(())
 }
 
-// g is 1.5 * 10^16 and 1 more. A step of 10^4 makes A cost 0.05 less in period 1, and adds 0.05. After the sixtieth, A would start there.
+// g is 1.5 * 10^16 and 1 more. A step of 10^4 makes A cost 0.05 less in period 1, and adds
+// 0.05. After the sixtieth, A would start there.
 #[test]
 fn lower_limits_get_a_price(rt: HostRuntime) -> Result<(), Fail> {
     let row = raised(rt.alloc(), FLOOR, &[1])?;

@@ -9,11 +9,15 @@ loop-i-init c = record { value = sym (sum_below-zero _); small = omega arith }
 
 pub loop-i-preserved : goal.loop-i-preserved
 loop-i-preserved c =
-    let few : (c.loop-i.i + 1) * 1_000_000_000_000_000_000_000_000_000_000 < 2 ^ 127 = omega (arith, c.interventions-i-end.ensures.few) in
-    let small : unsigned_abs c.greatest_base-sum.result ≤ 1_000_000_000_000_000_000_000_000_000_000 = omega (arith, c.greatest_base-sum.ensures.small) in
+    let few : (c.loop-i.i + 1) * 1_000_000_000_000_000_000_000_000_000_000 < 2 ^ 127 =
+    omega (arith, c.interventions-i-end.ensures.few) in
+    let small : unsigned_abs c.greatest_base-sum.result ≤ 1_000_000_000_000_000_000_000_000_000_000 =
+    omega (arith, c.greatest_base-sum.ensures.small) in
     record {
-      value = sum_step _ _ c.loop-i.i 1_000_000_000_000_000_000_000_000_000_000 _ c.loop-i.invariant.value c.loop-i.invariant.small c.greatest_base-sum.ensures.value small few;
-      small = sum_step_small (to_z w128 c.loop-i.sum-bits) c.greatest_base-sum.result c.loop-i.i 1_000_000_000_000_000_000_000_000_000_000 c.loop-i.invariant.small small few;
+      value = sum_step _ _ c.loop-i.i 1_000_000_000_000_000_000_000_000_000_000 _ c.loop-i.invariant.value
+          c.loop-i.invariant.small c.greatest_base-sum.ensures.value small few;
+      small = sum_step_small (to_z w128 c.loop-i.sum-bits) c.greatest_base-sum.result c.loop-i.i
+          1_000_000_000_000_000_000_000_000_000_000 c.loop-i.invariant.small small few;
     }
 
 pub returns-clause-value : goal.returns-clause-value

@@ -8,8 +8,13 @@ root_worth-requires-clause-starts c = root_has_starts c.args.inst.now c.args.sta
 
 pub returns-clause-value : goal.returns-clause-value
 returns-clause-value c =
-    let gain = IsGainOf-from c.greatest_total.result c.in_ok-least.least c.div_euclid.result c.greatest_total.ensures.small c.in_ok-least.ensures.small c.div_euclid.ensures in
-    gain.value ∙ least_gain_is c.args.inst.now c.greatest_total.result c.in_ok-least.least _ c.greatest_total.ensures.value (c.in_ok-least.ensures.value ∙ ap (root_worth c.args.inst.now) c.in_ok-zero.ensures.value ∙ root_worth-zero c.args.inst.now) refl
+    let gain = IsGainOf-from c.greatest_total.result c.in_ok-least.least c.div_euclid.result
+    c.greatest_total.ensures.small c.in_ok-least.ensures.small c.div_euclid.ensures in
+    gain.value
+    ∙ least_gain_is c.args.inst.now c.greatest_total.result c.in_ok-least.least _ c.greatest_total.ensures.value
+    (c.in_ok-least.ensures.value ∙ ap (root_worth c.args.inst.now) c.in_ok-zero.ensures.value
+    ∙ root_worth-zero c.args.inst.now) refl
 
 pub returns-clause-small : goal.returns-clause-small
-returns-clause-small c = (IsGainOf-from c.greatest_total.result c.in_ok-least.least c.div_euclid.result c.greatest_total.ensures.small c.in_ok-least.ensures.small c.div_euclid.ensures).small
+returns-clause-small c = (IsGainOf-from c.greatest_total.result c.in_ok-least.least c.div_euclid.result
+    c.greatest_total.ensures.small c.in_ok-least.ensures.small c.div_euclid.ensures).small

@@ -10,12 +10,16 @@ loop-j-preserved c =
     elim c.if-comes_before.branch [
       | then-comes_before w ↦
           rw w.count-is (record {
-            value = counted_yes (λ j. comes_before c.args.sums.now j c.args.k) (length c.args.sums.now) c.loop-j.j c.loop-j.count (omega arith) c.loop-j.invariant.value (sym c.comes_before.ensures ∙ w.if-comes_before.true);
+            value = counted_yes (λ j. comes_before c.args.sums.now j c.args.k) (length c.args.sums.now) c.loop-j.j
+                c.loop-j.count (omega arith) c.loop-j.invariant.value
+                (sym c.comes_before.ensures ∙ w.if-comes_before.true);
             few = omega (arith, c.loop-j.invariant.few);
           })
       | else-comes_before w ↦
           rw w.count-is (record {
-            value = counted_no (λ j. comes_before c.args.sums.now j c.args.k) (length c.args.sums.now) c.loop-j.j c.loop-j.count (omega arith) c.loop-j.invariant.value (sym c.comes_before.ensures ∙ w.if-comes_before.false);
+            value = counted_no (λ j. comes_before c.args.sums.now j c.args.k) (length c.args.sums.now) c.loop-j.j
+                c.loop-j.count (omega arith) c.loop-j.invariant.value
+                (sym c.comes_before.ensures ∙ w.if-comes_before.false);
             few = omega (arith, c.loop-j.invariant.few);
           })
     ]

@@ -10,9 +10,13 @@ use Rattle.price_ladder.proofs.root.root_worth.Goals as goal
 pub worth-requires : goal.worth-requires
 worth-requires c =
     let box : c.spans.result.now ≡ root_box c.args.inst.now = c.spans.ensures ∙ ap first_box c.in_ok-root.ensures in
-    subst (λ (spans : List Span). IsPricedBox c.in_ok-table.table spans) (sym box) (c.in_ok-table.ensures.boxes (root_box c.args.inst.now) (root_is_box c.args.inst.now c.fits.ensures) c.requires.starts)
+    subst (λ (spans : List Span). IsPricedBox c.in_ok-table.table spans) (sym box)
+    (c.in_ok-table.ensures.boxes (root_box c.args.inst.now)
+    (root_is_box c.args.inst.now c.fits.ensures) c.requires.starts)
 
 pub returns-clause-value : goal.returns-clause-value
 returns-clause-value c =
     let box : c.spans.result.now ≡ root_box c.args.inst.now = c.spans.ensures ∙ ap first_box c.in_ok-root.ensures in
-    back_from_abs c.worth.result (omega (arith, c.worth.ensures.small)) ∙ c.worth.ensures.value ∙ ap (worth_in c.in_ok-table.table) box ∙ c.in_ok-table.ensures.worths (root_box c.args.inst.now) (root_is_box c.args.inst.now c.fits.ensures) c.requires.starts
+    back_from_abs c.worth.result (omega (arith, c.worth.ensures.small)) ∙ c.worth.ensures.value
+    ∙ ap (worth_in c.in_ok-table.table) box ∙ c.in_ok-table.ensures.worths (root_box c.args.inst.now) (root_is_box
+    c.args.inst.now c.fits.ensures) c.requires.starts

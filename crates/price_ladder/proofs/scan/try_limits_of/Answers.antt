@@ -8,10 +8,21 @@ use Rattle.price_ladder.proofs.scan.try_limits_of.Goals as goal
 
 pub loop-t-preserved : goal.loop-t-preserved
 loop-t-preserved g c = record {
-  failed = failed_more c.args.inst.now (g.L.Ladder.list c.args.ladder.now) (g.L.Ladder.list c.loop-t.ladder) (g.L.Ladder.list c.try_limits_in.new.ladder) _ (λ t. IsStepAmong c.args.inst.now (IsLimitIn c.args.c t)) 1 c.loop-t.t c.loop-t.invariant.failed (tried_to c.args.inst.now (g.L.Ladder.list c.loop-t.ladder) (g.L.Ladder.list c.try_limits_in.new.ladder) _ _ (IsStepAmong c.args.inst.now (IsLimitIn c.args.c c.loop-t.t) (g.L.Ladder.list c.loop-t.ladder)) c.in_ok-try_limits_in.field-0 false refl c.if-branch.false c.in_ok-try_limits_in.ensures.tried);
+  failed = failed_more c.args.inst.now (g.L.Ladder.list c.args.ladder.now) (g.L.Ladder.list c.loop-t.ladder)
+      (g.L.Ladder.list c.try_limits_in.new.ladder) _ (λ t. IsStepAmong c.args.inst.now (IsLimitIn c.args.c t)) 1
+      c.loop-t.t c.loop-t.invariant.failed
+      (tried_to c.args.inst.now (g.L.Ladder.list c.loop-t.ladder) (g.L.Ladder.list c.try_limits_in.new.ladder) _ _
+      (IsStepAmong c.args.inst.now (IsLimitIn c.args.c c.loop-t.t) (g.L.Ladder.list c.loop-t.ladder))
+      c.in_ok-try_limits_in.field-0 false refl c.if-branch.false c.in_ok-try_limits_in.ensures.tried);
   kept = c.in_ok-try_limits_in.ensures.kept;
 }
 
 pub returns-clause-tried : goal.returns-clause-tried
 returns-clause-tried g c =
-    tried_to c.args.inst.now (g.L.Ladder.list c.args.ladder.now) (g.L.Ladder.list c.loop-t.ladder) _ _ _ false false (to_z-of_z w128 c.args.target c.ranges.target) refl (failed_all c.args.inst.now (g.L.Ladder.list c.args.ladder.now) (g.L.Ladder.list c.loop-t.ladder) _ (λ t. IsStepAmong c.args.inst.now (IsLimitIn c.args.c t)) (IsStepAmong c.args.inst.now (IsLimitOf c.args.inst.now c.args.c)) 1 c.loop-t.t (λ p s. limit_of_at c.args.inst.now c.args.c c.loop-t.t (g.L.Ladder.list c.args.ladder.now) p (omega arith) s) c.loop-t.invariant.failed)
+    tried_to c.args.inst.now (g.L.Ladder.list c.args.ladder.now) (g.L.Ladder.list c.loop-t.ladder) _ _ _ false false
+    (to_z-of_z w128 c.args.target c.ranges.target) refl
+    (failed_all c.args.inst.now (g.L.Ladder.list c.args.ladder.now) (g.L.Ladder.list c.loop-t.ladder) _
+    (λ t. IsStepAmong c.args.inst.now (IsLimitIn c.args.c t))
+    (IsStepAmong c.args.inst.now (IsLimitOf c.args.inst.now c.args.c)) 1 c.loop-t.t
+    (λ p s. limit_of_at c.args.inst.now c.args.c c.loop-t.t (g.L.Ladder.list c.args.ladder.now) p (omega arith) s)
+    c.loop-t.invariant.failed)

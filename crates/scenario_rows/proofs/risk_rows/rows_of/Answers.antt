@@ -1,17 +1,19 @@
-use Rattle.std.proofs.Common.{refl, ◌≡◌, ◌∙◌, ◌+◌, ◌<◌, sym, ap, subst, arith, ℕ, ℤ, List, [], ◌∷◌, ◌++◌, length, map}
-use Rattle.std.proofs.Common.{Some}
+use Rattle.std.proofs.Common.{refl, ◌≡◌, ◌∙◌, ◌+◌, ◌<◌, ◌≤◌, sym, ap, subst, arith, ℕ, ℤ, List, [], ◌∷◌, ◌++◌, length}
+use Rattle.std.proofs.Common.{map, Some}
 use Rattle.std.specs.List.{range_with_len}
 use Rattle.std.proofs.lemmas.List.FromFn.{map-range_with_len_more, length-map-range_with_len}
+use Rattle.instance_model.specs.Tables.{scenarios_of}
 use Rattle.scenario_rows.specs.RiskStates.{PeriodState, period_of}
 use Rattle.scenario_rows.specs.Parts.{IsScored}
 use Rattle.scenario_rows.proofs.ScoreLemmas.{part_of_small, scored_small, IsScored-none, IsScored-push, exchange_small}
-use Rattle.scenario_rows.proofs.OverLemmas.{IsOver-starts, IsOver-same}
+use Rattle.scenario_rows.proofs.OverLemmas.{IsOver-starts, IsOver-same, room_for}
 use Rattle.scenario_rows.proofs.risk_rows.rows_of.Goals as goal
 
 pub loop-u-init : goal.loop-u-init
 loop-u-init g c = record {
   made = c.in_ok-periods.ensures.items;
-  scored = rw (c.in_ok-periods.ensures.items, c.zero-score.ensures) IsScored-none;
+  scored =
+      rw (c.in_ok-periods.ensures.items, c.zero-score.ensures) IsScored-none;
 }
 
 pub plus-score-requires : goal.plus-score-requires
@@ -50,3 +52,16 @@ returns-clause-over g c =
     IsOver-same c.args.inst.now c.in_ok-board.board.items (map Some c.args.starts.now) c.loop-u.periods.items
     c.loop-u.periods.items c.in_ok-board.ensures refl
     (IsOver-starts c.args.inst.now c.args.starts.now c.loop-u.periods.items c.requires.starts made)
+
+pub invariant_of-result : goal.invariant_of-result
+invariant_of-result g c =
+    let most : (t : ℕ) → 1 ≤ t → t ≤ c.args.inst.now.periods
+    → scenarios_of c.args.inst.now t ≤ length c.in_ok-scratch.scratch.items =
+    λ t from to. omega
+    (arith, c.most_scenarios.ensures t from to, c.in_ok-scratch.ensures.len, c.in_ok-scratch.scratch.ok.0) in
+    record {
+      scored = c.loop-u.invariant.scored;
+      room = room_for c.args.inst.now (map Some c.args.starts.now) c.loop-u.periods.items c.loop-u.u
+          (length c.in_ok-scratch.scratch.items) c.loop-u.invariant.made
+          (omega (arith, c.periods-u-end.ensures.value)) most;
+    }

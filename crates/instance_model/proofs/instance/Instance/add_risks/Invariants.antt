@@ -4,8 +4,6 @@ use Rattle.instance_model.proofs.instance.Instance.add_risks.Given as goal
 
 abbrev pub invariant-loop-k : goal.invariant-loop-k
 invariant-loop-k g l = record {
-  done : (j : ℕ) → j < l.k
-      → get_or l.sums j (pos 0) ≡ get_or l.initial.sums j (pos 0) +ℤ risk_of l.self l.i l.s l.t (j + 1);
-  rest : (j : ℕ) → l.k ≤ j → get_or l.sums j (pos 0) ≡ get_or l.initial.sums j (pos 0);
-  cost : l.steps ≡ l.initial.steps + l.k;
+  done : (j : ℕ) → j < l.k → get_or l.sums j (pos 0) ≡ get_or l.fn.sums j (pos 0) +ℤ get_or l.risks j (pos 0);
+  rest : (j : ℕ) → l.k ≤ j → get_or l.sums j (pos 0) ≡ get_or l.fn.sums j (pos 0);
 }

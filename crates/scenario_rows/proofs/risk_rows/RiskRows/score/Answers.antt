@@ -11,4 +11,4 @@ returns-clause-value g c = λ inst over.
     let there = subst (IsOver inst) (sym c.self.view_is) over in
     back ∙ c.number.ensures.value
     ∙ score_is inst (record { board = c.self.inside.board.items; periods = c.self.inside.periods.items })
-    c.self.inside.score c.self.invariant there ∙ ap (λ (v : RiskState). score_of inst v.board) c.self.view_is
+    c.self.inside.score c.self.invariant.scored there ∙ ap (λ (v : RiskState). score_of inst v.board) c.self.view_is

@@ -1,0 +1,18 @@
+use Rattle.std.proofs.Common.{◌≡◌, ◌∙◌, sym, ap, subst, arith, pos, ℤ, List, length, get_or}
+use Rattle.instance_model.specs.Plans.{IsSmallSum}
+use Rattle.scenario_rows.specs.Changes.{changed}
+use Rattle.scenario_rows.proofs.ListLemmas.{read_at}
+use Rattle.scenario_rows.proofs.RowLemmas.{changed_by-from, changed_by_small}
+use Rattle.scenario_rows.proofs.shift.shift.Goals as goal
+
+pub sum_after-requires : goal.sum_after-requires
+sum_after-requires c =
+    let k = c.loop-k.k in
+    let sum = read_at c.loop-k.sums k c.index-sums-k.result (pos 0) (omega arith) c.index-sums-k.is
+    ∙ c.loop-k.invariant.rest k (omega arith) in
+    let risk = read_at c.args.risks.now k c.index-risks-k.result (pos 0) (omega arith) c.index-risks-k.is in
+    rw (sum, risk) (changed_by_small c.args.change c.args.risks.now c.args.sums.now k c.requires.small (omega arith))
+
+pub returns : goal.returns
+returns c = changed_by-from c.args.change c.args.risks.now c.args.sums.now c.loop-k.sums c.loop-k.invariant.each
+    (λ k l. c.loop-k.invariant.done k (omega (arith, l, c.requires.each)))

@@ -1,0 +1,43 @@
+//! Scenario sums on scratch, changed by the risks of a run: contracts see lists by scenario.
+ghost use Rattle.std.specs.Prelude.{◌≡◌, ◌*◌, ◌≤◌, ◌^◌, length, unsigned_abs};
+ghost use Rattle.fixed_num.specs.Sums.{total};
+ghost use Rattle.scenario_rows.specs.Changes.{changed_by};
+ghost use Rattle.scenario_rows.specs.Parts.{AreRowSums};
+
+use crate::change::Change;
+use fixed_num::{Amount, Fixed, Sum};
+use quantile_index::Row;
+
+/// Copies the sums of a row.
+pub(crate) fn copy_sums<R: Row>(row: &R, to: &mut [Sum])
+    requires { length to.old ≡ length (R.sums row.now) }
+    ensures { to.new ≡ R.sums row.now }
+{
+    for k in 0..row.len() {
+        to[k as usize] = row.get(k + 1);
+    }
+}
+
+/// Changes each sum by the risk of its scenario.
+pub(crate) fn shift(sums: &mut [Sum], risks: &[Fixed], change: Change)
+    requires each { length risks.now ≡ length sums.old }
+    requires small { AreRowSums (changed_by change risks.now sums.old) }
+    ensures { sums.new ≡ changed_by change risks.now sums.old }
+{
+    for (k, risk) in risks.iter().enumerate() {
+        sums[k] = change.sum_after(sums[k], *risk);
+    }
+}
+
+/// The total of some risks.
+pub(crate) fn risk_total(risks: &[Fixed]) -> Amount
+    requires { length risks.now ≤ 1024 }
+    ensures value { result ≡ total risks.now }
+    ensures small { unsigned_abs result ≤ 1024 * 10 ^ 20 }
+{
+    let mut total = Amount::zero();
+    for risk in risks {
+        total = total.plus(Amount::of(risk.count()));
+    }
+    total
+}
