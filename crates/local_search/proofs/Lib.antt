@@ -3,3 +3,4 @@ pub mod ChangeLemmas
 pub mod LeadsLemmas
 pub mod SweepLemmas
 pub mod BestLemmas
+pub mod DescentLemmas

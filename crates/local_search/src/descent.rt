@@ -1,9 +1,14 @@
 //! The descent from a kept plan.
-ghost use Rattle.std.specs.Prelude.{◌≡◌, IfOk, OnErr};
-ghost use Rattle.local_search.specs.Descents.{IsDescent};
+ghost use Rattle.std.specs.Prelude.{◌≡◌, ◌<◌, ◌≤◌, IfOk, OnErr};
+ghost use Rattle.instance_model.specs.Plans.{AreAllowedStarts};
+ghost use Rattle.plan_moves.specs.KeptPlans.{present};
+ghost use Rattle.local_search.specs.Descents.{IsDescent, IsLocalOptimum};
+ghost use Rattle.local_search.specs.Progress.{LeadsTo};
 
 use crate::progress::Progress;
 use crate::rounds::settle;
+use crate::target::target_of;
+use crate::walk::walk;
 use plan_moves::{Kept, Moves};
 use quantile_index::Row;
 use std::alloc::{AllocError, Global};
@@ -30,6 +35,17 @@ pub fn descend<R: Row>(
     descend_on::<R, Brand>(alloc, kept, turns, Blank::new(1))
 }
 
+/// Walks to the target, as far as that lowers the key, and tries rounds from there.
+fn descend_by<R: Row, L: Ledger>(kept: &mut Kept<'_, R>, progress: &mut Progress<L>, target: &[u32])
+    requires target { AreAllowedStarts kept.old.instance target.now }
+    requires room { progress.old.left ≤ kept.old.spare }
+    ensures leads { LeadsTo kept.old progress.old kept.new progress.new }
+    ensures none { 0 < progress.new.left → IsLocalOptimum kept.new.instance (present kept.new.plans) }
+{
+    walk(kept, progress, target);
+    settle(kept, progress);
+}
+
 /// The same, with its steps counted on the ledger that the blank becomes.
 fn descend_on<R: Row, L: Ledger>(
     alloc: Global,
@@ -44,8 +60,9 @@ fn descend_on<R: Row, L: Ledger>(
     ensures err { OnErr result (kept.new ≡ kept.old) }
 {
     let mut progress = Progress::<L>::make(alloc, turns, blank)?;
+    let target = target_of(alloc, kept, turns, &mut progress.steps)?;
     kept.reserve(turns as usize)?;
-    settle(kept, &mut progress);
+    descend_by(kept, &mut progress, target.as_slice());
     let spent = progress.left() == 0;
     Ok(Descent {
         moves: progress.into_moves(),
