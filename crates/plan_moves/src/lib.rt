@@ -12,6 +12,7 @@ mod moves;
 mod script_line;
 #[cfg(test)]
 mod tests;
+mod violations;
 
 pub use change::Change;
 pub use instance_model::Key;
