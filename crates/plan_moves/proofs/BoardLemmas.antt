@@ -12,7 +12,7 @@ use Rattle.instance_model.proofs.BoardLemmas.{start_of-starts}
 use Rattle.scenario_rows.specs.RiskStates.{RiskState, IsOver as AreRowsOver}
 use Rattle.resource_bands.specs.BoardLoads.{BoardLoads, IsOver as AreLoadsOver}
 use Rattle.season_exclusion.specs.KeptClashes.{KeptClashes, IsOver as AreClashesOver}
-use Rattle.plan_moves.specs.Boards.{AreKeptOf}
+use Rattle.plan_moves.specs.Boards.{Board, AreViolationsOf, AreRowsOf}
 
 pub AreAllowedStarts-set : (inst : Tables) (starts : List ℕ) (i s : ℕ) → AreAllowedStarts inst starts
     → IsTrue (is_allowed inst i s) → AreAllowedStarts inst (set starts i s)
@@ -47,19 +47,26 @@ board-set board next starts i s e n =
     n ∙ ap (λ (b : List (Option ℕ)). set b i (Some s)) e ∙ sym (map-set Some starts i s)
 
 -- what is kept of the starts after one of them has changed, and all that is kept of them with it
-pub AreKeptOf-set : (inst : Tables) (starts : List ℕ) (sums next_sums : RiskState) (loads next_loads : BoardLoads)
-    (clashes next_clashes : KeptClashes) (i s : ℕ) → AreKeptOf inst starts sums loads clashes
-    → IsTrue (is_allowed inst i s) → AreRowsOver inst next_sums → next_sums.board ≡ set sums.board i (Some s)
-    → AreLoadsOver inst next_loads → next_loads.board ≡ set loads.board i (Some s) → AreClashesOver inst next_clashes
-    → next_clashes.starts ≡ set starts i s → AreKeptOf inst (set starts i s) next_sums next_loads next_clashes
-AreKeptOf-set inst starts sums next_sums loads next_loads clashes next_clashes i s k h so sb lo lb co cs = record {
+pub AreViolationsOf-set : (inst : Tables) (starts : List ℕ) (loads next_loads : BoardLoads)
+    (clashes next_clashes : KeptClashes) (i s : ℕ) → AreViolationsOf inst starts loads clashes
+    → IsTrue (is_allowed inst i s) → AreLoadsOver inst next_loads → next_loads.board ≡ set loads.board i (Some s)
+    → AreClashesOver inst next_clashes → next_clashes.starts ≡ set starts i s
+    → AreViolationsOf inst (set starts i s) next_loads next_clashes
+AreViolationsOf-set inst starts loads next_loads clashes next_clashes i s k h lo lb co cs = record {
   allowed = AreAllowedStarts-set inst starts i s k.allowed h;
-  sums_over = so;
-  sums_board = board-set sums.board next_sums.board starts i s k.sums_board sb;
   loads_over = lo;
   loads_board = board-set loads.board next_loads.board starts i s k.loads_board lb;
   clashes_over = co;
   clashes_starts = cs;
+}
+
+pub AreRowsOf-set : (board : Board) (sums next : RiskState) (i s : ℕ) → AreRowsOf board sums
+    → IsTrue (is_allowed board.instance i s) → AreRowsOver board.instance next → next.board ≡ set sums.board i (Some s)
+    → AreRowsOf (record board { starts = set board.starts i s }) next
+AreRowsOf-set board sums next i s k h over is = record {
+  allowed = AreAllowedStarts-set board.instance board.starts i s k.allowed h;
+  over = over;
+  board_is = board-set sums.board next.board board.starts i s k.board_is is;
 }
 
 -- ---- one step back

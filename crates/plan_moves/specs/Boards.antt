@@ -11,13 +11,16 @@ pub record Board : Type 0 where
   pub instance : Tables
   pub starts : List ℕ
 
--- the starts are allowed, and the scenario sums, the loads and the broken exclusions are kept of these starts
-pub record AreKeptOf (inst : Tables) (starts : List ℕ) (sums : RiskState) (loads : BoardLoads)
-    (clashes : KeptClashes) : Type 0 where
+-- the starts are allowed, and the loads and the broken exclusions are kept of these starts
+pub record AreViolationsOf (inst : Tables) (starts : List ℕ) (loads : BoardLoads) (clashes : KeptClashes) : Type 0 where
   pub allowed : AreAllowedStarts inst starts
-  pub sums_over : AreRowsOver inst sums
-  pub sums_board : sums.board ≡ map Some starts
   pub loads_over : AreLoadsOver inst loads
   pub loads_board : loads.board ≡ map Some starts
   pub clashes_over : AreClashesOver inst clashes
   pub clashes_starts : clashes.starts ≡ starts
+
+-- the starts are allowed, and the scenario sums are kept of these starts
+pub record AreRowsOf (board : Board) (sums : RiskState) : Type 0 where
+  pub allowed : AreAllowedStarts board.instance board.starts
+  pub over : AreRowsOver board.instance sums
+  pub board_is : sums.board ≡ map Some board.starts

@@ -1,38 +1,32 @@
 //! The starts of a plan with all that is kept of them: contracts see the instance and the starts.
-ghost use Rattle.std.specs.Prelude.{◌≡◌, ◌+◌, ◌*◌, ◌^◌, ◌<◌, ◌≤◌, pos, ◌+ℤ◌, unsigned_abs, length, map, Some, IfOk};
-ghost use Rattle.std.specs.Prelude.{IfSome, IsSome, IsTrue, slice_index, slice_set, swap};
+ghost use Rattle.std.specs.Prelude.{◌≡◌, ◌+◌, ◌^◌, ◌<◌, ◌≤◌, ◌↔◌, unsigned_abs, length, map, Some, IfOk, IfSome};
+ghost use Rattle.std.specs.Prelude.{IfNone, IsSome, IsTrue, slice_index, slice_set, swap};
 ghost use Rattle.instance_model.specs.Tables.{is_allowed};
 ghost use Rattle.instance_model.specs.Plans.{AreAllowedStarts, start_of};
-ghost use Rattle.instance_model.specs.Keys.{key_of};
+ghost use Rattle.instance_model.specs.Keys.{key_of, KeyBelow};
+ghost use Rattle.instance_model.specs.Values.{score_of};
 ghost use Rattle.scenario_rows.specs.RiskStates.{IsOver as AreRowsOver};
-ghost use Rattle.resource_bands.specs.BoardLoads.{IsOver as AreLoadsOver};
 ghost use Rattle.plan_moves.specs.Changing.{CanChange, after_change};
 ghost use Rattle.plan_moves.specs.KeptPlans.{move_bound};
 ghost use Rattle.plan_moves.specs.Trails.{undone, step_back, NamesBelow};
 
 use crate::change::Change;
+use crate::key_order::is_lower;
+use crate::violations::Violations;
 use fixed_num::Steps;
 use instance_model::{Instance, Key};
 use quantile_index::Row;
-use resource_bands::Loads;
 use scenario_rows::RiskRows;
-use season_exclusion::Clashes;
 use std::alloc::{AllocError, Global};
 use std::marker::Model;
 use std::sync::ledger::Ledger;
 use undo_trail::Step;
 
-/// How many counts of 10^-12 make 1.
-const COUNTS_PER_ONE: u64 = 1_000_000_000_000;
-
-/// The starts of a plan, with the scenario sums, the loads and the broken exclusions that they make.
+/// The starts of a plan with what they violate, and with the scenario sums that they make.
 #[derive(Drop)]
 pub(crate) struct Board<'a, R: Row> {
-    inst: &'a Instance,
-    starts: Vec<u32>,
+    violations: Violations<'a>,
     rows: RiskRows<R>,
-    loads: Loads,
-    clashes: Clashes,
 }
 
 impl<'a, R: Row> Model for Board<'a, R> {
@@ -40,9 +34,9 @@ impl<'a, R: Row> Model for Board<'a, R> {
 
     ghost Value = { boards.Board };
 
-    ghost view = { λ b. record { instance = b.inst.now; starts = b.starts.items } };
+    ghost view = { λ b. b.violations };
 
-    ghost invariant = { λ b. boards.AreKeptOf b.inst.now b.starts.items b.rows b.loads b.clashes };
+    ghost invariant = { λ b. boards.AreRowsOf b.violations b.rows };
 }
 
 /// Takes the run of intervention `i` off board, and puts it on again at start `s`.
@@ -67,29 +61,6 @@ fn move_run<R: Row, L: Ledger>(
     rows.add_run(inst, i, s, steps);
 }
 
-/// Takes the loads of intervention `i` off board, and puts them on again at start `s`.
-fn move_load(loads: &mut Loads, inst: &Instance, i: u32, s: u32)
-    requires over { AreLoadsOver inst.now loads.old }
-    requires number { i < length inst.now.names }
-    requires on_board { IsSome (start_of loads.old.board i) }
-    requires allowed { IsTrue (is_allowed inst.now i s) }
-    ensures over { AreLoadsOver inst.now loads.new }
-    ensures board { loads.new.board ≡ slice_set loads.old.board i (Some s) }
-{
-    loads.take_run(inst, i);
-    loads.add_run(inst, i, s);
-}
-
-/// The violation, in counts of 10^-12: a broken exclusion counts as much as a load that is 1 outside its limits.
-fn total_violation(gaps: i128, broken: u64) -> i128
-    requires gaps { unsigned_abs gaps < 10 ^ 37 }
-    requires broken { broken ≤ 65_536 }
-    ensures value { result ≡ gaps +ℤ pos (1_000_000_000_000 * broken) }
-    ensures small { unsigned_abs result < 2 * 10 ^ 37 }
-{
-    gaps + i128::from(COUNTS_PER_ONE * broken)
-}
-
 impl<'a, R: Row> Board<'a, R> {
     /// Takes memory, as no other call does.
     pub(crate) fn make(
@@ -101,22 +72,14 @@ impl<'a, R: Row> Board<'a, R> {
         ensures { IfOk result (λ board. board ≡ record { instance = inst.now; starts = starts.now }) }
     {
         let rows = RiskRows::make(alloc, inst, starts)?;
-        let loads = Loads::make(alloc, inst, starts)?;
-        let clashes = Clashes::make(alloc, inst, starts)?;
-        let starts = starts.to_vec(alloc)?;
-        Ok(Board {
-            inst,
-            starts,
-            rows,
-            loads,
-            clashes,
-        })
+        let violations = Violations::make(alloc, inst, starts)?;
+        Ok(Board { violations, rows })
     }
 
     pub(crate) fn instance(&self) -> &'a Instance
         ensures { result.now ≡ self.now.instance }
     {
-        self.inst
+        self.violations.instance()
     }
 
     /// The start of intervention `i`.
@@ -126,14 +89,16 @@ impl<'a, R: Row> Board<'a, R> {
         ensures value { result ≡ slice_index self.now.starts i }
         ensures allowed { IsTrue (is_allowed self.now.instance i result) }
     {
-        self.starts[i as usize]
+        self.violations.start_of(i)
     }
 
-    /// The starts are allowed.
-    fn allowed(&self)
-        ensures { AreAllowedStarts self.now.instance self.now.starts }
+    /// The score of the starts.
+    fn score(&self) -> i128
+        ensures value { result ≡ score_of self.now.instance (map Some self.now.starts) }
+        ensures small { unsigned_abs result < 10 ^ 33 }
     {
-        let _ = &self.starts;
+        self.instance().fits();
+        self.rows.score()
     }
 
     /// The key of the starts.
@@ -141,10 +106,9 @@ impl<'a, R: Row> Board<'a, R> {
         ensures value { result ≡ key_of self.now.instance (map Some self.now.starts) }
         ensures small { unsigned_abs result.score < 10 ^ 33 }
     {
-        self.inst.fits();
         Key {
-            violation: total_violation(self.loads.violation(), self.clashes.count()),
-            score: self.rows.score(),
+            violation: self.violations.violation(),
+            score: self.score(),
         }
     }
 
@@ -157,10 +121,8 @@ impl<'a, R: Row> Board<'a, R> {
             + move_bound self.old.instance most i (slice_index self.old.starts i) s) }
         ensures forward { steps.old ≤ steps.new }
     {
-        move_run(&mut self.rows, self.inst, i, s, steps);
-        move_load(&mut self.loads, self.inst, i, s);
-        self.starts[i as usize] = s;
-        self.clashes.reset_for(self.inst, i, self.starts.as_slice());
+        move_run(&mut self.rows, self.violations.instance(), i, s, steps);
+        self.violations.set_start(i, s);
     }
 
     /// Changes the start of intervention `i`; the answer is what it was. Does nothing where it is `s` already.
@@ -229,17 +191,64 @@ impl<'a, R: Row> Board<'a, R> {
         }
     }
 
-    /// The key after a change, which is made and taken back.
-    pub(crate) fn key_after<L: Ledger>(&mut self, change: Change, steps: &mut Steps<L>) -> Key
+    /// The score after a change, which is made and taken back.
+    fn score_after<L: Ledger>(&mut self, change: Change, steps: &mut Steps<L>) -> i128
         requires { CanChange self.old.instance self.old.starts change }
-        ensures value { result ≡ key_of self.old.instance (map Some (after_change change self.old.starts)) }
+        ensures value { result ≡ score_of self.old.instance (map Some (after_change change self.old.starts)) }
+        ensures small { unsigned_abs result < 10 ^ 33 }
         ensures same { self.new ≡ self.old }
         ensures forward { steps.old ≤ steps.new }
     {
-        self.allowed();
+        self.violations.allowed();
         let back = self.change(change, steps);
-        let key = self.key();
+        let score = self.score();
         self.undo(back, steps);
-        key
+        score
+    }
+
+    /// The key after a change, where it is below `limit`. No row is touched where the violation decides.
+    pub(crate) fn key_below<L: Ledger>(
+        &mut self,
+        change: Change,
+        limit: Key,
+        steps: &mut Steps<L>,
+    ) -> Option<Key>
+        requires { CanChange self.old.instance self.old.starts change }
+        ensures value { IfSome result
+            (λ key. key ≡ key_of self.old.instance (map Some (after_change change self.old.starts))) }
+        ensures below { IfSome result (λ key. KeyBelow key limit) }
+        ensures none { IfNone result
+            (¬ KeyBelow (key_of self.old.instance (map Some (after_change change self.old.starts))) limit) }
+        ensures same { self.new ≡ self.old }
+        ensures forward { steps.old ≤ steps.new }
+    {
+        let violation = self.violations.after(change);
+        if limit.violation < violation {
+            return None;
+        }
+        let score = self.score_after(change, steps);
+        let key = Key { violation, score };
+        if is_lower(key, limit) {
+            Some(key)
+        } else {
+            None
+        }
+    }
+
+    /// Whether a change lowers the key. No row is touched where the violation decides.
+    pub(crate) fn lowers<L: Ledger>(&mut self, change: Change, steps: &mut Steps<L>) -> bool
+        requires { CanChange self.old.instance self.old.starts change }
+        ensures value { IsTrue result
+            ↔ KeyBelow (key_of self.old.instance (map Some (after_change change self.old.starts)))
+            (key_of self.old.instance (map Some self.old.starts)) }
+        ensures same { self.new ≡ self.old }
+        ensures forward { steps.old ≤ steps.new }
+    {
+        let key = self.key();
+        let violation = self.violations.after(change);
+        if violation != key.violation {
+            return violation < key.violation;
+        }
+        self.score_after(change, steps) < key.score
     }
 }

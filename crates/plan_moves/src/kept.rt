@@ -11,7 +11,6 @@ ghost use Rattle.plan_moves.specs.KeptPlans.{move_bound};
 
 use crate::board::Board;
 use crate::change::Change;
-use crate::key_order::is_lower;
 use fixed_num::Steps;
 use instance_model::{Instance, Key};
 use quantile_index::Row;
@@ -147,12 +146,7 @@ impl<'a, R: Row> Kept<'a, R> {
         ensures same { self.new ≡ self.old }
         ensures forward { steps.old ≤ steps.new }
     {
-        let key = self.board.key_after(change, steps);
-        if is_lower(key, limit) {
-            Some(key)
-        } else {
-            None
-        }
+        self.board.key_below(change, limit, steps)
     }
 
     /// Whether a change lowers the key. Takes no memory.
@@ -163,8 +157,7 @@ impl<'a, R: Row> Kept<'a, R> {
         ensures same { self.new ≡ self.old }
         ensures forward { steps.old ≤ steps.new }
     {
-        let key = self.key();
-        self.key_below(change, key, steps).is_some()
+        self.board.lowers(change, steps)
     }
 
     /// The start of intervention `i` in the present plan.

@@ -11,6 +11,7 @@ mod kept;
 mod key_order;
 mod moves;
 mod script_line;
+mod violations;
 
 pub use change::Change;
 pub use instance_model::Key;

@@ -1,6 +1,6 @@
 use Rattle.std.proofs.Common.{◌∙◌, ap, List, Option, ℕ, None, Some, set}
 use Rattle.std.proofs.lemmas.List.{set-set}
-use Rattle.plan_moves.proofs.board.move_load.Goals as goal
+use Rattle.plan_moves.proofs.violations.move_load.Goals as goal
 
 pub returns-clause-board : goal.returns-clause-board
 returns-clause-board c =

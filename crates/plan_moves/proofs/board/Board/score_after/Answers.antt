@@ -1,12 +1,13 @@
-use Rattle.std.proofs.Common.{◌≡◌, ◌∙◌, sym, ap, subst, ℕ, List, length, map, Some}
+use Rattle.std.proofs.Common.{◌≡◌, ◌∙◌, ◌*◌, ◌^◌, ◌<◌, sym, ap, subst, arith, ℕ, List, length, map, Some, unsigned_abs}
+use Rattle.fixed_num.proofs.SignedLemmas.{back_from_abs}
 use Rattle.undo_trail.specs.declared.Step.{Step}
 use Rattle.instance_model.specs.Plans.{AreAllowedStarts}
-use Rattle.instance_model.specs.Keys.{key_of}
+use Rattle.instance_model.specs.Values.{score_of}
 use Rattle.plan_moves.specs.Boards.{Board}
 use Rattle.plan_moves.specs.Changing.{after_change}
 use Rattle.plan_moves.specs.Trails.{undone, step_back, NamesBelow}
 use Rattle.plan_moves.proofs.ChangingLemmas.{named-step_back, undone-step_back}
-use Rattle.plan_moves.proofs.board.Board.key_after.Goals as goal
+use Rattle.plan_moves.proofs.board.Board.score_after.Goals as goal
 
 pub undo-requires-clause-named : goal.undo-requires-clause-named
 undo-requires-clause-named g c =
@@ -19,20 +20,23 @@ undo-requires-clause-named g c =
 pub undo-requires-clause-allowed : goal.undo-requires-clause-allowed
 undo-requires-clause-allowed g c =
     let board = c.args.self.now in
-    let back = undone-step_back board.instance board.starts c.args.change c.allowed.ensures c.requires in
+    let allowed = subst (λ (b : Board). AreAllowedStarts b.instance b.starts) c.self.view_is c.allowed.ensures in
+    let back = undone-step_back board.instance board.starts c.args.change allowed c.requires in
     let step = subst
     (λ (s : Step). AreAllowedStarts board.instance (undone s (after_change c.args.change board.starts)))
-    (sym c.change-back.ensures.back) (subst (AreAllowedStarts board.instance) (sym back) c.allowed.ensures) in
+    (sym c.change-back.ensures.back) (subst (AreAllowedStarts board.instance) (sym back) allowed) in
     subst (λ (b : Board). AreAllowedStarts b.instance (undone c.change-back.result b.starts))
     (sym c.change-back.ensures.starts) step
 
 pub returns-clause-value : goal.returns-clause-value
 returns-clause-value g c =
-    c.key-key.ensures.value ∙ ap (λ (b : Board). key_of b.instance (map Some b.starts)) c.change-back.ensures.starts
+    back_from_abs c.score-score.result (omega (arith, c.score-score.ensures.small)) ∙ c.score-score.ensures.value
+    ∙ ap (λ (b : Board). score_of b.instance (map Some b.starts)) c.change-back.ensures.starts
 
 pub returns-clause-same : goal.returns-clause-same
 returns-clause-same g c =
     let board = c.args.self.now in
+    let allowed = subst (λ (b : Board). AreAllowedStarts b.instance b.starts) c.self.view_is c.allowed.ensures in
     c.undo.ensures.starts
     ∙ ap (λ (b : Board). record { instance = b.instance; starts = undone c.change-back.result b.starts })
     c.change-back.ensures.starts
@@ -42,4 +46,4 @@ returns-clause-same g c =
           undone s (after_change c.args.change board.starts);
     }) c.change-back.ensures.back
     ∙ ap (λ (l : List ℕ). record { instance = board.instance; starts = l })
-    (undone-step_back board.instance board.starts c.args.change c.allowed.ensures c.requires)
+    (undone-step_back board.instance board.starts c.args.change allowed c.requires)

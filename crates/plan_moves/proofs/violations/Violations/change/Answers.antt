@@ -1,0 +1,30 @@
+use Rattle.std.proofs.Common.{◌≡◌, ◌∙◌, sym, ap, subst, ℕ, List, length}
+use Rattle.plan_moves.specs.declared.change.Change.{Change}
+use Rattle.plan_moves.specs.Boards.{Board}
+use Rattle.plan_moves.specs.Changing.{CanChange, after_change}
+use Rattle.plan_moves.specs.Trails.{step_back}
+use Rattle.plan_moves.proofs.violations.Violations.change.Goals as goal
+
+pub set_start-requires-clause-number : goal.set_start-requires-clause-number
+set_start-requires-clause-number c =
+    (subst (CanChange c.args.self.now.instance c.args.self.now.starts) c.in-Move.is c.requires).0
+
+pub set_start-requires-clause-allowed : goal.set_start-requires-clause-allowed
+set_start-requires-clause-allowed c =
+    (subst (CanChange c.args.self.now.instance c.args.self.now.starts) c.in-Move.is c.requires).1
+
+pub exchange-requires-clause-first : goal.exchange-requires-clause-first
+exchange-requires-clause-first c =
+    (subst (CanChange c.args.self.now.instance c.args.self.now.starts) c.in-Swap.is c.requires).0
+
+pub exchange-requires-clause-second : goal.exchange-requires-clause-second
+exchange-requires-clause-second c =
+    (subst (CanChange c.args.self.now.instance c.args.self.now.starts) c.in-Swap.is c.requires).1
+
+pub exchange-requires-clause-first_allowed : goal.exchange-requires-clause-first_allowed
+exchange-requires-clause-first_allowed c =
+    (subst (CanChange c.args.self.now.instance c.args.self.now.starts) c.in-Swap.is c.requires).2
+
+pub exchange-requires-clause-second_allowed : goal.exchange-requires-clause-second_allowed
+exchange-requires-clause-second_allowed c =
+    (subst (CanChange c.args.self.now.instance c.args.self.now.starts) c.in-Swap.is c.requires).3
