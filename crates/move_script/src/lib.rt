@@ -21,6 +21,3 @@ pub use replay_fault::ReplayFault;
 pub use replaying::replay;
 pub use script::Script;
 pub use write::write_moves;
-
-#[cfg(test)]
-mod tests;

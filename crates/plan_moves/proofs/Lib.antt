@@ -2,4 +2,3 @@ pub mod BoardLemmas
 pub mod KeyLemmas
 pub mod TrailLemmas
 pub mod ChangingLemmas
-pub mod SampleLemmas

@@ -4,4 +4,3 @@ pub mod Changing
 pub mod Scripts
 pub mod Boards
 pub mod Trails
-pub mod Sample

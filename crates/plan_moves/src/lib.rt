@@ -10,8 +10,6 @@ mod kept;
 mod key_order;
 mod moves;
 mod script_line;
-#[cfg(test)]
-mod tests;
 
 pub use change::Change;
 pub use instance_model::Key;

@@ -1,4 +1,3 @@
 -- What the contracts cite.
 pub mod BoardLoads
 pub mod Gaps
-pub mod Sample

@@ -9,7 +9,5 @@ mod limit;
 mod loads;
 mod row;
 mod rows;
-#[cfg(test)]
-mod tests;
 
 pub use loads::Loads;

@@ -4,4 +4,3 @@ pub mod RowLemmas
 pub mod BoardLemmas
 pub mod ScoreLemmas
 pub mod OverLemmas
-pub mod WorkedLemmas

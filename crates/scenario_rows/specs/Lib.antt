@@ -3,4 +3,3 @@ pub mod RiskStates
 pub mod Bounds
 pub mod Parts
 pub mod Changes
-pub mod WorkedTables

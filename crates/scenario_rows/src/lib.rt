@@ -10,7 +10,5 @@ mod period_row;
 mod risk_rows;
 mod runs;
 mod sum_row;
-#[cfg(test)]
-mod tests;
 
 pub use risk_rows::RiskRows;

@@ -2,4 +2,3 @@ pub mod CountLemmas
 pub mod BrokenLemmas
 pub mod NamedLemmas
 pub mod OverLemmas
-pub mod SampleLemmas

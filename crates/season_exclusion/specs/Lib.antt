@@ -1,4 +1,3 @@
 -- What the contracts cite.
 pub mod Broken
 pub mod KeptClashes
-pub mod Sample

@@ -7,7 +7,5 @@
 mod broken;
 mod clashes;
 mod named;
-#[cfg(test)]
-mod tests;
 
 pub use clashes::Clashes;

@@ -2,5 +2,4 @@ pub mod LineLemmas
 pub mod DigitLemmas
 pub mod NameLemmas
 pub mod NumeralLemmas
-pub mod TestLemmas
 pub mod CutLemmas

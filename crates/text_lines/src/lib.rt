@@ -10,6 +10,3 @@ mod split;
 pub use name::find_name;
 pub use number::{numeral, value_of_digits};
 pub use split::{split_feed, split_line, split_once};
-
-#[cfg(test)]
-mod tests;

@@ -1,7 +1,0 @@
-use Rattle.std.proofs.Common.{subst, sym}
-use Rattle.instance_model.specs.Fitting.{IsFitting}
-use Rattle.season_exclusion.proofs.SampleLemmas.{sample_fits}
-use Rattle.season_exclusion.proofs.tests.instance.Goals as goal
-
-pub from_parts-requires : goal.from_parts-requires
-from_parts-requires c = subst IsFitting (sym c.in_ok-parts.ensures) sample_fits

@@ -1,7 +1,0 @@
-use Rattle.std.proofs.Common.{subst, sym}
-use Rattle.instance_model.specs.Fitting.{IsFitting}
-use Rattle.worked_plans.proofs.SketchLemmas.{fitting_from}
-use Rattle.worked_plans.proofs.sketch.instance.Goals as goal
-
-pub from_parts-requires : goal.from_parts-requires
-from_parts-requires c = subst IsFitting (sym c.in_ok-parts.ensures) (fitting_from c.args.sketch.now c.requires)
