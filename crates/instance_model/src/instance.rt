@@ -1,15 +1,15 @@
 //! The instance: contracts see it as the record `Tables`, and each call reads one function of those tables.
-ghost use Rattle.std.specs.Prelude.{◌^◌, ◌≡◌, ℕ, ◌+◌, ◌<◌, ◌≤◌, ◌*◌, length, IfOk, IfSome, IfNone, IsTrue, Contains};
-ghost use Rattle.std.specs.Prelude.{slice_index, slice_get, None, Some, position, bytes_eq, unsigned_abs};
+ghost use Rattle.std.specs.Prelude.{◌^◌, ◌≡◌, ℕ, ◌+◌, ◌<◌, ◌≤◌, ◌*◌, length, IfOk, IfSome, IfNone, IsTrue, Contains, []};
+ghost use Rattle.std.specs.Prelude.{slice_index, slice_index_or, slice_get, None, Some, position, bytes_eq, unsigned_abs};
 ghost use Rattle.fixed_num.specs.Sums.{list_of};
-ghost use Rattle.instance_model.specs.Fitting.{IsFitting};
+ghost use Rattle.instance_model.specs.Fitting.{IsFitting, AreCells};
 ghost use Rattle.instance_model.specs.View.{tables_of};
 ghost use Rattle.instance_model.specs.Tables.{scenarios_of, tmax, delta_of, is_allowed, in_run, risk_of, soft_of};
 ghost use Rattle.instance_model.specs.Tables.{load_of, rank_of, upper_of, lower_of, in_season_of, exclusion_of};
 
 use crate::cells::find_cell;
 use crate::offsets::{Offsets, is_allowed_in, numbers_to, start_count, sums_before};
-use crate::parts::{Exclusion, Parts};
+use crate::parts::{Exclusion, LoadCell, Parts};
 use fixed_num::{Fixed, Steps};
 use std::alloc::{AllocError, Global};
 use std::marker::Model;
@@ -229,6 +229,15 @@ impl Instance {
             Some(k) => cells[k].load,
             None => Fixed::zero(),
         }
+    }
+
+    /// The workloads of intervention `i`, in order of start, then period, then resource.
+    pub fn workloads(&self, i: u32) -> &[LoadCell]
+        requires { i < length self.now.names }
+        ensures value { result.now ≡ slice_index_or self.now.loads i [] }
+        ensures cells { AreCells self.now i result.now }
+    {
+        self.parts.loads[i as usize].as_slice()
     }
 
     /// How many seasons there are.

@@ -1,3 +1,4 @@
 -- What the contracts cite.
 pub mod Descents
 pub mod Progress
+pub mod Drafts

@@ -4,8 +4,11 @@
 #![tactic(auto)]
 
 mod anneal;
+mod bands;
 mod best;
+mod breakout;
 mod descent;
+mod draft;
 mod exchange;
 mod progress;
 mod rounds;

@@ -4,6 +4,7 @@ ghost use Rattle.instance_model.specs.Plans.{AreAllowedStarts};
 ghost use Rattle.plan_moves.specs.KeptPlans.{present};
 
 use crate::anneal::annealed;
+use crate::breakout::mended;
 use fixed_num::Steps;
 use plan_moves::Kept;
 use quantile_index::Row;
@@ -36,5 +37,11 @@ pub(crate) fn target_of<R: Row, L: Ledger>(
     if turns == 0 {
         return Ok(starts);
     }
-    annealed::<R, L>(alloc, kept.instance(), starts, turns, steps)
+    let inst = kept.instance();
+    let starts = if kept.key().violation > 0 {
+        mended(alloc, inst, starts, turns)?
+    } else {
+        starts
+    };
+    annealed::<R, L>(alloc, inst, starts, turns, steps)
 }

@@ -1,9 +1,11 @@
-//! Kept plans, and what is kept of their risks, loads and exclusions, on small instances: the tests of `plan_moves` and
-//! of the crates that it stands on.
+//! Kept plans, what is kept of their risks, loads and exclusions, and descents from them, on small instances: the tests of
+//! `local_search`, `plan_moves` and the crates that these stand on.
 #![tactic(auto)]
 
 #[cfg(test)]
 mod clashes;
+#[cfg(test)]
+mod descents;
 #[cfg(test)]
 mod kept;
 #[cfg(test)]
@@ -13,6 +15,7 @@ mod risk_rows;
 #[cfg(test)]
 mod samples;
 
+pub use local_search::Descent;
 pub use plan_moves::Kept;
 pub use resource_bands::Loads;
 pub use scenario_rows::RiskRows;

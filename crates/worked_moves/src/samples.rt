@@ -80,6 +80,28 @@ const OVERLAPPING: Sketch<'static> = Sketch {
     soft: &[false, false, false, false, false, false, false, false],
 };
 
+/// The count of 1.
+const ONE: i64 = 1_000_000_000_000;
+
+/// Two interventions of one period each, from period 1 or 2, each of which takes 6 of the 10 that there are.
+///
+/// The risks are of the first at start 1 and at start 2, then of the second.
+const PAIRED: Sketch<'static> = Sketch {
+    alpha: 1_000_000,
+    quantile: 1_000_000,
+    resources: 1,
+    upper: &[10 * ONE, 10 * ONE],
+    lower: &[0, 0],
+    delta: &[&[1, 1], &[1, 1]],
+    loads: &[
+        &[(1, 1, 0, 6 * ONE), (2, 2, 0, 6 * ONE)],
+        &[(1, 1, 0, 6 * ONE), (2, 2, 0, 6 * ONE)],
+    ],
+    risks: &[0, 4 * ONE, 0, 2 * ONE],
+    soft: &[false, false, false, false],
+    ..BARE
+};
+
 const EACH_OTHER: Exclusion = Exclusion {
     first: 0,
     second: 1,
@@ -106,4 +128,8 @@ pub fn exclusive(alloc: Global) -> Result<Instance, AllocError> {
 
 pub fn overlapping(alloc: Global) -> Result<Instance, AllocError> {
     instance(alloc, &OVERLAPPING)
+}
+
+pub fn paired(alloc: Global) -> Result<Instance, AllocError> {
+    instance(alloc, &PAIRED)
 }
