@@ -12,8 +12,8 @@ pub record HasBand (periods count : ℕ) (work : LoadCell) : Type 0 where
   pub from : 1 ≤ work.period
   pub within : work.resource * periods + (work.period - 1) < count
 
--- the starts are allowed, and each array is as long as it should be: bands by resource and period, weights by exclusion, rounds by
--- intervention and start, penalties by period
+-- the starts are allowed, and each array is as long as it should be: bands by resource and period, weights by
+-- exclusion, rounds by intervention and start, penalties by period
 pub record IsDraft (inst : Tables) (starts : List ℕ) (bands weights held penalties : ℕ) : Type 0 where
   pub allowed : AreAllowedStarts inst starts
   pub each_band : bands ≡ length inst.resource_names * inst.periods

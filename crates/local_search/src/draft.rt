@@ -303,7 +303,8 @@ impl<'a> Draft<'a> {
         loads.saturating_add(penalty_in(&self.penalties, run(inst, i, s)))
     }
 
-    /// The start of intervention `i` of least rise, where it is off the bands, but its own and those that are held back.
+    /// The start of intervention `i` of least rise, where it is off the bands, but
+    /// its own and those that are held back.
     fn least_rise(&self, i: u32, round: u32) -> Option<Choice>
         requires { i < length self.now.names }
         ensures { IfSome result (IsChoice self.now) }

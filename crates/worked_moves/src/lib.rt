@@ -1,5 +1,5 @@
-//! Kept plans, what is kept of their risks, loads and exclusions, and descents from them, on small instances: the tests of
-//! `local_search`, `plan_moves` and the crates that these stand on.
+//! Kept plans, what is kept of their risks, loads and exclusions, and descents from them, on small instances: the tests
+//! of `local_search`, `plan_moves` and the crates that these stand on.
 #![tactic(auto)]
 
 #[cfg(test)]
