@@ -97,7 +97,7 @@ impl<'a, R: Row> Kept<'a, R> {
         self.trail.push(Step::Swap { i, j });
     }
 
-    /// Makes a change, as `move_start` or `swap` does.
+    /// Makes a change: the plan after it becomes the present one.
     pub fn change<L: Ledger>(&mut self, change: Change, steps: &mut Steps<L>)
         requires can { CanChange self.old.instance (present self.old.plans) change }
         requires spare { 0 < self.old.spare }

@@ -1,7 +1,7 @@
 //! The plain ladder: the worth of each changed list is computed whole.
 ghost use Rattle.std.specs.Prelude.{◌≡◌, ◌≤◌, ◌≤ℤ◌, ◌↔◌, length, IfOk, IsTrue, Some};
 ghost use Rattle.instance_model.specs.Plans.{AreAllowedStarts};
-ghost use Rattle.lagrange_bound.specs.Prices.{IsPriceList, IsTail, tail_of};
+ghost use Rattle.lagrange_bound.specs.Prices.{IsPriceList, IsTail, tail_of, zero_list};
 ghost use Rattle.lagrange_bound.specs.Changes.{with_tail};
 ghost use Rattle.lagrange_bound.specs.Boxes.{HasStarts};
 ghost use Rattle.branch_tree.specs.Trees.{root_box};
@@ -114,6 +114,7 @@ pub fn raise_plainly(alloc: Global, inst: &Instance, starts: &[u32]) -> Result<P
     ensures in_range { IfOk result (IsPriceList inst.now) }
     ensures raised { IfOk result (IsRaised inst.now starts.now) }
     ensures not_below_zeros { IfOk result (λ prices. least_total inst.now ≤ℤ root_worth inst.now prices) }
+    ensures zeros { IfOk result (λ _. root_worth inst.now (zero_list inst.now) ≡ least_total inst.now) }
     ensures small { IfOk result (λ prices. price_total prices ≤ 40_000_000_000) }
     ensures few_exclusions { IfOk result (λ prices. length prices.ex ≤ 400) }
 {

@@ -43,12 +43,13 @@ pub trait Row: Drop {
         ensures cost { IfSome most (λ bound. steps.new ≤ steps.old + bound (length (sums self.old))) }
         ensures forward { steps.old ≤ steps.new };
 
-    /// Changes all sums. Reads each once, and counts no comparison inside the sort of the numbers that were read.
+    /// Changes all sums. Reads each once, and counts no comparison inside the sort of the numbers that were read; the
+    /// bound is that of as many single changes.
     fn replace_all<L: Ledger>(&mut self, from: &[Sum], steps: &mut Steps<L>)
         requires each { length from.now ≡ length (sums self.old) }
         ensures map { sums self.new ≡ from.now }
         ensures cost { IfSome most (λ bound. steps.new ≤ steps.old + length from.now * bound (length from.now)) }
-        ensures counted { steps.old + length from.now ≤ steps.new };
+        ensures counted { steps.new ≡ steps.old + length from.now };
 
     /// The `m`-th smallest sum, where equal sums count as often as they are there.
     fn kth<L: Ledger>(&self, m: u32, steps: &mut Steps<L>) -> Sum
