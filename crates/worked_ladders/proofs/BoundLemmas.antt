@@ -1,14 +1,11 @@
 -- The worth of the box of all starts bounds every plan that breaks no rule.
-use Rattle.std.proofs.Common.{◌≡◌, ℕ, ◌<◌, sym, subst, arith, ℤ, ◌≤ℤ◌, List, length, get_or, map, Some, IsTrue}
+use Rattle.std.proofs.Common.{◌≡◌, ℕ, ◌<◌, sym, subst, ℤ, ◌≤ℤ◌, List, get_or, map, Some, IsTrue}
 use Rattle.instance_model.specs.Tables.{Tables, is_allowed}
 use Rattle.instance_model.specs.Fitting.{IsFitting}
-use Rattle.instance_model.specs.Plans.{AreAllowedStarts}
-use Rattle.instance_model.specs.Rules.{IsFeasible}
 use Rattle.instance_model.specs.Values.{score_of}
 use Rattle.instance_model.proofs.EntryLemmas.{is_allowed_facts}
 use Rattle.lagrange_bound.specs.Prices.{PriceList, IsPriceList}
 use Rattle.lagrange_bound.specs.Goals.{risk_base, risk_value}
-use Rattle.lagrange_bound.specs.Boxes.{span_of}
 use Rattle.lagrange_bound.specs.Worth.{WorthBoundsPlans}
 use Rattle.branch_tree.specs.Trees.{root_box}
 use Rattle.branch_tree.proofs.RootLemmas.{root_at}

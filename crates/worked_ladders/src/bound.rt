@@ -1,13 +1,11 @@
 //! The bound that a raised list gives.
-ghost use Rattle.std.specs.Prelude.{◌≡◌, length, IfOk, IfSome, IsTrue};
+ghost use Rattle.std.specs.Prelude.{◌≡◌, ◌≤ℤ◌, IfOk, IsTrue};
 ghost use Rattle.instance_model.specs.Plans.{AreAllowedStarts};
 ghost use Rattle.lagrange_bound.specs.Prices.{IsPriceList};
-ghost use Rattle.lagrange_bound.specs.Boxes.{HasStarts};
-ghost use Rattle.branch_tree.specs.Trees.{root_box};
-ghost use Rattle.price_ladder.specs.Raised.{root_worth};
+ghost use Rattle.price_ladder.specs.Raised.{root_worth, least_total};
 ghost use Rattle.worked_ladders.specs.Bounding.{BoundsScores};
 
-use branch_tree::{BoxPath, has_starts};
+use branch_tree::BoxPath;
 use instance_model::Instance;
 use lagrange_bound::{Prices, RiskGoal, tabulate, worth, worth_bounds_plans};
 use price_ladder::raise_plainly;
@@ -28,37 +26,31 @@ pub fn are_allowed(inst: &Instance, starts: &[u32]) -> bool
     true
 }
 
-/// The worth of the box of all starts, or none where an intervention has no allowed start.
+/// The worth of the box of all starts, of which these are allowed ones.
 pub fn root_worth(
     alloc: Global,
     inst: &Instance,
     prices: &Prices,
-) -> Result<Option<i128>, AllocError>
-    requires { IsPriceList inst.now prices.now }
-    ensures { IfOk result (λ w. IfSome w (λ w. w ≡ root_worth inst.now prices.now)) }
+    starts: &[u32],
+) -> Result<i128, AllocError>
+    requires prices { IsPriceList inst.now prices.now }
+    requires starts { AreAllowedStarts inst.now starts.now }
+    ensures { IfOk result (λ w. w ≡ root_worth inst.now prices.now) }
 {
     inst.fits();
     let root = BoxPath::root(alloc, inst)?;
-    if !has_starts(inst, root.spans()) {
-        return Ok(None);
-    }
     let table = tabulate(alloc, &RiskGoal, inst, prices)?;
-    Ok(Some(worth(&table, root.spans())))
+    Ok(worth(&table, root.spans()))
 }
 
-/// A bound on the scores of all plans, by the list that is raised for a plan of these starts. None where one of them isn't allowed.
-pub fn raised_bound(
-    alloc: Global,
-    inst: &Instance,
-    starts: &[u32],
-) -> Result<Option<i128>, AllocError>
-    ensures { IfOk result (λ bound. IfSome bound (BoundsScores inst.now)) }
+/// A bound on the scores of all plans, by the list that is raised for a plan of these starts.
+pub fn raised_bound(alloc: Global, inst: &Instance, starts: &[u32]) -> Result<i128, AllocError>
+    requires { AreAllowedStarts inst.now starts.now }
+    ensures proved { IfOk result (BoundsScores inst.now) }
+    ensures not_below_zeros { IfOk result (λ bound. least_total inst.now ≤ℤ bound) }
 {
     inst.fits();
     worth_bounds_plans(&RiskGoal);
-    if !are_allowed(inst, starts) {
-        return Ok(None);
-    }
     let prices = raise_plainly(alloc, inst, starts)?;
-    root_worth(alloc, inst, &prices)
+    root_worth(alloc, inst, &prices, starts)
 }

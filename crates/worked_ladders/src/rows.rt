@@ -102,9 +102,7 @@ fn row_of(alloc: Global, inst: &Instance, starts: &[u32]) -> Result<Option<Row>,
         return Ok(None);
     }
     let prices = raise_plainly(alloc, inst, starts)?;
-    let Some(worth) = root_worth(alloc, inst, &prices)? else {
-        return Ok(None);
-    };
+    let worth = root_worth(alloc, inst, &prices, starts)?;
     let (up, lo) = limits_of(inst, &prices);
     let (weight, scenario) = tail_of(inst, &prices);
     Ok(Some(Row {
