@@ -1,0 +1,10 @@
+//! Bounds by raised prices: a caller of the ladder that says in the subject's words what its list proves.
+//!
+//! The tests are worked rows: the list that a small instance gets, number by number, worked out by hand.
+#![tactic(auto)]
+
+mod bound;
+#[cfg(test)]
+mod rows;
+
+pub use bound::{are_allowed, raised_bound, root_worth};

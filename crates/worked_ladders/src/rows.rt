@@ -1,0 +1,206 @@
+//! Worked rows: the list that is raised for a plan, with its worth, on instances small enough to find them by hand.
+
+ghost use Rattle.lagrange_bound.specs.Prices.{IsPriceList};
+
+use crate::{are_allowed, root_worth};
+use fixed_num::Fixed;
+use instance_model::{Instance, Limits};
+use instance_read::read_instance;
+use lagrange_bound::Prices;
+use price_ladder::raise_plainly;
+use std::alloc::{AllocError, Global};
+use std::test::Fail;
+
+/// What a risk of 1 adds to a score.
+const ONE: i128 = 1_000_000_000_000_000_000;
+
+/// Two interventions of one period each, both of which may run in either of two periods. Together they
+/// load `c` by 12 of 10. The mean alone costs.
+const PAIR: &str = r#"{"Resources":{"c":{"max":[10,10],"min":[0,0]}},"Seasons":{},
+"Interventions":{
+"A":{"tmax":2,"Delta":[1,1],
+"workload":{"c":{"1":{"1":6},"2":{"2":6}}},
+"risk":{"1":{"1":[0]},"2":{"2":[4]}}},
+"B":{"tmax":2,"Delta":[1,1],
+"workload":{"c":{"1":{"1":6},"2":{"2":6}}},
+"risk":{"1":{"1":[0]},"2":{"2":[2]}}}},
+"Exclusions":{},"T":2,"Scenarios_number":[1,1],
+"Quantile":1,"Alpha":1}"#;
+
+/// The same, with room for both, but they exclude each other.
+const APART: &str = r#"{"Resources":{"c":{"max":[12,12],"min":[0,0]}},"Seasons":{"w":[1,2]},
+"Interventions":{
+"A":{"tmax":2,"Delta":[1,1],
+"workload":{"c":{"1":{"1":6},"2":{"2":6}}},
+"risk":{"1":{"1":[0]},"2":{"2":[4]}}},
+"B":{"tmax":2,"Delta":[1,1],
+"workload":{"c":{"1":{"1":6},"2":{"2":6}}},
+"risk":{"1":{"1":[0]},"2":{"2":[2]}}}},
+"Exclusions":{"E":["A","B","w"]},"T":2,"Scenarios_number":[1,1],
+"Quantile":1,"Alpha":1}"#;
+
+/// One intervention, whose load of 5 is due in period 1; to start in period 2 costs nothing. The mean alone costs.
+const FLOOR: &str = r#"{"Resources":{"c":{"max":[9,9],"min":[5,0]}},"Seasons":{},
+"Interventions":{
+"A":{"tmax":2,"Delta":[1,1],
+"workload":{"c":{"1":{"1":5},"2":{"2":5}}},
+"risk":{"1":{"1":[3]},"2":{"2":[0]}}}},
+"Exclusions":{},"T":2,"Scenarios_number":[1,1],
+"Quantile":1,"Alpha":1}"#;
+
+/// One intervention with one start, and two scenarios. Half the mean costs, and
+/// half of what the greater risk is above it.
+const SKEWED: &str = r#"{"Resources":{},"Seasons":{},
+"Interventions":{"A":{"tmax":1,"Delta":[1],"workload":{},
+"risk":{"1":{"1":[1,3]}}}},
+"Exclusions":{},"T":1,"Scenarios_number":[2],
+"Quantile":0.95,"Alpha":0.5}"#;
+
+/// No intervention.
+const IDLE: &str = r#"{"Resources":{},"Seasons":{},"Interventions":{},"Exclusions":{},
+"T":1,"Scenarios_number":[1],"Quantile":1,"Alpha":1}"#;
+
+/// What a raised list has in period 1, or none of it: the prices on the limits of the first resource, that of the first
+/// exclusion, and the tail's weight with its scenario, where it is one.
+#[derive(Clone, Copy, Debug, PartialEq, Eq)]
+struct Row {
+    worth: i128,
+    up: u32,
+    lo: u32,
+    ex: u32,
+    weight: u32,
+    scenario: u32,
+}
+
+/// The prices on the limits of the first resource.
+fn limits_of(inst: &Instance, prices: &Prices) -> (u32, u32)
+    requires { IsPriceList inst.now prices.now }
+{
+    let _periods = inst.periods();
+    if inst.resources() == 0 {
+        return (0, 0);
+    }
+    (prices.up(inst, 0, 1), prices.lo(inst, 0, 1))
+}
+
+/// The weight and the scenario of a tail.
+fn tail_of(inst: &Instance, prices: &Prices) -> (u32, u32)
+    requires { IsPriceList inst.now prices.now }
+{
+    let _periods = inst.periods();
+    let Some(tail) = prices.tail(inst, 1) else {
+        return (0, 0);
+    };
+    match tail.places.as_slice() {
+        [scenario] => (tail.weight, *scenario),
+        _ => (tail.weight, 0),
+    }
+}
+
+/// The list that is raised for a plan of these starts, where they are allowed.
+fn row_of(alloc: Global, inst: &Instance, starts: &[u32]) -> Result<Option<Row>, AllocError> {
+    if !are_allowed(inst, starts) {
+        return Ok(None);
+    }
+    let prices = raise_plainly(alloc, inst, starts)?;
+    let worth = root_worth(alloc, inst, &prices, starts)?;
+    let (up, lo) = limits_of(inst, &prices);
+    let (weight, scenario) = tail_of(inst, &prices);
+    Ok(Some(Row {
+        worth,
+        up,
+        lo,
+        ex: prices.ex(inst, 0, 1),
+        weight,
+        scenario,
+    }))
+}
+
+/// The same, on the instance of a text.
+fn raised(alloc: Global, text: &str, starts: &[u32]) -> Result<Option<Row>, Fail> {
+    let limits = Limits::standard();
+    let inst = read_instance(alloc, &limits, Fixed::zero(), text.as_bytes())?;
+    Ok(row_of(alloc, &inst, starts)?)
+}
+
+// g is 3 * 10^16 and 1 more. A step of 10^5 on the upper limit makes A and B cost 0.6 more each in period 1, and takes
+// 1 off. After a fourth, B would start in period 2.
+#[test]
+fn full_resources_get_a_price(rt: HostRuntime) -> Result<(), Fail> {
+    let row = raised(rt.alloc(), PAIR, &[1, 1])?;
+    let wanted = Row {
+        worth: 600_000_000_000_000_000,
+        up: 300_000,
+        lo: 0,
+        ex: 0,
+        weight: 0,
+        scenario: 0,
+    };
+    assert_eq!(rt; row, Some(wanted));
+    Ok(())
+}
+
+// A step of 10^5 makes A and B cost 0.1 more each in period 1, and takes 0.1 off.
+// After the twentieth, B would start in period 2.
+#[test]
+fn exclusions_get_a_price(rt: HostRuntime) -> Result<(), Fail> {
+    let row = raised(rt.alloc(), APART, &[1, 1])?;
+    let wanted = Row {
+        worth: 2 * ONE,
+        up: 0,
+        lo: 0,
+        ex: 2_000_000,
+        weight: 0,
+        scenario: 0,
+    };
+    assert_eq!(rt; row, Some(wanted));
+    Ok(())
+}
+
+// g is 1.5 * 10^16 and 1 more. A step of 10^4 makes A cost 0.05 less in period 1, and adds
+// 0.05. After the sixtieth, A would start there.
+#[test]
+fn lower_limits_get_a_price(rt: HostRuntime) -> Result<(), Fail> {
+    let row = raised(rt.alloc(), FLOOR, &[1])?;
+    let wanted = Row {
+        worth: 3 * ONE,
+        up: 0,
+        lo: 600_000,
+        ex: 0,
+        weight: 0,
+        scenario: 0,
+    };
+    assert_eq!(rt; row, Some(wanted));
+    Ok(())
+}
+
+// The only plan is Z and U, so g is 1. With the tail the whole excess of half a unit counts.
+#[test]
+fn greatest_scenario_gets_the_tail(rt: HostRuntime) -> Result<(), Fail> {
+    let row = raised(rt.alloc(), SKEWED, &[1])?;
+    let wanted = Row {
+        worth: 1_500_000_000_000_000_000,
+        up: 0,
+        lo: 0,
+        ex: 0,
+        weight: 1000,
+        scenario: 2,
+    };
+    assert_eq!(rt; row, Some(wanted));
+    Ok(())
+}
+
+#[test]
+fn nothing_is_raised_without_interventions(rt: HostRuntime) -> Result<(), Fail> {
+    let row = raised(rt.alloc(), IDLE, &[])?;
+    let wanted = Row {
+        worth: 0,
+        up: 0,
+        lo: 0,
+        ex: 0,
+        weight: 0,
+        scenario: 0,
+    };
+    assert_eq!(rt; row, Some(wanted));
+    Ok(())
+}
