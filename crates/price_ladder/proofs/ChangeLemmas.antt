@@ -1,6 +1,6 @@
 -- What a changed number does to the prices of starts, and to what the prices add whatever the starts are.
 use Rattle.std.proofs.Common.{◌≡◌, ℕ, zero, suc, ◌+◌, ◌-◌, ◌*◌, ◌<◌, ◌≤◌, ◌⊎◌, inl, inr, refl, sym, ◌∙◌, ap, arith, ℤ, pos}
-use Rattle.std.proofs.Common.{negsuc, ◌+ℤ◌, ◌-ℤ◌, ◌*ℤ◌, List, length, get_or, set, Bool, true, false, cond, Some, Option}
+use Rattle.std.proofs.Common.{◌+ℤ◌, ◌-ℤ◌, ◌*ℤ◌, List, length, get_or, set, Bool, true, false, cond, Some, Option}
 use Rattle.std.proofs.lemmas.Bool.{cases_lt}
 use Rattle.std.proofs.lemmas.List.{get_or-set_same, get_or-set_other}
 use Rattle.std.proofs.lemmas.Nat.{same_from_place}
@@ -11,7 +11,6 @@ use Rattle.fixed_num.proofs.SumLemmas.{sum_below-suc, sum_below_same}
 use Rattle.instance_model.specs.Tables.{Tables, in_run, exclusion_of, upper_of, lower_of}
 use Rattle.instance_model.specs.Plans.{load_at}
 use Rattle.lagrange_bound.specs.declared.tail.Tail.{Tail}
-use Rattle.lagrange_bound.specs.declared.ex_price.ExPrice.{ExPrice}
 use Rattle.lagrange_bound.specs.Prices.{PriceList, IsPriceList, up_of, lo_of, ex_of}
 use Rattle.lagrange_bound.specs.Changes.{with_up, with_lo, IsExSet, IsBandPlace}
 use Rattle.lagrange_bound.specs.Goals.{risk_base}
@@ -50,9 +49,9 @@ turned a z =
     (omega (arith, u, d, v, w, product_is a (pos 0 -ℤ z), product_is (pos 0 -ℤ a) z))
   where
     negative : (x : ℤ) → up (pos 0 -ℤ x) + up x ≡ down (pos 0 -ℤ x) + down x
-    negative (pos zero) = refl
-    negative (pos (suc n)) = omega arith
-    negative (negsuc n) = omega arith
+    negative x =
+        let e : (pos 0 -ℤ x) +ℤ x ≡ pos 0 = omega (arith, signed_arith) in
+        omega (arith, sum_is_lem (pos 0 -ℤ x) x, ap up e, ap down e)
 
 -- a price times a load, where the price on the upper limit, or that on the lower one, is another
 upper_moved : (u v l : ℕ) (z : ℤ)
@@ -108,7 +107,8 @@ lower_limit_moved u l v y z =
 sum_below-one : (n j : ℕ) (f g : ℕ → ℤ) (d : ℤ) → j < n → g j ≡ f j +ℤ d
     → ((k : ℕ) → k < n → (k ≡ j → ⊥) → g k ≡ f k) → sum_below n g ≡ sum_below n f +ℤ d
 sum_below-one zero j f g d h here rest = absurd (omega (arith, h))
-sum_below-one (suc n) j f g d h here rest = at (cases_lt j n)
+sum_below-one (suc n) j f g d h here rest =
+    at (cases_lt j n) (λ l. sum_below-one n j f g d l here (λ k m. rest k (omega (arith, m))))
   where
     inside : (a b c x y : ℤ) → a ≡ b +ℤ c → x ≡ y → a +ℤ x ≡ (b +ℤ y) +ℤ c
     inside a b c x y p q = omega (arith, signed_arith, p, q)
@@ -116,13 +116,13 @@ sum_below-one (suc n) j f g d h here rest = at (cases_lt j n)
     last : (a b c x y : ℤ) → a ≡ b → x ≡ y +ℤ c → a +ℤ x ≡ (b +ℤ y) +ℤ c
     last a b c x y p q = omega (arith, signed_arith, p, q)
 
-    at : (j < n) ⊎ (n ≤ j) → sum_below (suc n) g ≡ sum_below (suc n) f +ℤ d
-    at (inl l) =
-        let ih : sum_below n g ≡ sum_below n f +ℤ d = sum_below-one n j f g d l here
-        (λ k m. rest k (omega (arith, m))) in
+    at : (j < n) ⊎ (n ≤ j) → (j < n → sum_below n g ≡ sum_below n f +ℤ d)
+        → sum_below (suc n) g ≡ sum_below (suc n) f +ℤ d
+    at (inl l) more =
+        let ih : sum_below n g ≡ sum_below n f +ℤ d = more l in
         let e : g n ≡ f n = rest n (omega arith) (λ q. omega (arith, l, q)) in
         rw (sum_below-suc n f, sum_below-suc n g) (inside (sum_below n g) (sum_below n f) d (g n) (f n) ih e)
-    at (inr l) =
+    at (inr l) more =
         let e : j ≡ n = omega (arith, h, l) in
         let ih : sum_below n g ≡ sum_below n f =
         sum_below_same n g f (λ k m. rest k (omega (arith, m)) (λ q. omega (arith, m, q, e))) in
@@ -251,9 +251,18 @@ ex_parts : (inst : Tables) (old new : PriceList) (e t v i s : ℕ) → IsPriceLi
 ex_parts inst old new e t v i s h k a =
     let m = sum-changed (λ x. ex_share inst x i s) e t v old.ex new.ex (Rising-from old.ex h.ex_ascend)
     (Rising-from new.ex k.ex_ascend) (ArePositive-from inst old.ex h.ex) (ArePositive-from inst new.ex k.ex)
-    (ex_share-here inst e t 0 i s) a.ex in
-    omega (arith, m, ex_part-sum_by inst old.ex i s, ex_part-sum_by inst new.ex i s,
-    ex_share-here inst e t (ex_of old.ex e t) i s, ex_share-here inst e t v i s)
+    (ex_share-here inst e t 0 i s ∙ none (times_at inst e t i s)) a.ex in
+    omega (
+      arith,
+      m,
+      ex_part-sum_by inst old.ex i s,
+      ex_part-sum_by inst new.ex i s,
+      ex_share-here inst e t (ex_of old.ex e t) i s,
+      ex_share-here inst e t v i s,
+    )
+  where
+    none : (n : ℕ) → 0 * n ≡ 0
+    none n = omega arith
 
 ex_totals : (inst : Tables) (old new : PriceList) (e t v : ℕ) → IsPriceList inst old → IsPriceList inst new
     → IsExSet old new e t v → ex_total new.ex + ex_of old.ex e t ≡ ex_total old.ex + v
@@ -263,12 +272,16 @@ ex_totals inst old new e t v h k a =
     a.ex in
     omega (arith, m, ex_total-sum_by old.ex, ex_total-sum_by new.ex)
 
+product_pos : (v w : ℕ) → pos v *ℤ pos w ≡ pos (v * w)
+product_pos v w = same_in (pos v *ℤ pos w) (pos (v * w)) (omega (arith, product_is (pos v) (pos w)))
+
 -- a product of a difference and a natural number
 difference_times : (v u w : ℕ) → (pos v -ℤ pos u) *ℤ pos w ≡ pos (v * w) -ℤ pos (u * w)
 difference_times v u w =
     let e : pos v ≡ pos u +ℤ (pos v -ℤ pos u) = omega (arith, signed_arith) in
-    let p : pos (v * w) ≡ pos (u * w) +ℤ (pos v -ℤ pos u) *ℤ pos w = ap (λ (x : ℤ). x *ℤ pos w) e ∙ spread (pos u)
-    (pos v -ℤ pos u) (pos w) in
+    let p : pos (v * w) ≡ pos (u * w) +ℤ (pos v -ℤ pos u) *ℤ pos w = sym (product_pos v w)
+    ∙ ap (λ (x : ℤ). x *ℤ pos w) e ∙ spread (pos u) (pos v -ℤ pos u) (pos w)
+    ∙ ap (λ (x : ℤ). x +ℤ (pos v -ℤ pos u) *ℤ pos w) (product_pos u w) in
     apart (pos (v * w)) (pos (u * w)) ((pos v -ℤ pos u) *ℤ pos w) p
   where
     apart : (a b c : ℤ) → a ≡ b +ℤ c → c ≡ a -ℤ b
@@ -291,8 +304,10 @@ total_moved : (z : ℤ) (x y u v : ℕ) → y + u ≡ x + v
     → z -ℤ pos (1_000_000_000_000 * y)
     ≡ (z -ℤ pos (1_000_000_000_000 * x)) +ℤ (pos v -ℤ pos u) *ℤ (pos 0 -ℤ pos 1_000_000_000_000)
 total_moved z x y u v e =
-    rw (turned (pos v -ℤ pos u) (pos 1_000_000_000_000)) (rw (back u v) (rw
-    (difference_times u v 1_000_000_000_000) (linear z x y u v e)))
+    linear z x y u v e
+    ∙ ap (λ (t : ℤ). (z -ℤ pos (1_000_000_000_000 * x)) +ℤ t)
+    (sym (turned (pos v -ℤ pos u) (pos 1_000_000_000_000)
+    ∙ ap (λ (t : ℤ). t *ℤ pos 1_000_000_000_000) (back u v) ∙ difference_times u v 1_000_000_000_000))
   where
     back : (u v : ℕ) → pos 0 -ℤ (pos v -ℤ pos u) ≡ pos u -ℤ pos v
     back u v = omega (arith, signed_arith)

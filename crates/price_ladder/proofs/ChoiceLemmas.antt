@@ -1,16 +1,15 @@
 -- Starts whose kept numbers are least, as the code finds them, and sums over them.
 use Rattle.std.proofs.Common.{◌≡◌, ℕ, ◌+◌, ◌*◌, ◌<◌, ◌≤◌, ◌⊎◌, inl, inr, refl, sym, ◌∙◌, ap, subst, arith, ℤ, pos, ◌+ℤ◌}
-use Rattle.std.proofs.Common.{◌-ℤ◌, ◌*ℤ◌, ◌≤ℤ◌, ◌<ℤ◌, List, [], ◌∷◌, ◌++◌, length, get_or, IsTrue, unsigned_abs, ◌^◌, to_z}
+use Rattle.std.proofs.Common.{◌-ℤ◌, ◌*ℤ◌, ◌≤ℤ◌, List, [], ◌∷◌, ◌++◌, length, get_or, IsTrue, unsigned_abs, ◌^◌, to_z, FitsSigned}
 use Rattle.std.specs.Int.{w128}
 use Rattle.std.proofs.lemmas.Bool.{cases_lt}
-use Rattle.std.proofs.lemmas.Int.{to_z_pos}
+use Rattle.std.proofs.lemmas.Int.{to_z_pos, fits_signed_from_abs}
 use Rattle.std.proofs.lemmas.List.{get_or_push, get_or_append_left, length-append}
 use Rattle.fixed_num.specs.Sums.{sum_below}
 use Rattle.fixed_num.proofs.Bits.{by_bits}
 use Rattle.fixed_num.proofs.SignedLemmas.{signed_arith, back_from_abs, abs-product}
 use Rattle.fixed_num.proofs.SumLemmas.{abs-sum}
 use Rattle.instance_model.specs.Tables.{Tables, tmax, is_allowed}
-use Rattle.instance_model.specs.Plans.{AreAllowedStarts}
 use Rattle.instance_model.proofs.EntryLemmas.{is_allowed_facts}
 use Rattle.price_ladder.specs.declared.place.Place.{Place}
 use Rattle.price_ladder.specs.Weights.{weight_of, fixed_weight}
@@ -111,6 +110,8 @@ slope_is inst place choice a b p q h k =
 pub record IsMore (a times w : ℤ) (r : ℤ) : Type 0 where
   pub value : r ≡ a +ℤ times *ℤ w
   pub gap : unsigned_abs r ≤ unsigned_abs a + 1_000_000_000 * 300_000_000_000_000_000_000_000
+  pub fits_product : FitsSigned w128 (by_bits times *ℤ by_bits w)
+  pub fits_sum : FitsSigned w128 (by_bits a +ℤ by_bits (by_bits times *ℤ by_bits w))
 
 pub more_is : (a times w : ℤ) → unsigned_abs a < 2 * 10 ^ 37 → unsigned_abs times ≤ 1_000_000_000
     → unsigned_abs w ≤ 300_000_000_000_000_000_000_000
@@ -123,7 +124,13 @@ more_is a times w h k l =
     let v : by_bits (times *ℤ w) ≡ times *ℤ w = back_from_abs (times *ℤ w) (omega (arith, p)) in
     let x : by_bits (a +ℤ times *ℤ w) ≡ a +ℤ times *ℤ w =
     back_from_abs (a +ℤ times *ℤ w) (omega (arith, abs-sum a (times *ℤ w), h, p)) in
-    record { value = rw (s, t, u, v, x) refl; gap = rw (s, t, u, v, x) (omega (arith, abs-sum a (times *ℤ w), p)) }
+    record {
+      value = rw (s, t, u, v, x) refl;
+      gap = rw (s, t, u, v, x) (omega (arith, abs-sum a (times *ℤ w), p));
+      fits_product = rw (t, u) (fits_signed_from_abs w128 (times *ℤ w) (omega (arith, p)));
+      fits_sum = rw (s, t, u, v)
+          (fits_signed_from_abs w128 (a +ℤ times *ℤ w) (omega (arith, abs-sum a (times *ℤ w), h, p)));
+    }
 
 -- the difference of two prices
 pub record IsTimes (v u : ℕ) (r : ℤ) : Type 0 where
@@ -131,10 +138,8 @@ pub record IsTimes (v u : ℕ) (r : ℤ) : Type 0 where
   pub small : unsigned_abs r ≤ 1_000_000_000
 
 pub times_is : (v u : ℕ) → v ≤ 1_000_000_000 → u ≤ 1_000_000_000
-    → IsTimes v u (by_bits (to_z w128 v -ℤ to_z w128 u))
+    → IsTimes v u (to_z w128 v -ℤ to_z w128 u)
 times_is v u h k =
     let a : to_z w128 v ≡ pos v = to_z_pos w128 v (omega (arith, h)) in
     let b : to_z w128 u ≡ pos u = to_z_pos w128 u (omega (arith, k)) in
-    let d : by_bits (pos v -ℤ pos u) ≡ pos v -ℤ pos u =
-    back_from_abs (pos v -ℤ pos u) (omega (arith, signed_arith, h, k)) in
-    record { value = rw (a, b, d) refl; small = rw (a, b, d) (omega (arith, signed_arith, h, k)) }
+    record { value = rw (a, b) refl; small = rw (a, b) (omega (arith, signed_arith, h, k)) }

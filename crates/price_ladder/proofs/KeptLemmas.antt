@@ -1,45 +1,35 @@
 -- What is kept beside a price list: lists of numbers by start, their sizes, and the worth that they add up to.
-use Rattle.std.proofs.Common.{◌≡◌, ℕ, zero, suc, ◌+◌, ◌-◌, ◌*◌, ◌<◌, ◌≤◌, ◌⊎◌, inl, inr, refl, sym, ◌∙◌, ap, subst, arith, ℤ}
-use Rattle.std.proofs.Common.{pos, ◌+ℤ◌, ◌-ℤ◌, ◌*ℤ◌, ◌≤ℤ◌, ◌<ℤ◌, List, [], ◌∷◌, ◌++◌, length, get_or, Bool, true, false, cond, ◌==◌}
-use Rattle.std.proofs.Common.{filter, Contains, IsTrue, Some, All, sum_by, unsigned_abs, ◌^◌, ◌/◌, ◌%◌}
+use Rattle.std.proofs.Common.{◌≡◌, ℕ, ◌+◌, ◌-◌, ◌*◌, ◌<◌, ◌≤◌, ◌⊎◌, inl, inr, refl, sym, ◌∙◌, ap, subst, arith, ℤ}
+use Rattle.std.proofs.Common.{pos, ◌+ℤ◌, ◌-ℤ◌, ◌*ℤ◌, List, [], ◌∷◌, ◌++◌, length, get_or, Bool, true, false, cond, ◌==◌}
+use Rattle.std.proofs.Common.{IsTrue, Some, All, unsigned_abs, FitsSigned, ◌^◌, ◌/◌, ◌%◌}
+use Rattle.std.specs.Int.{w128}
 use Rattle.std.proofs.lemmas.Bool.{cases_lt}
+use Rattle.std.proofs.lemmas.Int.{fits_signed_from_abs}
 use Rattle.std.proofs.lemmas.List.{get_or_push, get_or_append_left, length-append}
 use Rattle.std.proofs.lemmas.List.Elements.{All-from_recursion, All-get_or, All-weaker}
 use Rattle.std.proofs.lemmas.List.Sums.{sum_by-le}
-use Rattle.std.proofs.lemmas.Nat.{mul-le, mul-add-lt, div-mul-add, mod-mul-add}
-use borrow.Author.Differences.{same_in, at_most_in, le_out}
+use Rattle.std.proofs.lemmas.Nat.{mul-le, mul-add-lt, div-mul-add, mod-mul-add, div_below}
 use Rattle.fixed_num.specs.Sums.{sum_below}
-use Rattle.fixed_num.proofs.SignedLemmas.{signed_arith, abs-product}
-use Rattle.fixed_num.proofs.SumLemmas.{sum_below_same, sum_below_mono, sum_below-add, sum_below-scale, sum_below-within}
-use Rattle.fixed_num.proofs.SumLemmas.{*ℤ-+ℤ, abs-sum}
-use Rattle.instance_model.specs.Tables.{Tables, tmax, is_allowed, upper_of, lower_of, exclusion_of, in_run}
-use Rattle.instance_model.specs.Plans.{AreAllowedStarts, load_at}
+use Rattle.fixed_num.proofs.Bits.{by_bits}
+use Rattle.fixed_num.proofs.SignedLemmas.{signed_arith, abs-product, back_from_abs}
+use Rattle.fixed_num.proofs.SumLemmas.{sum_below-within}
+use Rattle.instance_model.specs.Tables.{Tables, is_allowed, upper_of, lower_of, exclusion_of, in_run}
+use Rattle.instance_model.specs.Plans.{load_at}
 use Rattle.instance_model.specs.Fitting.{IsFitting}
 use Rattle.instance_model.proofs.EntryLemmas.{is_allowed_facts}
 use Rattle.instance_model.proofs.FitLemmas.{tmax_small}
 use Rattle.instance_model.proofs.PlanLemmas.{load_at_small}
 use Rattle.lagrange_bound.specs.declared.ex_price.ExPrice.{ExPrice}
 use Rattle.lagrange_bound.specs.Prices.{PriceList, IsPriceList, IsExPrice, up_of, lo_of}
-use Rattle.lagrange_bound.specs.Least.{least_over}
-use Rattle.lagrange_bound.specs.TailLemmas.{least_over_le, least_over_reached}
-use Rattle.lagrange_bound.specs.Boxes.{span_of, starts_in}
 use Rattle.lagrange_bound.specs.Worth.{band_share, band_part, limit_share, fixed_part, ex_share, ex_part, ex_total}
-use Rattle.lagrange_bound.specs.Worth.{times_named, price_of, worth_of}
+use Rattle.lagrange_bound.specs.Worth.{price_of}
 use Rattle.lagrange_bound.specs.Goals.{risk_base}
 use Rattle.lagrange_bound.proofs.ExCountLemmas.{ex_part-sum_by, ex_few}
 use Rattle.lagrange_bound.proofs.LimitLemmas.{ex_total-sum_by}
-use Rattle.lagrange_bound.proofs.WorthLemmas.{in_starts}
-use Rattle.branch_tree.specs.Trees.{root_box}
-use Rattle.branch_tree.proofs.RootLemmas.{root_at}
 use Rattle.price_ladder.specs.declared.place.Place.{Place}
 use Rattle.price_ladder.specs.declared.place.Place.TheVariants.{Upper, Lower, Excluded}
-use Rattle.price_ladder.specs.Places.{IsPlace, value_at, IsWithValue}
-use Rattle.price_ladder.specs.Raised.{root_worth, root_starts}
-use Rattle.price_ladder.specs.Weights.{price_at, times_at, weight_of, fixed_weight}
-use Rattle.price_ladder.specs.Kept.{kept_at, AreValues, AreSmall, AreSmallBases, more_of, AreLeast, IsLeastStart}
-use Rattle.price_ladder.specs.Kept.{sum_over, slope_of, IsKept}
-use Rattle.price_ladder.proofs.ChangeLemmas.{price_changed, fixed_changed}
-use Rattle.price_ladder.proofs.GainLemmas.{root_has_starts}
+use Rattle.price_ladder.specs.Weights.{price_at, times_at, weight_of}
+use Rattle.price_ladder.specs.Kept.{kept_at, AreValues, AreSmall, AreSmallBases, more_of}
 
 -- ---- a list that grows place by place
 
@@ -56,7 +46,7 @@ values_none inst f items e =
 pub values_more : (inst : Tables) (f : ℕ → ℕ → ℤ) (k : ℕ) (items more : List ℤ) (z : ℤ) → AreValuesTo inst f k items
     → more ≡ items ++ z ∷ []
     → (IsTrue (is_allowed inst (k / inst.periods) (k % inst.periods + 1))
-      → z ≡ f (k / inst.periods) (k % inst.periods + 1))
+    → z ≡ f (k / inst.periods) (k % inst.periods + 1))
     → AreValuesTo inst f (k + 1) more
 values_more inst f k items more z h e here = record {
   each = omega (arith, ap (λ (xs : List ℤ). length xs) e, length-append items (z ∷ []), h.each);
@@ -99,9 +89,11 @@ pub entry_within : (inst : Tables) (i s n : ℕ) → IsFitting inst → i < leng
     → n ≡ length inst.names * inst.periods → (1 ≤ s) × (i * inst.periods + (s - 1) < n)
 entry_within inst i s n fit l a e =
     let w = is_allowed_facts inst i s a in
-    let t = tmax_small inst i fit l in
-    (w.0, omega
-    (arith, e, mul-add-lt i inst.periods (s - 1) (length inst.names) l (omega (arith, w.0, w.1, t.1))))
+    let t = tmax_small inst i fit l in (
+      w.0,
+      omega
+          (arith, e, mul-add-lt i inst.periods (s - 1) (length inst.names) l (omega (arith, w.0, w.1, t.1))),
+    )
 
 -- ---- sizes
 
@@ -143,29 +135,34 @@ bands_small inst prices i s f h l =
         let p : m * n ≤ 32 * 512 = mul-le m n 32 512 h k in
         omega (arith, e, p)
 
+share_small : (inst : Tables) (i s : ℕ) (x : ExPrice) → IsExPrice inst x → ex_share inst x i s ≤ 2_000_000_000
+unfolding ex_share
+share_small inst i s x k =
+    at (in_run inst i s x.period) ((exclusion_of inst x.exclusion).first == i)
+    ((exclusion_of inst x.exclusion).second == i) x.value k.small
+  where
+    at : (r a b : Bool) (v : ℕ) → v ≤ 1_000_000_000 → cond r (v * (cond a 1 0 + cond b 1 0)) 0 ≤ 2_000_000_000
+    at true true true v m = omega (arith, m)
+    at true true false v m = omega (arith, m)
+    at true false true v m = omega (arith, m)
+    at true false false v m = omega (arith, m)
+    at false a b v m = omega arith
+
 ex_small : (inst : Tables) (prices : PriceList) (i s : ℕ) → IsFitting inst → IsPriceList inst prices
     → ex_part inst prices.ex i s ≤ 33_554_432 * 2_000_000_000
 ex_small inst prices i s f h =
-    let each = All-weaker (IsExPrice inst) (λ x. ex_share inst x i s ≤ 2_000_000_000) one prices.ex
+    let each = All-weaker (IsExPrice inst) (λ x. ex_share inst x i s ≤ 2_000_000_000) (share_small inst i s) prices.ex
     (All-from_recursion (IsExPrice inst) prices.ex h.ex) in
-    omega (arith, ex_part-sum_by inst prices.ex i s,
-    sum_by-le (λ x. ex_share inst x i s) 2_000_000_000 prices.ex each, ex_few inst prices f h)
-  where
-    one : (x : ExPrice) → IsExPrice inst x → ex_share inst x i s ≤ 2_000_000_000
-    unfolding ex_share
-    one x k = at (in_run inst i s x.period) ((exclusion_of inst x.exclusion).first == i)
-        ((exclusion_of inst x.exclusion).second == i) x.value k.small
-      where
-        at : (r a b : Bool) (v : ℕ) → v ≤ 1_000_000_000 → cond r (v * (cond a 1 0 + cond b 1 0)) 0 ≤ 2_000_000_000
-        at true true true v m = omega (arith, m)
-        at true true false v m = omega (arith, m)
-        at true false true v m = omega (arith, m)
-        at true false false v m = omega (arith, m)
-        at false a b v m = omega arith
+    omega (
+      arith,
+      ex_part-sum_by inst prices.ex i s,
+      sum_by-le (λ x. ex_share inst x i s) 2_000_000_000 prices.ex each,
+      ex_few inst prices f h,
+    )
 
 pub fixed_small : (inst : Tables) (prices : PriceList) → IsFitting inst → IsPriceList inst prices
     → unsigned_abs (fixed_part inst prices) < 10 ^ 36
-unfolding fixed_part
+unfolding fixed_part lower_of upper_of
 fixed_small inst prices f h =
     let all = sum_below-within (length inst.resource_names) (inst.periods * 400_000_000_000_000_000_000_000_000_000)
     (λ c. sum_below inst.periods (λ u. limit_share inst prices c (u + 1)))
@@ -173,8 +170,12 @@ fixed_small inst prices f h =
     (λ u. limit_share inst prices c (u + 1)) (λ u n. one c u m n)) in
     let some = All-weaker (IsExPrice inst) (λ x. x.value ≤ 1_000_000_000) (λ x k. k.small) prices.ex
     (All-from_recursion (IsExPrice inst) prices.ex h.ex) in
-    let total : ex_total prices.ex ≤ 33_554_432 * 1_000_000_000 = omega (arith, ex_total-sum_by prices.ex,
-    sum_by-le (λ x. x.value) 1_000_000_000 prices.ex some, ex_few inst prices f h) in
+    let total : ex_total prices.ex ≤ 33_554_432 * 1_000_000_000 = omega (
+      arith,
+      ex_total-sum_by prices.ex,
+      sum_by-le (λ x. x.value) 1_000_000_000 prices.ex some,
+      ex_few inst prices f h,
+    ) in
     whole (length inst.resource_names) inst.periods _ (ex_total prices.ex) f.resources.few f.few_periods all total
   where
     product : (n : ℕ) (z : ℤ) → n ≤ 1_000_000_000 → unsigned_abs z < 2 * 10 ^ 20
@@ -259,3 +260,44 @@ more_small inst place times entries more h k w v = record {
     sum : (a b : ℤ) → unsigned_abs a < 2 * 10 ^ 33 → unsigned_abs b ≤ 1_000_000_000 * 100_000_000_000_000_000_000
         → unsigned_abs (a +ℤ b) < 3 * 10 ^ 33
     sum a b h k = omega (arith, signed_arith, h, k)
+
+-- ---- one place of a list of numbers, as the code reads it
+
+pub place_row : (inst : Tables) (k p : ℕ) → p ≡ inst.periods → 1 ≤ p → k < length inst.names * inst.periods
+    → k / p < length inst.names
+place_row inst k p e some l =
+    div_below k p (length inst.names) some (subst (λ (n : ℕ). k < length inst.names * n) (sym e) l)
+
+-- what was found for the start at a place
+pub at_place : (inst : Tables) (f : ℕ → ℕ → ℤ) (k p : ℕ) (r : ℤ) → p ≡ inst.periods → r ≡ f (k / p) (k % p + 1)
+    → r ≡ f (k / inst.periods) (k % inst.periods + 1)
+at_place inst f k p r e h = h ∙ ap (λ (n : ℕ). f (k / n) (k % n + 1)) e
+
+-- the kept number, read for an allowed start, is small
+pub entry_read : (inst : Tables) (bound : ℕ) (entries : List ℤ) (i s : ℕ) (r : ℤ) (b : Bool)
+    → AreSmall inst bound entries → i < length inst.names → b ≡ is_allowed inst i s → b ≡ true
+    → r ≡ kept_at inst entries i s → unsigned_abs r < bound
+entry_read inst bound entries i s r b h l e t is =
+    subst (λ (z : ℤ). unsigned_abs z < bound) (sym is) (h.at i s l (sym e ∙ t))
+
+-- a number with another base in it, as the code adds it up
+pub record IsShifted (a y z : ℤ) (r : ℤ) : Type 0 where
+  pub value : r ≡ a +ℤ (y -ℤ z)
+  pub small : unsigned_abs r < 3 * 10 ^ 33
+  pub fits : FitsSigned w128 (by_bits a +ℤ by_bits (by_bits y -ℤ by_bits z))
+
+pub shifted_is : (a y z : ℤ) → unsigned_abs a < 2 * 10 ^ 33 → unsigned_abs y < 10 ^ 30 → unsigned_abs z < 10 ^ 30
+    → IsShifted a y z (by_bits (by_bits a +ℤ by_bits (by_bits y -ℤ by_bits z)))
+shifted_is a y z h k l =
+    let s : by_bits a ≡ a = back_from_abs a (omega (arith, h)) in
+    let t : by_bits y ≡ y = back_from_abs y (omega (arith, k)) in
+    let u : by_bits z ≡ z = back_from_abs z (omega (arith, l)) in
+    let v : by_bits (y -ℤ z) ≡ y -ℤ z = back_from_abs (y -ℤ z) (omega (arith, signed_arith, k, l)) in
+    let x : by_bits (a +ℤ (y -ℤ z)) ≡ a +ℤ (y -ℤ z) =
+    back_from_abs (a +ℤ (y -ℤ z)) (omega (arith, signed_arith, h, k, l)) in
+    record {
+      value = rw (s, t, u, v, x) refl;
+      small = rw (s, t, u, v, x) (omega (arith, signed_arith, h, k, l));
+      fits = rw (s, t, u, v)
+          (fits_signed_from_abs w128 (a +ℤ (y -ℤ z)) (omega (arith, signed_arith, h, k, l)));
+    }

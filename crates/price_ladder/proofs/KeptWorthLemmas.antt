@@ -11,7 +11,7 @@ use Rattle.fixed_num.specs.Sums.{sum_below}
 use Rattle.fixed_num.proofs.Bits.{by_bits}
 use Rattle.fixed_num.proofs.SignedLemmas.{signed_arith, back_from_abs}
 use Rattle.fixed_num.proofs.SumLemmas.{sum_below_same, sum_below_mono, sum_below-add, sum_below-scale, *ℤ-+ℤ, abs-sum}
-use Rattle.instance_model.specs.Tables.{Tables, tmax, is_allowed}
+use Rattle.instance_model.specs.Tables.{Tables, is_allowed}
 use Rattle.instance_model.specs.Plans.{AreAllowedStarts}
 use Rattle.instance_model.specs.Fitting.{IsFitting}
 use Rattle.instance_model.proofs.EntryLemmas.{is_allowed_facts}
@@ -22,7 +22,6 @@ use Rattle.lagrange_bound.specs.TailLemmas.{least_over_le, least_over_reached}
 use Rattle.lagrange_bound.specs.Boxes.{span_of, starts_in}
 use Rattle.lagrange_bound.specs.Changes.{with_tail}
 use Rattle.lagrange_bound.specs.Worth.{fixed_part, worth_of, price_of, band_part, ex_part}
-use Rattle.lagrange_bound.specs.Bases.{base_of}
 use Rattle.lagrange_bound.specs.Goals.{risk_base}
 use Rattle.lagrange_bound.proofs.WorthLemmas.{in_starts}
 use Rattle.branch_tree.specs.Trees.{root_box}
@@ -35,7 +34,7 @@ use Rattle.price_ladder.specs.Tried.{NoneReaches}
 use Rattle.price_ladder.specs.Weights.{price_at, weight_of, fixed_weight}
 use Rattle.price_ladder.specs.declared.kept.Beside.{Beside}
 use Rattle.price_ladder.specs.Kept.{kept_at, AreValues, AreSmall, AreSmallBases, more_of, shifted_of, AreLeast}
-use Rattle.price_ladder.specs.Kept.{sum_over, slope_of, IsKept}
+use Rattle.price_ladder.specs.Kept.{sum_over, slope_of}
 use Rattle.price_ladder.specs.Beside.{IsSettled, IsBeside}
 use Rattle.price_ladder.proofs.ChangeLemmas.{price_changed, fixed_changed}
 use Rattle.price_ladder.proofs.GainLemmas.{zero_price, zero_fixed}
@@ -71,12 +70,13 @@ in_root inst i s l a =
 
 passes : (p : ℕ → Bool) (xs : List ℕ) (k : ℕ) → Contains (filter p xs) k → p k ≡ true
 passes p [] k (i, h, e) = absurd (omega (arith, h))
-passes p (y ∷ xs) k c = at (p y) refl c
+passes p (y ∷ xs) k c = at (p y) refl (passes p xs k) c
   where
-    at : (b : Bool) → p y ≡ b → Contains (cond b (y ∷ filter p xs) (filter p xs)) k → p k ≡ true
-    at true q (zero, h, e) = subst (λ (m : ℕ). p m ≡ true) e q
-    at true q (suc i, h, e) = passes p xs k (i, omega (arith, h), e)
-    at false q d = passes p xs k d
+    at : (b : Bool) → p y ≡ b → (Contains (filter p xs) k → p k ≡ true)
+        → Contains (cond b (y ∷ filter p xs) (filter p xs)) k → p k ≡ true
+    at true q more (zero, h, e) = subst (λ (m : ℕ). p m ≡ true) e q
+    at true q more (suc i, h, e) = more (i, omega (arith, h), e)
+    at false q more d = more d
 
 root_allowed : (inst : Tables) (i s : ℕ) → Contains (root_starts inst i) s → IsTrue (is_allowed inst i s)
 unfolding starts_in
@@ -86,7 +86,7 @@ root_allowed inst i s c = passes (is_allowed inst i) _ s c
 
 -- whatever allowed starts are taken, the worth is at most the sum of their prices and what is fixed
 pub worth_below : (inst : Tables) (prices : PriceList) (choice : List ℕ) → AreAllowedStarts inst choice
-    → root_worth inst prices ≤ℤ sum_over inst (price_at inst prices) choice +ℤ fixed_part inst prices
+    → root_worth inst prices ≤ℤ (sum_over inst (price_at inst prices) choice +ℤ fixed_part inst prices)
 unfolding worth_of sum_over
 worth_below inst prices choice a =
     both _ _ (fixed_part inst prices)
@@ -151,7 +151,7 @@ pub worth_bounded : (inst : Tables) (old new : PriceList) (place : Place) (v : �
     → IsPriceList inst old → IsPriceList inst new → IsPlace inst place → IsWithValue inst old new place v
     → AreAllowedStarts inst choice → worth ≡ sum_over inst (price_at inst old) choice +ℤ fixed_part inst old
     → root_worth inst new
-    ≤ℤ worth +ℤ (pos v -ℤ pos (value_at inst old place)) *ℤ slope_of inst place choice
+    ≤ℤ (worth +ℤ (pos v -ℤ pos (value_at inst old place)) *ℤ slope_of inst place choice)
 worth_bounded inst old new place v choice worth h k w e a is =
     subst (λ (z : ℤ). root_worth inst new ≤ℤ z) (sum_changed inst old new place v choice h k w e a
     ∙ ap (λ (z : ℤ). z +ℤ (pos v -ℤ pos (value_at inst old place)) *ℤ slope_of inst place choice) (sym is))
@@ -171,18 +171,18 @@ pub settled_kept : (inst : Tables) (prices : PriceList) (entries : List ℤ) (fi
     → IsSettled inst entries fixed beside → IsBeside inst prices beside
 settled_kept inst prices entries fixed beside values bases f s =
     let kept : AreValues inst (price_at inst prices) beside.entries.items =
-    subst (AreValues inst (price_at inst prices)) (sym s.entries) values in
+    subst (AreValues inst (price_at inst prices)) (sym s.same) values in
     let g : beside.worth ≡ sum_over inst (kept_at inst beside.entries.items) beside.choice.items +ℤ fixed_part inst prices =
-    s.worth ∙ ap (λ (z : ℤ). sum_over inst (kept_at inst beside.entries.items) beside.choice.items +ℤ z) f in
+    s.total ∙ ap (λ (z : ℤ). sum_over inst (kept_at inst beside.entries.items) beside.choice.items +ℤ z) f in
     record {
-      entries = kept;
+      values = kept;
       bases = bases;
-      choice = s.choice.starts;
-      fixed = s.fixed ∙ f;
-      worth = g ∙ sym (worth_picked inst prices beside.entries.items beside.choice.items kept s.choice);
+      starts = s.least.starts;
+      part = s.part ∙ f;
+      total = g ∙ sym (worth_picked inst prices beside.entries.items beside.choice.items kept s.least);
       picked = g ∙ ap (λ (z : ℤ). z +ℤ fixed_part inst prices)
           (sum_over_same inst (kept_at inst beside.entries.items) (price_at inst prices) beside.choice.items
-          s.choice.starts kept.at);
+          s.least.starts kept.at);
       small = s.small;
     }
 
@@ -270,10 +270,10 @@ IsSettled-from inst entries fixed sum choice beside a b d e least total h k =
     back_from_abs (sum +ℤ fixed) (omega (arith, abs-sum sum fixed, h, k)) in
     let is : beside.worth ≡ sum +ℤ fixed = e ∙ rw (u, v) w in
     record {
-      entries = a;
-      choice = rw (a, b) least;
-      fixed = d ∙ u;
-      worth = rw (a, b) (is ∙ ap (λ (z : ℤ). z +ℤ fixed) total);
+      same = a;
+      least = rw (a, b) least;
+      part = d ∙ u;
+      total = rw (a, b) (is ∙ ap (λ (z : ℤ). z +ℤ fixed) total);
       small = rw is (omega (arith, abs-sum sum fixed, h, k));
     }
 
@@ -348,4 +348,37 @@ pub none_kept : (inst : Tables) (old : PriceList) (place : Place) (v : ℕ) (bes
     → ((new : PriceList) → IsPriceList inst new → IsWithValue inst old new place v → IsBeside inst new beside)
     → beside.worth <ℤ target → NoneReaches inst target (λ p. IsWithValue inst old p place v)
 none_kept inst old place v beside target h l =
-    record { none = λ p r s. subst (λ (z : ℤ). z <ℤ target) (h p r s).worth l }
+    record { none = λ p r s. subst (λ (z : ℤ). z <ℤ target) (h p r s).total l }
+
+-- what is kept after another number
+pub beside_moved : (inst : Tables) (old new : PriceList) (place : Place) (v u : ℕ) (entries more : List ℤ)
+    (fixed times w r : ℤ) (beside : Beside) → IsPriceList inst old → IsPriceList inst new → IsPlace inst place
+    → IsWithValue inst old new place v → AreValues inst (price_at inst old) entries → AreSmallBases inst old
+    → fixed ≡ fixed_part inst old → u ≡ value_at inst old place → times ≡ pos v -ℤ pos u
+    → w ≡ fixed_weight inst place → r ≡ fixed +ℤ times *ℤ w → AreValues inst (more_of inst place times entries) more
+    → IsSettled inst more r beside → IsBeside inst new beside
+beside_moved inst old new place v u entries more fixed times w r beside h k p e values bases f a b d q m s =
+    let is : times ≡ pos v -ℤ pos (value_at inst old place) = b ∙ ap (λ (n : ℕ). pos v -ℤ pos n) a in
+    let m' = subst (λ (z : ℤ). AreValues inst (more_of inst place z entries) more) is m in
+    let sum : r ≡ fixed_part inst new = q ∙ ap (λ (z : ℤ). fixed +ℤ z *ℤ w) is
+    ∙ ap (λ (z : ℤ). fixed +ℤ (pos v -ℤ pos (value_at inst old place)) *ℤ z) d
+    ∙ ap (λ (z : ℤ). z +ℤ (pos v -ℤ pos (value_at inst old place)) *ℤ fixed_weight inst place) f
+    ∙ sym (fixed_changed inst old new place v h k p e) in
+    settled_kept inst new more r beside (moved_values inst old new place v entries more h k p e values m')
+    (moved_bases inst old new place v e bases) sum s
+
+-- ---- sizes of lists whose numbers are all small
+
+pub small_from_all : (inst : Tables) (bound : ℕ) (entries : List ℤ) → IsFitting inst
+    → length entries ≡ length inst.names * inst.periods → All (λ z. unsigned_abs z < bound) entries
+    → AreSmall inst bound entries
+small_from_all inst bound entries f e all = record {
+  each = e;
+  at = λ i s l a. All-get_or (λ z. unsigned_abs z < bound) entries (i * inst.periods + (s - 1)) (pos 0)
+      (entry_within inst i s (length entries) f l a e).1 all;
+}
+
+pub AreSmall-weaker : (inst : Tables) (a b : ℕ) (entries : List ℤ) → a ≤ b → AreSmall inst a entries
+    → AreSmall inst b entries
+AreSmall-weaker inst a b entries le h =
+    record { each = h.each; at = λ i s l m. omega (arith, le, h.at i s l m) }

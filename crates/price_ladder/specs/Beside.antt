@@ -13,10 +13,10 @@ IsBeside inst prices beside = IsKept inst prices beside.entries.items beside.cho
 
 -- a start of least price for each intervention and the worth were found for these prices and this fixed part
 pub record IsSettled (inst : Tables) (entries : List ℤ) (fixed : ℤ) (beside : Beside) : Type 0 where
-  pub entries : beside.entries.items ≡ entries
-  pub choice : AreLeast inst beside.entries.items beside.choice.items
-  pub fixed : beside.fixed ≡ fixed
-  pub worth : beside.worth ≡ sum_over inst (kept_at inst beside.entries.items) beside.choice.items +ℤ fixed
+  pub same : beside.entries.items ≡ entries
+  pub least : AreLeast inst beside.entries.items beside.choice.items
+  pub part : beside.fixed ≡ fixed
+  pub total : beside.worth ≡ sum_over inst (kept_at inst beside.entries.items) beside.choice.items +ℤ fixed
   pub small : unsigned_abs beside.worth < 10 ^ 37
 
 -- all that is kept belongs to the list

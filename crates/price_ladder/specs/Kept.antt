@@ -61,12 +61,12 @@ slope_of inst place choice = sum_over inst (weight_of inst place) choice +ℤ fi
 
 -- what is kept beside a list: the prices of all allowed starts, one of least price for each intervention, what the
 -- prices add whatever the starts are, and the worth
-pub record IsKept (inst : Tables) (prices : PriceList) (entries : List ℤ) (choice : List ℕ) (fixed worth : ℤ) : Type 0
-where
-  pub entries : AreValues inst (price_at inst prices) entries
+pub record IsKept (inst : Tables) (prices : PriceList) (entries : List ℤ) (choice : List ℕ) (fixed worth : ℤ)
+    : Type 0 where
+  pub values : AreValues inst (price_at inst prices) entries
   pub bases : AreSmallBases inst prices
-  pub choice : AreAllowedStarts inst choice
-  pub fixed : fixed ≡ fixed_part inst prices
-  pub worth : worth ≡ root_worth inst prices
+  pub starts : AreAllowedStarts inst choice
+  pub part : fixed ≡ fixed_part inst prices
+  pub total : worth ≡ root_worth inst prices
   pub picked : worth ≡ sum_over inst (price_at inst prices) choice +ℤ fixed_part inst prices
   pub small : unsigned_abs worth < 10 ^ 37

@@ -38,6 +38,7 @@ fn least_start(inst: &Instance, entries: &[i128], i: u32, allowed: u32) -> u32
     requires allowed { IsTrue (is_allowed inst.now i allowed) }
     ensures { IsLeastStart inst.now entries.now i result }
 {
+    inst.fits();
     let mut best = allowed;
     for s in 1..inst.tmax(i) + 1 {
         best = better_start(inst, entries, i, best, s);

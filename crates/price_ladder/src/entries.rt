@@ -41,8 +41,9 @@ fn base_at(inst: &Instance, prices: &Prices, k: u32) -> i128
         result ≡ risk_base inst.now prices.now (k / inst.now.periods) (k % inst.now.periods + 1) }
     ensures small { unsigned_abs result < 10 ^ 30 }
 {
-    let i = k / inst.periods();
-    let s = k % inst.periods() + 1;
+    let periods = inst.periods();
+    let i = k / periods;
+    let s = k % periods + 1;
     if !inst.allowed(i, s) {
         return 0;
     }
@@ -78,8 +79,9 @@ fn more_at(inst: &Instance, place: Place, times: i128, entries: &[i128], k: u32)
         result ≡ more_of inst.now place times entries.now (k / inst.now.periods) (k % inst.now.periods + 1) }
     ensures small { unsigned_abs result < 4 * 10 ^ 33 }
 {
-    let i = k / inst.periods();
-    let s = k % inst.periods() + 1;
+    let periods = inst.periods();
+    let i = k / periods;
+    let s = k % periods + 1;
     if !inst.allowed(i, s) {
         return 0;
     }
@@ -118,8 +120,9 @@ fn shifted_at(inst: &Instance, before: &[i128], after: &[i128], entries: &[i128]
         ≡ shifted_of inst.now before.now after.now entries.now (k / inst.now.periods) (k % inst.now.periods + 1) }
     ensures small { unsigned_abs result < 4 * 10 ^ 33 }
 {
-    let i = k / inst.periods();
-    let s = k % inst.periods() + 1;
+    let periods = inst.periods();
+    let i = k / periods;
+    let s = k % periods + 1;
     if !inst.allowed(i, s) {
         return 0;
     }

@@ -155,7 +155,13 @@ fn try_switch(
         bases.as_slice(),
         kept.beside.entries.as_slice(),
     )?;
-    let beside = settle(alloc, inst, entries, kept.beside.fixed, kept.beside.choice.as_slice())?;
+    let beside = settle(
+        alloc,
+        inst,
+        entries,
+        kept.beside.fixed,
+        kept.beside.choice.as_slice(),
+    )?;
     if beside.worth < target {
         kept.prices.set_tail(inst, t, before);
         return Ok(false);

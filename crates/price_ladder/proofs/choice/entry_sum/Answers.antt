@@ -1,4 +1,4 @@
-use Rattle.std.proofs.Common.{◌≡◌, ◌+◌, ◌*◌, ◌<◌, ◌≤◌, ◌^◌, sym, subst, arith, ℤ, to_z, unsigned_abs, get_or}
+use Rattle.std.proofs.Common.{◌+◌, ◌*◌, ◌<◌, ◌≤◌, ◌^◌, sym, subst, arith, ℤ, to_z, unsigned_abs, get_or}
 use Rattle.std.specs.Int.{w128}
 use Rattle.fixed_num.proofs.SumLemmas.{sum_below-zero, sum_step, sum_step_small}
 use Rattle.price_ladder.specs.Kept.{kept_at}
@@ -13,9 +13,12 @@ loop-i-preserved c =
     let few : (c.loop-i.i + 1) * 3_000_000_000_000_000_000_000_000_000_000_000 < 2 ^ 127 =
     omega (arith, c.interventions-i-end.ensures.few) in
     let small : unsigned_abs c.entry-sum.result ≤ 3_000_000_000_000_000_000_000_000_000_000_000 =
-    omega (arith, subst (λ (z : ℤ). unsigned_abs z < 3 * 10 ^ 33) (sym c.entry-sum.ensures) (c.requires.entries.at c.loop-i.i
-    (get_or c.args.starts.now c.loop-i.i 0) (omega arith)
-    (c.requires.starts.allowed c.loop-i.i (omega (arith, c.requires.starts.each))))) in
+    omega (
+      arith,
+      subst (λ (z : ℤ). unsigned_abs z < 3 * 10 ^ 33) (sym c.entry-sum.ensures) (c.requires.entries.at c.loop-i.i
+          (get_or c.args.starts.now c.loop-i.i 0) (omega arith)
+          (c.requires.starts.allowed c.loop-i.i (omega (arith, c.requires.starts.each)))),
+    ) in
     record {
       value = sum_step _ _ c.loop-i.i 3_000_000_000_000_000_000_000_000_000_000_000 _ c.loop-i.invariant.value
           c.loop-i.invariant.small c.entry-sum.ensures small few;

@@ -1,4 +1,4 @@
-use Rattle.std.proofs.Common.{◌≡◌, ◌<◌, ◌^◌, ◌∙◌, sym, subst, arith, ℤ, List, All, unsigned_abs}
+use Rattle.std.proofs.Common.{◌≡◌, ◌∙◌, arith}
 use Rattle.fixed_num.proofs.Bits.{by_bits}
 use Rattle.fixed_num.proofs.SignedLemmas.{back_from_abs}
 use Rattle.price_ladder.specs.Kept.{shifted_of}
