@@ -83,11 +83,11 @@ zero_limits inst =
     (λ u m. no_limit (up_of inst (zero_list inst) c (u + 1)) (lo_of inst (zero_list inst) c (u + 1)) _ _
     (zero_up inst c (u + 1)) (zero_lo inst c (u + 1))))
 
-zero_fixed : (inst : Tables) → fixed_part inst (zero_list inst) ≡ pos 0
+pub zero_fixed : (inst : Tables) → fixed_part inst (zero_list inst) ≡ pos 0
 unfolding fixed_part zero_list ex_total
 zero_fixed inst = ap (λ (z : ℤ). z -ℤ pos 0) (zero_limits inst)
 
-zero_price : (inst : Tables) (i s : ℕ) → price_of (risk_base inst (zero_list inst)) inst (zero_list inst) i s
+pub zero_price : (inst : Tables) (i s : ℕ) → price_of (risk_base inst (zero_list inst)) inst (zero_list inst) i s
     ≡ risk_base inst (zero_list inst) i s
 unfolding price_of zero_list ex_part
 zero_price inst i s = ap (λ (z : ℤ). (risk_base inst (zero_list inst) i s +ℤ z) +ℤ pos 0) (zero_bands inst i s)

@@ -9,3 +9,8 @@ pub mod GreatestLemmas
 pub mod ScanLemmas
 pub mod ClimbLemmas
 pub mod PlainLemmas
+pub mod WeightLemmas
+pub mod ChangeLemmas
+pub mod ChoiceLemmas
+pub mod KeptLemmas
+pub mod KeptWorthLemmas

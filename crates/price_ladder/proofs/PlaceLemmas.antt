@@ -84,7 +84,7 @@ tail_back old mid new t tail a b =
 
 -- ---- sums over a list
 
-band_within : (inst : Tables) (c t n : ℕ) → IsBandPlace inst c t → n ≡ length inst.resource_names * inst.periods
+pub band_within : (inst : Tables) (c t n : ℕ) → IsBandPlace inst c t → n ≡ length inst.resource_names * inst.periods
     → c * inst.periods + (t - 1) < n
 band_within inst c t n h e = omega
     (arith, e, mul-add-lt c inst.periods (t - 1) (length inst.resource_names) h.resource (omega (arith, h.from, h.to)))

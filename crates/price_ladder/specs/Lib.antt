@@ -4,3 +4,6 @@ pub mod Tails
 pub mod Steps
 pub mod Raised
 pub mod Tried
+pub mod Weights
+pub mod Kept
+pub mod Beside

@@ -6,7 +6,10 @@
 //! count from 1. Worths are in parts of 10^-18.
 #![tactic(auto)]
 
+mod choice;
 mod climb;
+mod entries;
+mod kept;
 mod ladder;
 mod least_gain;
 mod place;
@@ -15,6 +18,8 @@ mod plan_tail;
 mod root;
 mod scan;
 mod sizes;
+mod weight;
 
+pub use kept::raise_prices;
 pub use place::Place;
 pub use plain::raise_plainly;

@@ -101,7 +101,7 @@ fn try_switch(
 }
 
 /// Whether two tails are the same.
-fn is_same(a: &Tail, b: &Tail) -> bool
+pub(crate) fn is_same(a: &Tail, b: &Tail) -> bool
     ensures { IsTrue result ↔ (a.now ≡ b.now) }
 {
     a.weight == b.weight && a.places.as_slice() == b.places.as_slice()

@@ -1,5 +1,6 @@
 //! Worked rows: the list that is raised for a plan, with its worth, on instances small enough to find them by hand.
 
+ghost use Rattle.instance_model.specs.Plans.{AreAllowedStarts};
 ghost use Rattle.lagrange_bound.specs.Prices.{IsPriceList};
 
 use crate::{are_allowed, root_worth};
@@ -7,7 +8,7 @@ use fixed_num::Fixed;
 use instance_model::{Instance, Limits};
 use instance_read::read_instance;
 use lagrange_bound::Prices;
-use price_ladder::raise_plainly;
+use price_ladder::{raise_plainly, raise_prices};
 use std::alloc::{AllocError, Global};
 use std::test::Fail;
 
@@ -97,37 +98,58 @@ fn tail_of(inst: &Instance, prices: &Prices) -> (u32, u32)
     }
 }
 
-/// The list that is raised for a plan of these starts, where they are allowed.
-fn row_of(alloc: Global, inst: &Instance, starts: &[u32]) -> Result<Option<Row>, AllocError> {
-    if !are_allowed(inst, starts) {
-        return Ok(None);
-    }
-    let prices = raise_plainly(alloc, inst, starts)?;
-    let worth = root_worth(alloc, inst, &prices, starts)?;
-    let (up, lo) = limits_of(inst, &prices);
-    let (weight, scenario) = tail_of(inst, &prices);
-    Ok(Some(Row {
+/// What a list has that is raised for a plan of these starts.
+fn row_of(
+    alloc: Global,
+    inst: &Instance,
+    prices: &Prices,
+    starts: &[u32],
+) -> Result<Row, AllocError>
+    requires prices { IsPriceList inst.now prices.now }
+    requires starts { AreAllowedStarts inst.now starts.now }
+{
+    let worth = root_worth(alloc, inst, prices, starts)?;
+    let (up, lo) = limits_of(inst, prices);
+    let (weight, scenario) = tail_of(inst, prices);
+    Ok(Row {
         worth,
         up,
         lo,
         ex: prices.ex(inst, 0, 1),
         weight,
         scenario,
-    }))
+    })
+}
+
+/// The lists that the plain ladder and the fast one raise for a plan of these starts, where they are allowed.
+fn rows_of(
+    alloc: Global,
+    inst: &Instance,
+    starts: &[u32],
+) -> Result<Option<(Row, Row)>, AllocError> {
+    if !are_allowed(inst, starts) {
+        return Ok(None);
+    }
+    let plain = raise_plainly(alloc, inst, starts)?;
+    let fast = raise_prices(alloc, inst, starts)?;
+    Ok(Some((
+        row_of(alloc, inst, &plain, starts)?,
+        row_of(alloc, inst, &fast, starts)?,
+    )))
 }
 
 /// The same, on the instance of a text.
-fn raised(alloc: Global, text: &str, starts: &[u32]) -> Result<Option<Row>, Fail> {
+fn raised(alloc: Global, text: &str, starts: &[u32]) -> Result<Option<(Row, Row)>, Fail> {
     let limits = Limits::standard();
     let inst = read_instance(alloc, &limits, Fixed::zero(), text.as_bytes())?;
-    Ok(row_of(alloc, &inst, starts)?)
+    Ok(rows_of(alloc, &inst, starts)?)
 }
 
 // g is 3 * 10^16 and 1 more. A step of 10^5 on the upper limit makes A and B cost 0.6 more each in period 1, and takes
 // 1 off. After a fourth, B would start in period 2.
 #[test]
 fn full_resources_get_a_price(rt: HostRuntime) -> Result<(), Fail> {
-    let row = raised(rt.alloc(), PAIR, &[1, 1])?;
+    let rows = raised(rt.alloc(), PAIR, &[1, 1])?;
     let wanted = Row {
         worth: 600_000_000_000_000_000,
         up: 300_000,
@@ -136,7 +158,7 @@ fn full_resources_get_a_price(rt: HostRuntime) -> Result<(), Fail> {
         weight: 0,
         scenario: 0,
     };
-    assert_eq!(rt; row, Some(wanted));
+    assert_eq!(rt; rows, Some((wanted, wanted)));
     Ok(())
 }
 
@@ -144,7 +166,7 @@ fn full_resources_get_a_price(rt: HostRuntime) -> Result<(), Fail> {
 // After the twentieth, B would start in period 2.
 #[test]
 fn exclusions_get_a_price(rt: HostRuntime) -> Result<(), Fail> {
-    let row = raised(rt.alloc(), APART, &[1, 1])?;
+    let rows = raised(rt.alloc(), APART, &[1, 1])?;
     let wanted = Row {
         worth: 2 * ONE,
         up: 0,
@@ -153,7 +175,7 @@ fn exclusions_get_a_price(rt: HostRuntime) -> Result<(), Fail> {
         weight: 0,
         scenario: 0,
     };
-    assert_eq!(rt; row, Some(wanted));
+    assert_eq!(rt; rows, Some((wanted, wanted)));
     Ok(())
 }
 
@@ -161,7 +183,7 @@ fn exclusions_get_a_price(rt: HostRuntime) -> Result<(), Fail> {
 // 0.05. After the sixtieth, A would start there.
 #[test]
 fn lower_limits_get_a_price(rt: HostRuntime) -> Result<(), Fail> {
-    let row = raised(rt.alloc(), FLOOR, &[1])?;
+    let rows = raised(rt.alloc(), FLOOR, &[1])?;
     let wanted = Row {
         worth: 3 * ONE,
         up: 0,
@@ -170,14 +192,14 @@ fn lower_limits_get_a_price(rt: HostRuntime) -> Result<(), Fail> {
         weight: 0,
         scenario: 0,
     };
-    assert_eq!(rt; row, Some(wanted));
+    assert_eq!(rt; rows, Some((wanted, wanted)));
     Ok(())
 }
 
 // The only plan is Z and U, so g is 1. With the tail the whole excess of half a unit counts.
 #[test]
 fn greatest_scenario_gets_the_tail(rt: HostRuntime) -> Result<(), Fail> {
-    let row = raised(rt.alloc(), SKEWED, &[1])?;
+    let rows = raised(rt.alloc(), SKEWED, &[1])?;
     let wanted = Row {
         worth: 1_500_000_000_000_000_000,
         up: 0,
@@ -186,13 +208,13 @@ fn greatest_scenario_gets_the_tail(rt: HostRuntime) -> Result<(), Fail> {
         weight: 1000,
         scenario: 2,
     };
-    assert_eq!(rt; row, Some(wanted));
+    assert_eq!(rt; rows, Some((wanted, wanted)));
     Ok(())
 }
 
 #[test]
 fn nothing_is_raised_without_interventions(rt: HostRuntime) -> Result<(), Fail> {
-    let row = raised(rt.alloc(), IDLE, &[])?;
+    let rows = raised(rt.alloc(), IDLE, &[])?;
     let wanted = Row {
         worth: 0,
         up: 0,
@@ -201,6 +223,6 @@ fn nothing_is_raised_without_interventions(rt: HostRuntime) -> Result<(), Fail> 
         weight: 0,
         scenario: 0,
     };
-    assert_eq!(rt; row, Some(wanted));
+    assert_eq!(rt; rows, Some((wanted, wanted)));
     Ok(())
 }
