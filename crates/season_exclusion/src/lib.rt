@@ -9,3 +9,4 @@ mod clashes;
 mod named;
 
 pub use clashes::Clashes;
+pub use named::{Named, named_lists};

@@ -9,7 +9,7 @@ use std::marker::Model;
 
 /// Exclusions that name one intervention.
 #[derive(Drop)]
-pub(crate) struct Named {
+pub struct Named {
     exclusions: Vec<u32>,
 }
 
@@ -37,7 +37,7 @@ impl Named {
         Ok(())
     }
 
-    pub(crate) fn as_slice(&self) -> &[u32]
+    pub fn as_slice(&self) -> &[u32]
         ensures { result.now ≡ self.now }
     {
         self.exclusions.as_slice()
@@ -73,7 +73,7 @@ fn note(lists: &mut [Named], exclusion: Exclusion, e: u32) -> Result<(), AllocEr
 }
 
 /// The exclusions that name each intervention. Takes memory.
-pub(crate) fn named_lists(alloc: Global, inst: &Instance) -> Result<Vec<Named>, AllocError>
+pub fn named_lists(alloc: Global, inst: &Instance) -> Result<Vec<Named>, AllocError>
     ensures each { IfOk result (λ lists. length lists.items ≡ length inst.now.names) }
     ensures named { IfOk result
         (λ lists. (i : ℕ) → i < length inst.now.names → slice_index_or lists.items i [] ≡ naming_of inst.now i) }

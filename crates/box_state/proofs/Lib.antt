@@ -1,0 +1,4 @@
+pub mod ExtentLemmas
+pub mod WalkLemmas
+pub mod BoxLemmas
+pub mod ExclusionLemmas
