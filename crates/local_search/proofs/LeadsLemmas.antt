@@ -82,7 +82,11 @@ pub LeadsTo-judged : (kept judged new_kept : KeptPlans) (made new : Made) (chang
 LeadsTo-judged kept judged new_kept made new change same plans can lower some room changed pushed left =
     let each = present_each kept (subst AreKeptPlans same plans) in
     LeadsTo-one kept new_kept made new change
-    (record { neighbour = IsNeighbour-changed kept.instance (present kept.plans) change each can; lower = lower })
+    (record {
+      can = can;
+      neighbour = IsNeighbour-changed kept.instance (present kept.plans) change each can;
+      lower = lower;
+    })
     (omega (arith, some, room))
     (changed ∙ ap (λ (k : KeptPlans). with_plan (after_change change (present k.plans)) k) same)
     pushed left

@@ -6,19 +6,20 @@ use Rattle.instance_model.specs.declared.key.Key.{Key}
 use Rattle.instance_model.specs.Tables.{Tables}
 use Rattle.instance_model.specs.Keys.{key_of, KeyBelow, IsNeighbour}
 use Rattle.plan_moves.specs.declared.change.Change.{Change}
-use Rattle.plan_moves.specs.Changing.{after_change}
+use Rattle.plan_moves.specs.Changing.{CanChange, after_change}
 use Rattle.plan_moves.specs.KeptPlans.{KeptPlans, present}
 
 -- the key of a plan
 abbrev pub plan_key : Tables → List ℕ → Key
 plan_key inst plan = key_of inst (map Some plan)
 
--- a change leads from a plan to a neighbour of strictly lower key
+-- a change can be made from a plan, and leads to a neighbour of strictly lower key
 pub record Lowers (inst : Tables) (plan : List ℕ) (change : Change) : Type 0 where
+  pub can : CanChange inst plan change
   pub neighbour : IsNeighbour inst plan (after_change change plan)
   pub lower : KeyBelow (plan_key inst (after_change change plan)) (plan_key inst plan)
 
--- each of these changes, made in order from a plan, leads to a neighbour of strictly lower key
+-- each of these changes can be made, in order from a plan, and leads to a neighbour of strictly lower key
 abbrev pub AllLower : Tables → List ℕ → List Change → Type 0
 AllLower inst plan [] = ⊤
 AllLower inst plan (change ∷ changes) = Lowers inst plan change × AllLower inst (after_change change plan) changes

@@ -1,6 +1,6 @@
 -- The worth of the box of all starts bounds every plan that breaks no rule.
-use Rattle.std.proofs.Common.{◌≡◌, ℕ, ◌<◌, sym, subst, ℤ, ◌≤ℤ◌, List, get_or, map, Some, IsTrue}
-use Rattle.instance_model.specs.Tables.{Tables, is_allowed}
+use Rattle.std.proofs.Common.{◌≡◌, sym, subst, ℤ, ◌≤ℤ◌, get_or, map, Some}
+use Rattle.instance_model.specs.Tables.{Tables}
 use Rattle.instance_model.specs.Fitting.{IsFitting}
 use Rattle.instance_model.specs.Values.{score_of}
 use Rattle.instance_model.proofs.EntryLemmas.{is_allowed_facts}
@@ -12,10 +12,6 @@ use Rattle.branch_tree.proofs.RootLemmas.{root_at}
 use Rattle.branch_tree.proofs.Refuting.{feasible_allowed}
 use Rattle.price_ladder.specs.Raised.{root_worth}
 use Rattle.worked_ladders.specs.Bounding.{BoundsScores}
-
--- the first n starts are allowed
-pub record AreAllowedTo (inst : Tables) (starts : List ℕ) (n : ℕ) : Type 0 where
-  pub allowed : (i : ℕ) → i < n → IsTrue (is_allowed inst i (get_or starts i 0))
 
 pub BoundsScores-from : (inst : Tables) (prices : PriceList) (bound : ℤ) → IsFitting inst → IsPriceList inst prices
     → WorthBoundsPlans risk_base risk_value → bound ≡ root_worth inst prices → BoundsScores inst bound

@@ -1,30 +1,15 @@
 //! The bound that a raised list gives.
-ghost use Rattle.std.specs.Prelude.{◌≡◌, ◌≤ℤ◌, IfOk, IsTrue};
+ghost use Rattle.std.specs.Prelude.{◌≡◌, ◌≤ℤ◌, IfOk};
 ghost use Rattle.instance_model.specs.Plans.{AreAllowedStarts};
 ghost use Rattle.lagrange_bound.specs.Prices.{IsPriceList};
 ghost use Rattle.price_ladder.specs.Raised.{root_worth, least_total};
-ghost use Rattle.worked_ladders.specs.Bounding.{BoundsScores};
+ghost use Rattle.worked_ladders.specs.Bounding.{BoundsScores, IsRaisedWorth};
 
 use branch_tree::BoxPath;
 use instance_model::Instance;
 use lagrange_bound::{Prices, RiskGoal, tabulate, worth, worth_bounds_plans};
 use price_ladder::raise_plainly;
 use std::alloc::{AllocError, Global};
-
-/// Whether these are one allowed start for each intervention.
-pub fn are_allowed(inst: &Instance, starts: &[u32]) -> bool
-    ensures { IsTrue result → AreAllowedStarts inst.now starts.now }
-{
-    if starts.len() != inst.interventions() as usize {
-        return false;
-    }
-    for i in 0..inst.interventions() {
-        if !inst.allowed(i, starts[i as usize]) {
-            return false;
-        }
-    }
-    true
-}
 
 /// The worth of the box of all starts, of which these are allowed ones.
 pub fn root_worth(
@@ -43,9 +28,11 @@ pub fn root_worth(
     Ok(worth(&table, root.spans()))
 }
 
-/// A bound on the scores of all plans, by the list that is raised for a plan of these starts.
+/// A bound on the scores of all plans: the worth of the box of all starts by the list that is raised for a plan of
+/// these starts. `are_allowed` of `small_instances` tests starts.
 pub fn raised_bound(alloc: Global, inst: &Instance, starts: &[u32]) -> Result<i128, AllocError>
     requires { AreAllowedStarts inst.now starts.now }
+    ensures raised { IfOk result (IsRaisedWorth inst.now starts.now) }
     ensures proved { IfOk result (BoundsScores inst.now) }
     ensures not_below_zeros { IfOk result (λ bound. least_total inst.now ≤ℤ bound) }
 {

@@ -7,4 +7,4 @@ mod bound;
 #[cfg(test)]
 mod rows;
 
-pub use bound::{are_allowed, raised_bound, root_worth};
+pub use bound::{raised_bound, root_worth};

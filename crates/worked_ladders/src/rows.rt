@@ -3,12 +3,13 @@
 ghost use Rattle.instance_model.specs.Plans.{AreAllowedStarts};
 ghost use Rattle.lagrange_bound.specs.Prices.{IsPriceList};
 
-use crate::{are_allowed, root_worth};
+use crate::root_worth;
 use fixed_num::Fixed;
 use instance_model::{Instance, Limits};
 use instance_read::read_instance;
 use lagrange_bound::Prices;
 use price_ladder::{raise_plainly, raise_prices};
+use small_instances::are_allowed;
 use std::alloc::{AllocError, Global};
 use std::test::Fail;
 

@@ -1,5 +1,5 @@
-//! Kept plans, what is kept of their risks, loads and exclusions, and descents from them, on small instances: the tests
-//! of `local_search`, `plan_moves` and the crates that these stand on.
+//! Kept plans, what is kept of their risks, loads and exclusions, and descents from them with their scripts, on small
+//! instances: the tests of `local_search`, `plan_moves` and the crates that these stand on. And a law of descents.
 #![tactic(auto)]
 
 #[cfg(test)]
@@ -8,13 +8,17 @@ mod clashes;
 mod descents;
 #[cfg(test)]
 mod kept;
+mod laws;
 #[cfg(test)]
 mod loads;
 #[cfg(test)]
 mod risk_rows;
 #[cfg(test)]
 mod samples;
+#[cfg(test)]
+mod scripted_descents;
 
+pub use laws::descents_replay_to_falling_keys;
 pub use local_search::Descent;
 pub use plan_moves::Kept;
 pub use resource_bands::Loads;

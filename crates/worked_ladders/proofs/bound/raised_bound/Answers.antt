@@ -1,9 +1,19 @@
 use Rattle.std.proofs.Common.{◌≡◌, ◌≤ℤ◌, ℤ, sym, subst}
 use Rattle.std.proofs.lemmas.Result.{IfOk-weaker}
 use Rattle.price_ladder.specs.Raised.{root_worth, least_total}
-use Rattle.worked_ladders.specs.Bounding.{BoundsScores}
+use Rattle.worked_ladders.specs.Bounding.{BoundsScores, IsRaisedWorth}
 use Rattle.worked_ladders.proofs.BoundLemmas.{BoundsScores-from}
 use Rattle.worked_ladders.proofs.bound.raised_bound.Goals as goal
+
+pub returns-clause-raised : goal.returns-clause-raised
+returns-clause-raised c =
+    IfOk-weaker c.root_worth.result (λ z. z ≡ root_worth c.args.inst.now c.in_ok-prices.prices)
+    (IsRaisedWorth c.args.inst.now c.args.starts.now) (λ z e. record {
+      prices = c.in_ok-prices.prices;
+      in_range = c.in_ok-prices.ensures.in_range;
+      raised = c.in_ok-prices.ensures.raised;
+      worth = e;
+    }) c.root_worth.ensures
 
 pub returns-clause-proved : goal.returns-clause-proved
 returns-clause-proved c =

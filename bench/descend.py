@@ -1,0 +1,243 @@
+#!/usr/bin/env python3
+"""Times descents from the opening plans of drawn instances, and how many neighbours are judged a second.
+
+    bench/descend.py TOOLS [--cases "10-a1 20-a1"] [--turns "1000 10000"] [--places 20000] [--seconds 600]
+
+TOOLS is a folder with `draw_case.py`, which draws an instance with a plan that keeps all its rules, and `cases.txt`,
+whose lines are the name of a case and the words that draw it. A program over the crates is proved and built first.
+
+The opening plan has each intervention at its least allowed start. A row has the violation and the score of the plan at
+the descent's end, the number of its changes, whether that is all turns, and the processor seconds that it took. Then
+moves and exchanges of that plan are judged at so many places, each of which names one that may be allowed.
+"""
+import argparse
+import os
+from tempfile import TemporaryDirectory
+
+import scratch
+
+USES = ["local_search", "plan_moves", "quantile_index", "small_instances", "instance_read", "instance_model",
+        "fixed_num", "anyhow"]
+
+# Parts of a source that `ladder.py` takes too.
+READING = '''
+/// Says how many microseconds of the processor have passed.
+fn tell<R: CpuClock + Print>(rt: &R, what: &str) -> Result<()> {
+    let micros = rt.process_cpu_time()?.as_micros();
+    println!(rt; "{what} {micros}")?;
+    Ok(())
+}
+
+/// The least allowed start of an intervention, or 0.
+fn least_start(inst: &Instance, i: u32) -> u32
+    requires { i < length inst.now.names }
+{
+    inst.fits();
+    for s in 1..inst.tmax(i) + 1 {
+        if inst.allowed(i, s) {
+            return s;
+        }
+    }
+    0
+}
+
+/// The least allowed starts.
+fn opening(alloc: Global, inst: &Instance) -> Result<Vec<u32>, AllocError> {
+    let mut starts = Vec::new(alloc);
+    for i in 0..inst.interventions() {
+        starts.push(least_start(inst, i))?;
+    }
+    Ok(starts)
+}
+'''
+
+SOURCE = '''//! Descends from the opening plan of an instance, and judges neighbours of where it ends.
+#![tactic(auto)]
+
+ghost use Rattle.std.specs.Prelude.{◌≡◌, ◌<◌, length};
+ghost use Rattle.instance_model.specs.Plans.{AreAllowedStarts};
+
+use anyhow::{Result, bail};
+use fixed_num::{Fixed, Steps};
+use instance_model::{Instance, Limits};
+use instance_read::read_instance;
+use local_search::descend;
+use plan_moves::{Change, Kept};
+use quantile_index::{Row, TreeRow};
+use small_instances::are_allowed;
+use std::alloc::{AllocError, Global};
+use std::marker::Brand;
+use std::sync::ledger::{Blank, Ledger};
+use std::time::CpuClock;
+use std::{env, fs};
+
+/// A prime, whose multiples come to all places.
+const STRIDE: u64 = 1_000_003;
+''' + READING + '''
+/// Judges a move, where it may be made.
+fn judge_move<R: Row, L: Ledger>(kept: &mut Kept<'_, R>, i: u32, s: u32, steps: &mut Steps<L>) -> Option<bool> {
+    let inst = kept.instance();
+    if i >= inst.interventions() || !inst.allowed(i, s) || kept.start_of(i) == s {
+        return None;
+    }
+    Some(kept.lowers(Change::Move { i, s }, steps))
+}
+
+/// Judges an exchange, where it may be made.
+fn judge_swap<R: Row, L: Ledger>(kept: &mut Kept<'_, R>, i: u32, j: u32, steps: &mut Steps<L>) -> Option<bool> {
+    let inst = kept.instance();
+    if i >= inst.interventions() || j >= inst.interventions() {
+        return None;
+    }
+    let first = kept.start_of(i);
+    let second = kept.start_of(j);
+    if first == second || !inst.allowed(i, second) || !inst.allowed(j, first) {
+        return None;
+    }
+    Some(kept.lowers(Change::Swap { i, j }, steps))
+}
+
+/// How many changes were judged, and how many of them lower the key.
+#[derive(Clone, Copy)]
+struct Judged {
+    all: u32,
+    lower: u32,
+}
+
+fn count(judged: Judged, answer: Option<bool>) -> Judged {
+    match answer {
+        None => judged,
+        Some(lowers) => Judged {
+            all: judged.all.saturating_add(1),
+            lower: judged.lower.saturating_add(u32::from(lowers)),
+        },
+    }
+}
+
+fn judge_moves<R: Row, L: Ledger>(kept: &mut Kept<'_, R>, places: u32, steps: &mut Steps<L>) -> Judged {
+    let mut judged = Judged { all: 0, lower: 0 };
+    for k in 0..places {
+        let inst = kept.instance();
+        let (count_of, periods) = (u64::from(inst.interventions()), u64::from(inst.periods()));
+        if count_of > 0 && periods > 0 {
+            let place = u64::from(k) * STRIDE;
+            let i = (place / periods % count_of) as u32;
+            let s = (place % periods) as u32 + 1;
+            judged = count(judged, judge_move(kept, i, s, steps));
+        }
+    }
+    judged
+}
+
+fn judge_swaps<R: Row, L: Ledger>(kept: &mut Kept<'_, R>, places: u32, steps: &mut Steps<L>) -> Judged {
+    let mut judged = Judged { all: 0, lower: 0 };
+    for k in 0..places {
+        let count_of = u64::from(kept.instance().interventions());
+        if count_of > 0 {
+            let place = u64::from(k) * STRIDE;
+            let i = (place % count_of) as u32;
+            let j = (place / count_of % count_of) as u32;
+            judged = count(judged, judge_swap(kept, i, j, steps));
+        }
+    }
+    judged
+}
+
+fn judge<R: CpuClock + Print, L: Ledger>(rt: &R, kept: &mut Kept<'_, TreeRow>, places: u32, blank: Blank) -> Result<()>
+    requires name { blank.name ≡ L.name }
+    requires parts { blank.parts ≡ L.parts }
+    requires one { blank.parts ≡ 1 }
+{
+    let mut steps = Steps::<L>::zero(blank);
+    tell(rt, "judging")?;
+    let moves = judge_moves(kept, places, &mut steps);
+    tell(rt, "judged_moves")?;
+    let swaps = judge_swaps(kept, places, &mut steps);
+    tell(rt, "judged_swaps")?;
+    println!(rt; "moves {} {}", moves.all, moves.lower)?;
+    println!(rt; "swaps {} {}", swaps.all, swaps.lower)?;
+    Ok(())
+}
+
+fn measure<R: CpuClock + Print>(
+    rt: &R,
+    alloc: Global,
+    inst: &Instance,
+    starts: &[u32],
+    turns: u32,
+    places: u32,
+) -> Result<()>
+    requires { AreAllowedStarts inst.now starts.now }
+{
+    tell(rt, "read")?;
+    let mut kept = Kept::<TreeRow>::make(alloc, inst, starts)?;
+    let before = kept.key();
+    tell(rt, "made")?;
+    let descent = descend(alloc, &mut kept, turns)?;
+    tell(rt, "descended")?;
+    let after = kept.key();
+    println!(rt; "opening {} {}", before.violation, before.score)?;
+    println!(rt; "end {} {}", after.violation, after.score)?;
+    println!(rt; "changes {} {}", descent.moves.as_slice().len(), descent.spent)?;
+    judge::<R, Brand>(rt, &mut kept, places, Blank::new(1))
+}
+
+fn main(rt: HostRuntime) -> Result<()> {
+    let alloc = rt.alloc();
+    let mut words = Vec::new(alloc);
+    for word in env::args(&rt)? {
+        words.push(word)?;
+    }
+    let [_, file, turns, places] = words.as_slice() else {
+        bail!("INSTANCE TURNS PLACES");
+    };
+    let bytes = fs::read(&rt, file.as_str())?;
+    let inst = read_instance(alloc, &Limits::standard(), Fixed::zero(), bytes.as_slice())?;
+    let starts = opening(alloc, &inst)?;
+    if !are_allowed(&inst, starts.as_slice()) {
+        bail!("an intervention has no allowed start");
+    }
+    measure(&rt, alloc, &inst, starts.as_slice(), turns.parse::<u32>()?, places.parse::<u32>()?)
+}
+'''
+
+
+def seconds_between(said, first, last):
+    return (int(said[last][0]) - int(said[first][0])) / 1e6
+
+
+def rate(said, judged, first, last):
+    seconds = seconds_between(said, first, last)
+    return f"{int(said[judged][0]) / seconds:.0f}" if seconds > 0 else "-"
+
+
+def main():
+    parser = argparse.ArgumentParser(description=__doc__.split("\n")[0])
+    parser.add_argument("tools")
+    parser.add_argument("--cases", default="")
+    parser.add_argument("--turns", default="1000 10000")
+    parser.add_argument("--places", type=int, default=20_000)
+    parser.add_argument("--seconds", type=float, default=600)
+    words = parser.parse_args()
+    cases = scratch.cases(words.tools, words.cases.split())
+    with scratch.program("bench_descent", USES, SOURCE) as program, TemporaryDirectory() as folder:
+        print("| case | turns | violation | score | changes | spent | seconds | moves judged a second | exchanges |")
+        print("|---|--:|--:|--:|--:|---|--:|--:|--:|")
+        path = os.path.join(folder, "instance")
+        for name, drawn in cases.items():
+            scratch.draw(words.tools, drawn, path)
+            for turns in words.turns.split():
+                said = scratch.answers([program, path, turns, str(words.places)], words.seconds)
+                if said is None:
+                    print(f"| {name} | {turns} | | | | | above {words.seconds:.0f} | | |", flush=True)
+                    continue
+                (violation, score), (changes, spent) = said["end"], said["changes"]
+                took = seconds_between(said, "made", "descended")
+                moves = rate(said, "moves", "judging", "judged_moves")
+                swaps = rate(said, "swaps", "judged_moves", "judged_swaps")
+                print(f"| {name} | {turns} | {int(violation) / 10 ** 12:g} | {int(score) / 10 ** 18:.3f} | {changes} | "
+                      f"{spent} | {took:.2f} | {moves} | {swaps} |", flush=True)
+
+
+if __name__ == "__main__":
+    main()

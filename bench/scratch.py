@@ -1,0 +1,98 @@
+"""Programs over crates of the repository, for measurements alone: proved and built in a copy, which is then removed.
+
+The copy has the libraries that were built of these crates, where they stand; what isn't built is proved there first.
+`rt lib` in the folder of the uppermost crate builds it and all below for good.
+"""
+import os
+import re
+import shutil
+import subprocess
+import sys
+from contextlib import contextmanager
+from tempfile import TemporaryDirectory
+
+TOP = os.path.dirname(os.path.dirname(os.path.abspath(__file__)))
+# What a copy has of a crate.
+PARTS = ("src", "specs", "proofs", "out/rlib")
+
+
+def rows():
+    """The lines of crates.txt, by the crate that each names."""
+    with open(os.path.join(TOP, "crates.txt"), encoding="utf-8") as file:
+        lines = [line.partition("#")[0].strip() for line in file]
+    return {line.split(":")[0].split()[0]: line for line in lines if line}
+
+
+def below(names, listed):
+    """The crates of these names that the repository has, and all that they stand on."""
+    found, waiting = set(), list(names)
+    while waiting:
+        name = waiting.pop()
+        if name in listed and name not in found:
+            found.add(name)
+            waiting += re.split(r"[\s,]+", listed[name].partition(":")[2].strip())
+    return found
+
+
+def link_or_copy(one, other):
+    """Links a file of a library, which `rt` removes before it builds it anew, and never changes."""
+    try:
+        os.link(one, other)
+    except OSError:
+        shutil.copy2(one, other)
+
+
+@contextmanager
+def program(name, uses, source):
+    """The path of a program of this source, which uses these crates; it is gone behind the block."""
+    listed = rows()
+    with TemporaryDirectory(prefix="bench-") as folder:
+        names = below(uses, listed)
+        for crate in names:
+            for part in PARTS:
+                have = os.path.join(TOP, "crates", crate, part)
+                copy = link_or_copy if part == "out/rlib" else shutil.copy2
+                if os.path.isdir(have):
+                    shutil.copytree(have, os.path.join(folder, "crates", crate, part), copy_function=copy)
+        own = os.path.join(folder, "crates", name)
+        os.makedirs(os.path.join(own, "src"))
+        with open(os.path.join(own, "src", "main.rt"), "w", encoding="utf-8") as out:
+            out.write(source)
+        with open(os.path.join(folder, "crates.txt"), "w", encoding="utf-8") as out:
+            out.writelines(listed[crate] + "\n" for crate in sorted(names))
+            out.write(f"{name}: {' '.join(uses)}\n")
+        print(f"{name} is proved and built", file=sys.stderr)
+        # (without words it says which it wants, and fails)
+        ran = subprocess.run(["rt", "run"], cwd=own, stdin=subprocess.DEVNULL, stdout=subprocess.PIPE,
+                             stderr=subprocess.STDOUT, text=True, errors="replace", check=False)
+        built = os.path.join(own, "out", name)
+        if not os.access(built, os.X_OK):
+            sys.exit(ran.stdout + f"{name} is not proved")
+        yield built
+
+
+def cases(tools, only):
+    """The named cases of a folder's `cases.txt`, with the words that draw each, in order."""
+    with open(os.path.join(tools, "cases.txt"), encoding="utf-8") as file:
+        lines = [line.split() for line in file if line.strip() and not line.startswith("#")]
+    listed = {words[0]: words[1:] for words in lines}
+    missing = [name for name in only if name not in listed]
+    if missing:
+        sys.exit(f"no cases {' '.join(missing)}: those that there are: {' '.join(listed)}")
+    return {name: listed[name] for name in only or listed}
+
+
+def draw(tools, words, path):
+    """Draws an instance to a path."""
+    drawer = os.path.join(tools, "draw_case.py")
+    subprocess.run([sys.executable, drawer, *words, path], stderr=subprocess.DEVNULL, check=True)
+
+
+def answers(words, seconds):
+    """The lines that a program prints, as lists of words by their first; none where it takes longer than that."""
+    try:
+        ran = subprocess.run(words, stdin=subprocess.DEVNULL, stdout=subprocess.PIPE, timeout=seconds, check=True)
+    except subprocess.TimeoutExpired:
+        return None
+    lines = [line.split() for line in ran.stdout.decode().splitlines()]
+    return {line[0]: line[1:] for line in lines}

@@ -1,0 +1,2 @@
+-- What the contract of a law says.
+pub mod Falling
