@@ -8,7 +8,6 @@
 mod board;
 mod change;
 mod kept;
-mod key_order;
 mod moves;
 mod script_line;
 mod violations;

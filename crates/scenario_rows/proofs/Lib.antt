@@ -4,3 +4,6 @@ pub mod RowLemmas
 pub mod BoardLemmas
 pub mod ScoreLemmas
 pub mod OverLemmas
+pub mod QuantileLemmas
+pub mod ShiftLemmas
+pub mod JudgeLemmas

@@ -64,4 +64,11 @@ invariant_of-result g c =
       room = room_for c.args.inst.now (map Some c.args.starts.now) c.loop-u.periods.items c.loop-u.u
           (length c.in_ok-scratch.scratch.items) c.loop-u.invariant.made
           (omega (arith, c.periods-u-end.ensures.value)) most;
+      values_room = omega (
+        arith,
+        c.in_ok-values.ensures.len,
+        c.in_ok-values.values.ok.0,
+        c.in_ok-scratch.ensures.len,
+        c.in_ok-scratch.scratch.ok.0,
+      );
     }

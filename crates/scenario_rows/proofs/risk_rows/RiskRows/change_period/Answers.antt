@@ -54,4 +54,5 @@ invariant_of-self g c =
           (λ (n : ℕ). All (λ p. length p.sums ≤ n) (set c.self.inside.periods.items (c.args.t - 1) c.change.new.self))
           (sym size) (All-set (λ p. length p.sums ≤ length scratch) c.self.inside.periods.items (c.args.t - 1)
           c.change.new.self (omega (arith, each, fits)) c.self.invariant.room);
+      values_room = c.self.invariant.values_room ∙ sym size;
     }
