@@ -1,6 +1,9 @@
 -- What the changes of runs add to the score, period by period.
 use Rattle.std.proofs.Common.{◌≡◌, ℕ, zero, suc, ◌+◌, ◌-◌, ◌*◌, ◌<◌, ◌≤◌, ◌^◌, refl, sym, ◌∙◌, ap, subst, arith, ℤ, pos}
-use Rattle.std.proofs.Common.{◌+ℤ◌, ◌-ℤ◌, ◌≤ℤ◌, List, Option, length, map, All, unsigned_abs}
+use Rattle.std.proofs.Common.{◌+ℤ◌, ◌-ℤ◌, ◌≤ℤ◌, List, Option, Some, None, length, map, All, unsigned_abs}
+use Rattle.std.proofs.Common.{FitsSigned, to_z, of_z, to_z-of_z}
+use Rattle.std.specs.Int.{w128}
+use Rattle.std.specs.Prelude.{IfSome, IfNone}
 use Rattle.fixed_num.specs.Floors.{floor_of}
 use Rattle.fixed_num.specs.Sums.{sum_below, total}
 use Rattle.fixed_num.proofs.SignedLemmas.{signed_arith}
@@ -71,6 +74,17 @@ rise_from-more inst runs periods t one =
   where
     step : (a b c d : ℤ) → c ≡ b +ℤ d → a -ℤ b ≡ d +ℤ (a -ℤ c)
     step a b c d e = omega (arith, signed_arith, e)
+
+-- from any period on: the period that is judged next, and those behind it
+pub rise_here : (inst : Tables) (runs : List RunChange) (periods : List PeriodState) (from t : ℕ) (p : PeriodState)
+    (old : ℤ) → 1 ≤ from → from ≤ t → ((u : ℕ) → from ≤ u → u < t → All (IsIdle inst u) runs)
+    → p ≡ period_at periods t → old ≡ part_of p → rise_from inst runs periods from
+    ≡ (part_of (shifted_period inst t runs p) -ℤ old) +ℤ rise_from inst runs periods (t + 1)
+rise_here inst runs periods from t p old one l idle at is =
+    rise_from-next inst runs periods from t one l idle ∙ rise_from-more inst runs periods t (omega (arith, one, l))
+    ∙ ap (λ (q : PeriodState). (part_of (shifted_period inst t runs q) -ℤ part_of q)
+    +ℤ rise_from inst runs periods (t + 1)) (sym at)
+    ∙ ap (λ (x : ℤ). (part_of (shifted_period inst t runs p) -ℤ x) +ℤ rise_from inst runs periods (t + 1)) (sym is)
 
 -- behind the last period nothing is left
 pub rise_from-end : (inst : Tables) (runs : List RunChange) (periods : List PeriodState) (t : ℕ)
@@ -153,3 +167,24 @@ score_risen inst v runs score scored over can =
 
     all : (s f g r z : ℤ) → s ≡ f → f +ℤ r ≡ g → z ≡ pos 0 → s +ℤ (r -ℤ z) ≡ g
     all s f g r z a b c = omega (arith, signed_arith, a, b, c)
+
+-- ---- what an answer says of the limit
+
+pub if_some : {X : Type 0} (o : Option X) (P Q : X → Type 0) → IfSome o P → ((x : X) → P x → Q x) → IfSome o Q
+if_some None P Q h f = tt
+if_some (Some x) P Q h f = f x h
+
+pub if_none : {X : Type 0} (o : Option X) (P Q : Type 0) → IfNone o P → (P → Q) → IfNone o Q
+if_none None P Q h f = f h
+if_none (Some x) P Q h f = tt
+
+pub none_of : {X : Type 0} (o : Option X) (P : Type 0) → P → IfNone o P
+none_of None P p = p
+none_of (Some x) P p = tt
+
+pub nothing_risen : (s r : ℤ) → r ≡ pos 0 → s ≡ s +ℤ r
+nothing_risen s r e = omega (arith, signed_arith, e)
+
+-- a limit, as the code hands it on
+pub limit_back : (z : ℤ) → FitsSigned w128 z → to_z w128 (of_z w128 z) ≡ z
+limit_back z h = to_z-of_z h

@@ -40,19 +40,19 @@ pub record CanShift (inst : Tables) (t : ℕ) (runs : List RunChange) (sums : Li
   pub stay : StayRowSums inst t runs sums
 
 -- the total of some sums, and at most their quantile
-pub record AreBoundsOf (rank : ℕ) (sums : List ℤ) (sum quantile : ℤ) : Type 0 where
-  pub total : sum ≡ total sums
-  pub quantile : quantile ≤ℤ mth_smallest rank sums
-  pub small : IsSmallSum quantile
+pub record AreBoundsOf (rank : ℕ) (sums : List ℤ) (s q : ℤ) : Type 0 where
+  pub total : s ≡ total sums
+  pub quantile : q ≤ℤ mth_smallest rank sums
+  pub small : IsSmallSum q
 
 -- the same of sums that the runs that are left change to these
-pub record AreBoundsOnTheWay (inst : Tables) (t rank : ℕ) (left : List RunChange) (end : List ℤ) (sum quantile : ℤ)
+pub record AreBoundsOnTheWay (inst : Tables) (t rank : ℕ) (left : List RunChange) (end : List ℤ) (s q : ℤ)
     : Type 0 where
   pub sums : List ℤ
   pub can : CanShift inst t left sums
   pub rank_to : rank ≤ length sums
   pub ends : shifted_by inst t left sums ≡ end
-  pub bounds : AreBoundsOf rank sums sum quantile
+  pub bounds : AreBoundsOf rank sums s q
 
 -- a period after the changes
 abbrev pub shifted_period : Tables → ℕ → List RunChange → PeriodState → PeriodState

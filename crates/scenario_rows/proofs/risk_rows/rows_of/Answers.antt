@@ -58,7 +58,7 @@ invariant_of-result g c =
     let most : (t : ℕ) → 1 ≤ t → t ≤ c.args.inst.now.periods
     → scenarios_of c.args.inst.now t ≤ length c.in_ok-scratch.scratch.items =
     λ t from to. omega
-    (arith, c.most_scenarios.ensures t from to, c.in_ok-scratch.ensures.len, c.in_ok-scratch.scratch.ok.0) in
+    (arith, c.most_scenarios-most.ensures t from to, c.in_ok-scratch.ensures.len, c.in_ok-scratch.scratch.ok.0) in
     record {
       scored = c.loop-u.invariant.scored;
       room = room_for c.args.inst.now (map Some c.args.starts.now) c.loop-u.periods.items c.loop-u.u

@@ -1,8 +1,9 @@
 use Rattle.std.proofs.Common.{◌≡◌, ◌+◌, ◌<◌, ◌≤◌, sym, subst, arith, ℕ, get_or, inl, inr}
 use Rattle.std.proofs.lemmas.Bool.{cases_lt}
+use Rattle.std.proofs.lemmas.List.{get_or_default}
+use Rattle.scenario_rows.specs.declared.change.Change.TheVariants.{Add}
 use Rattle.scenario_rows.specs.declared.change.RunChange.{RunChange}
 use Rattle.scenario_rows.specs.Shifts.{IsIdle}
-use Rattle.scenario_rows.proofs.ListLemmas.{read_at}
 use Rattle.scenario_rows.proofs.touched.next_touched.Goals as goal
 
 pub loop-one-preserved : goal.loop-one-preserved
@@ -16,7 +17,8 @@ loop-one-preserved c =
         | inl m ↦ c.loop-one.invariant.idle u a (omega arith) k d m
         | inr m ↦ let same : k ≡ at = omega (arith, l, m) in
             subst (λ (j : ℕ). IsIdle c.args.inst.now u (get_or runs j d)) (sym same)
-            (subst (IsIdle c.args.inst.now u) (read_at runs at c.one-item.result d (omega arith) c.one-item.is)
+            (subst (IsIdle c.args.inst.now u)
+            (get_or_default runs at (record { change = Add; i = 0; s = 0 }) d (omega arith))
             (c.first_of_run.ensures.idle u a (omega arith)))
       ];
     }

@@ -18,7 +18,7 @@ part-requires-clause-total g c =
     rw (
       back_from_abs c.number.result (omega (arith, c.number.ensures.small)),
       c.number.ensures.value,
-      c.bounds_after.ensures.bounds.total,
+      c.bounds_after-total.ensures.bounds.total,
     ) (total_small _ row.few row.small)
 
 pub returns-clause-least : goal.returns-clause-least
@@ -26,30 +26,30 @@ returns-clause-least g c =
     let xs = shifted_by c.args.inst.now c.args.t c.args.runs.now c.args.self.now in
     let row = shifted_by-row c.args.inst.now c.args.t c.args.runs.now c.args.self.now c.requires.can.row
     c.requires.can.stay in
-    let b = c.bounds_after.ensures.bounds in
+    let b = c.bounds_after-total.ensures.bounds in
     let each : c.len.result ≡ length xs = c.len.ensures.value ∙ ap length c.self.view_is
     ∙ sym (length-shifted_by c.args.inst.now c.args.t c.args.runs.now c.args.self.now) in
-    let p = part_handed c.args.alpha c.len.result c.bounds_after.result.1 c.number.result c.part.result
+    let p = part_handed c.args.alpha c.len.result c.bounds_after-total.result.1 c.number.result c.part.result
     (omega (arith, b.small.small)) (omega (arith, c.number.ensures.small)) c.part.ensures in
     let q = p
     ∙ ap (λ (s : ℤ). floor_of ((pos c.args.alpha *ℤ s) +ℤ (pos (1_000_000 - c.args.alpha) *ℤ int_max (pos 0)
-    (pos c.len.result *ℤ c.bounds_after.result.1 -ℤ s))) c.len.result) c.number.ensures.value
-    ∙ ap (λ (n : ℕ). floor_of ((pos c.args.alpha *ℤ c.bounds_after.result.0) +ℤ (pos (1_000_000 - c.args.alpha)
-    *ℤ int_max (pos 0) (pos n *ℤ c.bounds_after.result.1 -ℤ c.bounds_after.result.0))) n) each in
+    (pos c.len.result *ℤ c.bounds_after-total.result.1 -ℤ s))) c.len.result) c.number.ensures.value
+    ∙ ap (λ (n : ℕ). floor_of ((pos c.args.alpha *ℤ c.bounds_after-total.result.0) +ℤ (pos (1_000_000 - c.args.alpha)
+    *ℤ int_max (pos 0) (pos n *ℤ c.bounds_after-total.result.1 -ℤ c.bounds_after-total.result.0))) n) each in
     subst (λ (x : ℤ). x ≤ℤ part_in c.args.alpha c.args.rank xs) (sym q)
-    (part_in-least c.args.alpha c.args.rank xs c.bounds_after.result.0 c.bounds_after.result.1 row.some b)
+    (part_in-least c.args.alpha c.args.rank xs c.bounds_after-total.result.0 c.bounds_after-total.result.1 row.some b)
 
 pub returns-clause-small : goal.returns-clause-small
 returns-clause-small g c =
     let row = shifted_by-row c.args.inst.now c.args.t c.args.runs.now c.args.self.now c.requires.can.row
     c.requires.can.stay in
-    let b = c.bounds_after.ensures.bounds in
+    let b = c.bounds_after-total.ensures.bounds in
     let each : c.len.result ≡ length (shifted_by c.args.inst.now c.args.t c.args.runs.now c.args.self.now) =
     c.len.ensures.value ∙ ap length c.self.view_is
     ∙ sym (length-shifted_by c.args.inst.now c.args.t c.args.runs.now c.args.self.now) in
-    let p = part_handed c.args.alpha c.len.result c.bounds_after.result.1 c.number.result c.part.result
+    let p = part_handed c.args.alpha c.len.result c.bounds_after-total.result.1 c.number.result c.part.result
     (omega (arith, b.small.small)) (omega (arith, c.number.ensures.small)) c.part.ensures in
     let total : unsigned_abs c.number.result ≤ 1024 * 1024 * 10 ^ 20 =
     rw (c.number.ensures.value, b.total) (total_small _ row.few row.small) in
-    rw p (part_small c.args.alpha c.len.result c.bounds_after.result.1 c.number.result c.requires.alpha
+    rw p (part_small c.args.alpha c.len.result c.bounds_after-total.result.1 c.number.result c.requires.alpha
     (omega (arith, each, row.some)) (omega (arith, each, row.few)) b.small.small total)
