@@ -13,6 +13,7 @@ ghost use Rattle.plan_moves.specs.KeptPlans.{move_bound};
 ghost use Rattle.plan_moves.specs.Trails.{undone, step_back, NamesBelow};
 
 use crate::change::Change;
+use crate::key_limit::score_limit;
 use crate::violations::Violations;
 use fixed_num::Steps;
 use instance_model::{Instance, Key};
@@ -290,7 +291,8 @@ impl<'a, R: Row> Board<'a, R> {
         }
     }
 
-    /// The key after a change, where it is below `limit`. No row is touched where the violation decides.
+    /// The key after a change, where it is below `limit`. No row is changed, and none is read where the violation is
+    /// above that of the limit.
     pub(crate) fn key_below<L: Ledger>(
         &mut self,
         change: Change,
@@ -306,20 +308,16 @@ impl<'a, R: Row> Board<'a, R> {
         ensures same { self.new ≡ self.old }
         ensures forward { steps.old ≤ steps.new }
     {
+        self.instance().fits();
         let violation = self.violations.after(change);
         if limit.violation < violation {
             return None;
         }
-        let most = if violation < limit.violation {
-            i128::MAX
-        } else {
-            limit.score
-        };
-        let score = self.score_below(change, most, steps)?;
+        let score = self.score_below(change, score_limit(violation, limit), steps)?;
         Some(Key { violation, score })
     }
 
-    /// Whether a change lowers the key. No row is touched where the violation decides.
+    /// Whether a change lowers the key. No row is changed, and none is read where the violation decides.
     pub(crate) fn lowers<L: Ledger>(&mut self, change: Change, steps: &mut Steps<L>) -> bool
         requires { CanChange self.old.instance self.old.starts change }
         ensures value { IsTrue result

@@ -8,6 +8,7 @@
 mod board;
 mod change;
 mod kept;
+mod key_limit;
 mod moves;
 mod script_line;
 mod violations;

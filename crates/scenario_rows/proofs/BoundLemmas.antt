@@ -1,5 +1,5 @@
 -- Bounds on the sums of a period, from the risks of one run after another.
-use Rattle.std.proofs.Common.{◌≡◌, ℕ, ◌+◌, ◌*◌, ◌<◌, ◌≤◌, ◌^◌, sym, ◌∙◌, ap, subst, arith, ℤ, pos, neg_ℤ, ◌+ℤ◌, ◌-ℤ◌}
+use Rattle.std.proofs.Common.{◌≡◌, ℕ, ◌+◌, ◌*◌, ◌<◌, ◌≤◌, ◌^◌, sym, ◌∙◌, ap, subst, arith, ℤ, pos, neg_ℤ, ◌+ℤ◌}
 use Rattle.std.proofs.Common.{◌≤ℤ◌, List, ◌∷◌, length, get_or, drop, true, unsigned_abs}
 use Rattle.std.specs.Int.{int_max}
 use Rattle.std.proofs.lemmas.List.{drop_more}
@@ -10,7 +10,7 @@ use Rattle.scenario_rows.specs.declared.change.Change.{Change}
 use Rattle.scenario_rows.specs.declared.change.Change.TheVariants.{Add, Take}
 use Rattle.scenario_rows.specs.declared.change.RunChange.{RunChange}
 use Rattle.scenario_rows.specs.Changes.{changed, changed_by}
-use Rattle.scenario_rows.specs.Shifts.{IsIdle, shifted, shifted_by, CanShift, AreBoundsOf, AreBoundsOnTheWay}
+use Rattle.scenario_rows.specs.Shifts.{IsIdle, shifted, shifted_by, CanShift, AreBoundsOnTheWay}
 use Rattle.scenario_rows.proofs.ListLemmas.{total_small}
 use Rattle.scenario_rows.proofs.QuantileLemmas.{AreBoundsOf-raised}
 use Rattle.scenario_rows.proofs.RowLemmas.{total_changed, get_or-changed_by}

@@ -1,22 +1,21 @@
 -- What the changes of runs add to the score, period by period.
-use Rattle.std.proofs.Common.{◌≡◌, ℕ, zero, suc, ◌+◌, ◌-◌, ◌*◌, ◌<◌, ◌≤◌, ◌^◌, refl, sym, ◌∙◌, ap, subst, arith, ℤ, pos}
-use Rattle.std.proofs.Common.{◌+ℤ◌, ◌-ℤ◌, ◌≤ℤ◌, List, Option, Some, None, length, map, All, unsigned_abs}
+use Rattle.std.proofs.Common.{◌≡◌, ℕ, zero, suc, ◌+◌, ◌-◌, ◌*◌, ◌<◌, ◌≤◌, ◌^◌, sym, ◌∙◌, ap, subst, arith, ℤ, pos}
+use Rattle.std.proofs.Common.{◌+ℤ◌, ◌-ℤ◌, ◌≤ℤ◌, List, Option, Some, None, length, All, unsigned_abs}
 use Rattle.std.proofs.Common.{FitsSigned, to_z, of_z, to_z-of_z}
 use Rattle.std.specs.Int.{w128}
 use Rattle.std.specs.Prelude.{IfSome, IfNone}
 use Rattle.fixed_num.specs.Floors.{floor_of}
-use Rattle.fixed_num.specs.Sums.{sum_below, total}
+use Rattle.fixed_num.specs.Sums.{sum_below}
 use Rattle.fixed_num.proofs.SignedLemmas.{signed_arith}
-use Rattle.fixed_num.proofs.SumLemmas.{sum_below-zero, sum_below_more, sum_below_same, sum_below-add, abs-sum}
+use Rattle.fixed_num.proofs.SumLemmas.{sum_below-zero, sum_below_more, sum_below_same, sum_below-add}
 use Rattle.instance_model.specs.Fitting.{IsFitting}
 use Rattle.instance_model.specs.Tables.{Tables, scenarios_of}
-use Rattle.instance_model.specs.Plans.{scenario_sums}
 use Rattle.instance_model.specs.Values.{sum_of_floors, numerator_of, score_of}
 use Rattle.scenario_rows.specs.declared.change.RunChange.{RunChange}
-use Rattle.scenario_rows.specs.RiskStates.{PeriodState, RiskState, period_of, IsOver}
+use Rattle.scenario_rows.specs.RiskStates.{PeriodState, RiskState, IsOver}
 use Rattle.scenario_rows.specs.Parts.{part_of, period_at, IsScored}
 use Rattle.scenario_rows.specs.RunChanges.{board_after, CanChangeRuns}
-use Rattle.scenario_rows.specs.Shifts.{IsIdle, CanJudge, CanShift, shifted_by, shifted_period, rise_at, rise_from}
+use Rattle.scenario_rows.specs.Shifts.{IsIdle, CanJudge, CanShift, shifted_period, rise_at, rise_from}
 use Rattle.scenario_rows.proofs.BoardLemmas.{at_sums}
 use Rattle.scenario_rows.proofs.OverLemmas.{period_at-over}
 use Rattle.scenario_rows.proofs.ScoreLemmas.{part_at, score_is}

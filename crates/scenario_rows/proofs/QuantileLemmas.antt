@@ -1,5 +1,5 @@
 -- How a quantile rises with its sums, and what a period adds with it.
-use Rattle.std.proofs.Common.{◌≡◌, ℕ, zero, suc, ◌+◌, ◌-◌, ◌*◌, ◌<◌, ◌≤◌, ◌^◌, refl, sym, arith, ℤ, pos, neg_ℤ, ◌+ℤ◌, ◌-ℤ◌}
+use Rattle.std.proofs.Common.{◌≡◌, ℕ, zero, suc, ◌-◌, ◌*◌, ◌<◌, ◌≤◌, ◌^◌, refl, sym, arith, ℤ, pos, neg_ℤ, ◌+ℤ◌, ◌-ℤ◌}
 use Rattle.std.proofs.Common.{◌*ℤ◌, ◌<ℤ◌, ◌≤ℤ◌, Bool, true, false, cond, List, [], ◌∷◌, length, get_or, count_by}
 use Rattle.std.proofs.Common.{int_lt, int_le, unsigned_abs}
 use Rattle.std.specs.Int.{int_max}
@@ -8,7 +8,7 @@ use Rattle.std.proofs.lemmas.List.Sums.{sum_by-cons}
 use Rattle.std.proofs.lemmas.List.Elements.{All-contains}
 use borrow.Author.Differences.{at_most_in, le-true, true_is_lt, lt_out}
 use Rattle.fixed_num.specs.Floors.{floor_of}
-use Rattle.fixed_num.specs.Rank.{mth_smallest, IsMthSmallest}
+use Rattle.fixed_num.specs.Rank.{mth_smallest}
 use Rattle.fixed_num.specs.Sums.{total}
 use Rattle.fixed_num.proofs.FloorLemmas.{floor_of_mono}
 use Rattle.fixed_num.proofs.RankLemmas.{IsMthSmallest-mth_smallest}

@@ -1,26 +1,18 @@
 -- Sums of a period that change by runs, one after another.
-use Rattle.std.proofs.Common.{◌≡◌, ℕ, zero, suc, ◌+◌, ◌-◌, ◌<◌, ◌≤◌, refl, sym, ◌∙◌, ap, subst, arith, ℤ, pos, ◌+ℤ◌}
-use Rattle.std.proofs.Common.{◌-ℤ◌, ◌≤ℤ◌, List, [], ◌∷◌, Option, Some, None, length, map, get_or, drop, All, true, false}
-use Rattle.std.proofs.Common.{IsTrue, Bool, cond}
-use Rattle.std.specs.List.{range_with_len}
-use Rattle.std.proofs.Math.ListN.{set}
-use Rattle.std.proofs.lemmas.List.{length-set, drop_more, drop_all}
-use Rattle.fixed_num.specs.Sums.{total, list_of}
-use Rattle.fixed_num.specs.Rank.{mth_smallest}
-use Rattle.fixed_num.proofs.SignedLemmas.{signed_arith}
-use Rattle.fixed_num.proofs.SumLemmas.{get_or-list_of}
+use Rattle.std.proofs.Common.{◌≡◌, ℕ, zero, suc, ◌+◌, ◌<◌, ◌≤◌, refl, sym, ◌∙◌, ap, subst, arith, ℤ}
+use Rattle.std.proofs.Common.{List, [], ◌∷◌, Option, length, get_or, drop, All, true, false}
+use Rattle.std.proofs.Common.{Bool, cond}
+use Rattle.std.proofs.lemmas.List.{length-set, drop_more}
+use Rattle.fixed_num.specs.Sums.{list_of}
 use Rattle.instance_model.specs.Fitting.{IsFitting}
-use Rattle.instance_model.specs.Tables.{Tables, scenarios_of, in_run, risk_of, is_allowed}
-use Rattle.instance_model.specs.Plans.{start_of, scenario_sums}
+use Rattle.instance_model.specs.Tables.{Tables, scenarios_of, in_run, risk_of}
+use Rattle.instance_model.specs.Plans.{scenario_sums}
 use Rattle.instance_model.proofs.PlanLemmas.{length-scenario_sums}
-use Rattle.scenario_rows.specs.declared.change.Change.{Change}
-use Rattle.scenario_rows.specs.declared.change.Change.TheVariants.{Add, Take}
 use Rattle.scenario_rows.specs.declared.change.RunChange.{RunChange}
-use Rattle.scenario_rows.specs.Changes.{changed, changed_by, changed_sums}
+use Rattle.scenario_rows.specs.Changes.{changed_by, changed_sums}
 use Rattle.scenario_rows.specs.Parts.{AreRowSums}
 use Rattle.scenario_rows.specs.RunChanges.{start_after, after_run, board_after, IsKnownRun, CanChangeRun, CanChangeRuns}
-use Rattle.scenario_rows.specs.Shifts.{IsIdle, shifted, shifted_by, StayRowSums, CanShift, AreBoundsOf}
-use Rattle.scenario_rows.specs.Shifts.{AreBoundsOnTheWay}
+use Rattle.scenario_rows.specs.Shifts.{IsIdle, shifted, shifted_by, StayRowSums, CanShift}
 use Rattle.scenario_rows.proofs.RowLemmas.{length-changed_sums, changed_by-risks}
 use Rattle.scenario_rows.proofs.BoardLemmas.{AreRowSums-scenario_sums, scenario_sums-changed, scenario_sums-idle}
 

@@ -1,6 +1,6 @@
 -- Periods that change by runs, one after another, and what that adds to the score. Cited by
 -- private functions only: no part of any promise.
-use Rattle.std.specs.Prelude.{◌≡◌, ℕ, ◌+◌, ◌-◌, ◌<◌, ◌≤◌, ℤ, ◌-ℤ◌, ◌≤ℤ◌, Bool, false, List, [], ◌∷◌, length, All}
+use Rattle.std.specs.Prelude.{◌≡◌, ℕ, ◌+◌, ◌-◌, ◌≤◌, ℤ, ◌-ℤ◌, ◌≤ℤ◌, false, List, [], ◌∷◌, length, All}
 use Rattle.std.specs.Prelude.{if◌then◌else◌}
 use Rattle.fixed_num.specs.Rank.{mth_smallest}
 use Rattle.fixed_num.specs.Sums.{total, sum_below}

@@ -1,7 +1,6 @@
-use Rattle.std.proofs.Common.{◌≡◌, ◌∙◌, ◌+◌, ◌-◌, ◌*◌, ◌<◌, ◌≤◌, ◌^◌, sym, ap, subst, arith, rules, ℕ, ℤ, pos, ◌+ℤ◌, ◌-ℤ◌}
-use Rattle.std.proofs.Common.{◌≤ℤ◌, ◌<ℤ◌, List, [], Option, length, get_or, unsigned_abs, to_z, of_z}
+use Rattle.std.proofs.Common.{◌≡◌, ◌∙◌, ◌+◌, ◌-◌, ◌*◌, ◌<◌, ◌≤◌, ◌^◌, sym, ap, subst, arith, rules, ℕ, ℤ, ◌+ℤ◌, ◌-ℤ◌}
+use Rattle.std.proofs.Common.{◌≤ℤ◌, ◌<ℤ◌, List, [], length, get_or, unsigned_abs, to_z, of_z}
 use Rattle.std.specs.Int.{w128}
-use Rattle.std.specs.Prelude.{IfSome, IfNone}
 use Rattle.scenario_rows.specs.RiskStates.{PeriodState}
 use Rattle.scenario_rows.specs.Parts.{part_of, period_at}
 use Rattle.instance_model.specs.Tables.{Tables}

@@ -1,8 +1,7 @@
-use Rattle.std.proofs.Common.{◌≡◌, ◌-◌, sym, ap, subst, arith, pos, ℤ, List, get_or, length, ◌<◌}
+use Rattle.std.proofs.Common.{◌-◌, ap, subst, arith, pos, ℤ, List, get_or, length, ◌<◌}
 use Rattle.std.proofs.lemmas.List.{get_or_default}
 use Rattle.std.proofs.lemmas.List.Elements.{All-contains}
 use Rattle.std.specs.List.Sorted.{IsPermutation}
-use Rattle.fixed_num.specs.Rank.{IsMthSmallest}
 use Rattle.fixed_num.proofs.SignedLemmas.{back_from_abs}
 use Rattle.fixed_num.proofs.RankLemmas.{IsMthSmallest-from_sort, mth_smallest_is}
 use Rattle.instance_model.specs.Plans.{IsSmallSum}

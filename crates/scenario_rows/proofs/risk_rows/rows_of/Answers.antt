@@ -1,10 +1,9 @@
-use Rattle.std.proofs.Common.{refl, ◌≡◌, ◌∙◌, ◌+◌, ◌<◌, ◌≤◌, sym, ap, subst, arith, ℕ, ℤ, List, [], ◌∷◌, ◌++◌, length}
+use Rattle.std.proofs.Common.{refl, ◌≡◌, ◌∙◌, ◌+◌, ◌<◌, ◌≤◌, sym, ap, arith, ℕ, List, [], ◌∷◌, ◌++◌, length}
 use Rattle.std.proofs.Common.{map, Some}
 use Rattle.std.specs.List.{range_with_len}
 use Rattle.std.proofs.lemmas.List.FromFn.{map-range_with_len_more, length-map-range_with_len}
 use Rattle.instance_model.specs.Tables.{scenarios_of}
 use Rattle.scenario_rows.specs.RiskStates.{PeriodState, period_of}
-use Rattle.scenario_rows.specs.Parts.{IsScored}
 use Rattle.scenario_rows.proofs.ScoreLemmas.{part_of_small, scored_small, IsScored-none, IsScored-push, exchange_small}
 use Rattle.scenario_rows.proofs.OverLemmas.{IsOver-starts, IsOver-same, room_for}
 use Rattle.scenario_rows.proofs.risk_rows.rows_of.Goals as goal

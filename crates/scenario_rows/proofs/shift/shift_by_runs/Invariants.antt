@@ -1,4 +1,4 @@
-use Rattle.std.proofs.Common.{◌≡◌, ◌≤◌, length, drop}
+use Rattle.std.proofs.Common.{◌≡◌, ◌≤◌, drop}
 use Rattle.scenario_rows.specs.Shifts.{CanShift, shifted_by}
 use Rattle.scenario_rows.proofs.shift.shift_by_runs.Given as goal
 

@@ -1,8 +1,7 @@
-use Rattle.std.proofs.Common.{◌≡◌, ◌+◌, ◌<◌, ◌≤◌, sym, subst, arith, ℕ, get_or, inl, inr}
+use Rattle.std.proofs.Common.{◌≡◌, sym, subst, arith, ℕ, get_or, inl, inr}
 use Rattle.std.proofs.lemmas.Bool.{cases_lt}
 use Rattle.std.proofs.lemmas.List.{get_or_default}
 use Rattle.scenario_rows.specs.declared.change.Change.TheVariants.{Add}
-use Rattle.scenario_rows.specs.declared.change.RunChange.{RunChange}
 use Rattle.scenario_rows.specs.Shifts.{IsIdle}
 use Rattle.scenario_rows.proofs.touched.next_touched.Goals as goal
 

@@ -1,4 +1,4 @@
-use Rattle.std.proofs.Common.{◌≡◌, ◌+◌, ◌<◌, ◌≤◌, ℕ, get_or}
+use Rattle.std.proofs.Common.{◌+◌, ◌<◌, ◌≤◌, ℕ, get_or}
 use Rattle.scenario_rows.specs.declared.change.RunChange.{RunChange}
 use Rattle.scenario_rows.specs.Shifts.{IsIdle}
 use Rattle.scenario_rows.proofs.touched.next_touched.Given as goal

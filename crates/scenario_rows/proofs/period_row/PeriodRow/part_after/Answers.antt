@@ -1,4 +1,4 @@
-use Rattle.std.proofs.Common.{◌≡◌, ◌∙◌, ◌*◌, ◌^◌, ◌≤◌, sym, ap, subst, arith, length, unsigned_abs}
+use Rattle.std.proofs.Common.{◌∙◌, sym, ap, subst, arith}
 use Rattle.scenario_rows.specs.RiskStates.{PeriodState}
 use Rattle.scenario_rows.specs.Parts.{part_of}
 use Rattle.scenario_rows.specs.Shifts.{CanShift, shifted_period}

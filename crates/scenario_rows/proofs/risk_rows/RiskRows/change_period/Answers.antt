@@ -1,5 +1,5 @@
-use Rattle.std.proofs.Common.{◌≡◌, ◌∙◌, ◌-◌, ◌<◌, ◌≤◌, sym, ap, subst, arith, ℕ, ℤ, ◌-ℤ◌, ◌+ℤ◌, List, ◌++◌, take, drop}
-use Rattle.std.proofs.Common.{All, length, get_or}
+use Rattle.std.proofs.Common.{◌≡◌, ◌∙◌, ◌-◌, ◌<◌, ◌≤◌, sym, ap, subst, arith, ℕ, ◌++◌, take, drop}
+use Rattle.std.proofs.Common.{All, length}
 use Rattle.std.proofs.Math.ListN.{set}
 use Rattle.std.proofs.lemmas.List.Elements.{All-set}
 use Rattle.fixed_num.proofs.SumLemmas.{written_back}

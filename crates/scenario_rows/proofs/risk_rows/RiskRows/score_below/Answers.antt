@@ -1,5 +1,4 @@
-use Rattle.std.proofs.Common.{◌≡◌, ◌∙◌, ◌+◌, ◌*◌, ◌<◌, ◌≤◌, ◌^◌, sym, ap, subst, arith, ℕ, ℤ, ◌+ℤ◌, ◌≤ℤ◌, List, length, All}
-use Rattle.std.proofs.Common.{unsigned_abs}
+use Rattle.std.proofs.Common.{◌≡◌, ◌∙◌, ◌+◌, ◌≤◌, sym, ap, subst, arith, ℕ, ℤ, ◌+ℤ◌, ◌≤ℤ◌, List, length, All}
 use Rattle.std.proofs.lemmas.List.FromFn.{length-map-range_with_len}
 use Rattle.fixed_num.proofs.SignedLemmas.{back_from_abs}
 use Rattle.instance_model.specs.Values.{score_of}

@@ -1,5 +1,5 @@
-use Rattle.std.proofs.Common.{◌≡◌, ◌∙◌, ◌+◌, ◌*◌, ◌<◌, ◌≤◌, ◌^◌, sym, ap, subst, arith, ℕ, ℤ, pos, ◌+ℤ◌, ◌≤ℤ◌, length, get_or}
-use Rattle.std.proofs.Common.{drop, true, false, unsigned_abs, neg_ℤ, to_z}
+use Rattle.std.proofs.Common.{◌≡◌, ◌∙◌, ◌+◌, ◌*◌, ◌^◌, sym, ap, subst, arith, ℤ, pos, ◌+ℤ◌, get_or}
+use Rattle.std.proofs.Common.{drop, true, false, neg_ℤ, to_z}
 use Rattle.std.specs.Int.{w128, int_max}
 use Rattle.fixed_num.proofs.SignedLemmas.{back_from_abs}
 use Rattle.scenario_rows.specs.Changes.{changed}

@@ -1,4 +1,4 @@
-use Rattle.std.proofs.Common.{◌≡◌, ◌∙◌, ◌<◌, ◌≤◌, ◌*◌, ◌^◌, sym, ap, subst, arith, ℕ, ℤ, pos, ◌+ℤ◌, ◌-ℤ◌, ◌*ℤ◌, ◌-◌, List}
+use Rattle.std.proofs.Common.{◌≡◌, ◌∙◌, ◌≤◌, ◌*◌, ◌^◌, sym, ap, subst, arith, ℕ, ℤ, pos, ◌+ℤ◌, ◌-ℤ◌, ◌*ℤ◌, ◌-◌}
 use Rattle.std.proofs.Common.{length, unsigned_abs, ◌≤ℤ◌}
 use Rattle.std.specs.Int.{int_max}
 use Rattle.fixed_num.specs.Floors.{floor_of}

@@ -1,4 +1,4 @@
-use Rattle.std.proofs.Common.{◌≡◌, ◌∙◌, ◌<◌, ◌≤◌, ◌*◌, ◌^◌, sym, ap, subst, arith, ℤ, List, length, unsigned_abs}
+use Rattle.std.proofs.Common.{◌≡◌, ◌∙◌, sym, ap, subst, arith, length}
 use Rattle.fixed_num.specs.Rank.{mth_smallest}
 use Rattle.fixed_num.specs.Sums.{total}
 use Rattle.fixed_num.proofs.SignedLemmas.{back_from_abs}
