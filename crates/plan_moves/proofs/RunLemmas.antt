@@ -1,15 +1,12 @@
 -- The runs that a change of a plan takes off board and puts on.
-use Rattle.std.proofs.Common.{◌≡◌, ◌≢◌, ℕ, ◌<◌, refl, sym, ◌∙◌, ap, arith, List, [], ◌∷◌, Option, Some, None, length}
-use Rattle.std.proofs.Common.{map, get_or, set, Bool, true, false, IsTrue, eqb}
+use Rattle.std.proofs.Common.{◌≡◌, ℕ, ◌<◌, ◌∙◌, ap, List, [], ◌∷◌, Option, Some, None, length}
+use Rattle.std.proofs.Common.{map, get_or, set}
 use Rattle.std.specs.List.{swap}
-use Rattle.std.proofs.lemmas.Bool.Decides.{nat_tests}
-use Rattle.std.proofs.lemmas.List.{length-set, length-map, set-set, get_or-set_same, get_or-set_other}
-use Rattle.instance_model.specs.Tables.{Tables, is_allowed}
-use Rattle.instance_model.specs.Plans.{AreAllowedStarts, start_of}
+use Rattle.std.proofs.lemmas.List.{set-set}
 use Rattle.scenario_rows.specs.declared.change.Change.TheVariants.{Add, Take}
 use Rattle.scenario_rows.specs.declared.change.RunChange.{RunChange}
-use Rattle.scenario_rows.specs.RunChanges.{CanChangeRuns, board_after}
-use Rattle.plan_moves.proofs.BoardLemmas.{start_on_board, board-set, swapped}
+use Rattle.scenario_rows.specs.RunChanges.{board_after}
+use Rattle.plan_moves.proofs.BoardLemmas.{board-set, swapped}
 
 abbrev pub taken : ℕ → ℕ → RunChange
 taken i s = record { change = Take; i = i; s = s }

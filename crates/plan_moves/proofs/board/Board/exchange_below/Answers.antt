@@ -4,7 +4,6 @@ use Rattle.std.specs.Prelude.{IfSome, IfNone}
 use Rattle.fixed_num.proofs.Bits.{by_bits}
 use Rattle.instance_model.specs.Tables.{Tables}
 use Rattle.instance_model.specs.Values.{score_of}
-use Rattle.scenario_rows.specs.declared.change.RunChange.{RunChange}
 use Rattle.scenario_rows.specs.RunChanges.{board_after}
 use Rattle.scenario_rows.proofs.JudgeLemmas.{limit_back}
 use Rattle.plan_moves.specs.Boards.{Board}

@@ -1,4 +1,4 @@
-use Rattle.std.proofs.Common.{◌≡◌, ◌∙◌, ◌<◌, ◌^◌, ◌<ℤ◌, ◌≤ℤ◌, sym, ap, subst, arith, ℤ, Some, map, unsigned_abs}
+use Rattle.std.proofs.Common.{◌∙◌, ◌<◌, ◌^◌, ◌<ℤ◌, ◌≤ℤ◌, sym, ap, subst, arith, ℤ, Some, map, unsigned_abs}
 use Rattle.fixed_num.proofs.Bits.{by_bits}
 use Rattle.fixed_num.proofs.SignedLemmas.{back_from_abs}
 use Rattle.instance_model.specs.Fitting.{IsFitting}
