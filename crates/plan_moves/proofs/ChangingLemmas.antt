@@ -1,5 +1,5 @@
 -- A plan after a change that can be made, and the step back from it.
-use Rattle.std.proofs.Common.{◌≡◌, ℕ, ◌<◌, refl, sym, subst, arith, List, length, get_or, IsTrue}
+use Rattle.std.proofs.Common.{◌≡◌, ℕ, refl, sym, subst, arith, List, length, get_or}
 use Rattle.undo_trail.specs.declared.Step.{Step}
 use Rattle.instance_model.specs.Tables.{Tables}
 use Rattle.instance_model.specs.Plans.{AreAllowedStarts}

@@ -2,3 +2,4 @@ pub mod BoardLemmas
 pub mod KeyLemmas
 pub mod TrailLemmas
 pub mod ChangingLemmas
+pub mod RunLemmas

@@ -1,22 +1,24 @@
 //! The starts of a plan with all that is kept of them: contracts see the instance and the starts.
-ghost use Rattle.std.specs.Prelude.{◌≡◌, ◌+◌, ◌^◌, ◌<◌, ◌≤◌, ◌↔◌, unsigned_abs, length, map, Some, IfOk, IfSome};
+ghost use Rattle.std.specs.Prelude.{◌≡◌, ◌+◌, ◌^◌, ◌<◌, ◌≤◌, ◌↔◌, ◌<ℤ◌, ◌≤ℤ◌, unsigned_abs, length, map, Some, IfOk};
+ghost use Rattle.std.specs.Prelude.{IfSome};
 ghost use Rattle.std.specs.Prelude.{IfNone, IsSome, IsTrue, slice_index, slice_set, swap};
 ghost use Rattle.instance_model.specs.Tables.{is_allowed};
 ghost use Rattle.instance_model.specs.Plans.{AreAllowedStarts, start_of};
 ghost use Rattle.instance_model.specs.Keys.{key_of, KeyBelow};
 ghost use Rattle.instance_model.specs.Values.{score_of};
 ghost use Rattle.scenario_rows.specs.RiskStates.{IsOver as AreRowsOver};
+ghost use Rattle.scenario_rows.specs.declared.change.Change.TheVariants.{Add, Take};
 ghost use Rattle.plan_moves.specs.Changing.{CanChange, after_change};
 ghost use Rattle.plan_moves.specs.KeptPlans.{move_bound};
 ghost use Rattle.plan_moves.specs.Trails.{undone, step_back, NamesBelow};
 
 use crate::change::Change;
-use crate::key_order::is_lower;
+use crate::key_limit::score_limit;
 use crate::violations::Violations;
 use fixed_num::Steps;
 use instance_model::{Instance, Key};
 use quantile_index::Row;
-use scenario_rows::RiskRows;
+use scenario_rows::{Change as OnBoard, RiskRows, RunChange};
 use std::alloc::{AllocError, Global};
 use std::marker::Model;
 use std::sync::ledger::Ledger;
@@ -37,6 +39,28 @@ impl<'a, R: Row> Model for Board<'a, R> {
     ghost view = { λ b. b.violations };
 
     ghost invariant = { λ b. boards.AreRowsOf b.violations b.rows };
+}
+
+/// The run of intervention `i` at start `s` is taken off board.
+fn taken(i: u32, s: u32) -> RunChange
+    ensures { result ≡ record { change = Take; i = i; s = s } }
+{
+    RunChange {
+        change: OnBoard::Take,
+        i,
+        s,
+    }
+}
+
+/// The run of intervention `i` at start `s` is put on board.
+fn added(i: u32, s: u32) -> RunChange
+    ensures { result ≡ record { change = Add; i = i; s = s } }
+{
+    RunChange {
+        change: OnBoard::Add,
+        i,
+        s,
+    }
 }
 
 /// Takes the run of intervention `i` off board, and puts it on again at start `s`.
@@ -191,22 +215,84 @@ impl<'a, R: Row> Board<'a, R> {
         }
     }
 
-    /// The score after a change, which is made and taken back.
-    fn score_after<L: Ledger>(&mut self, change: Change, steps: &mut Steps<L>) -> i128
-        requires { CanChange self.old.instance self.old.starts change }
-        ensures value { result ≡ score_of self.old.instance (map Some (after_change change self.old.starts)) }
-        ensures small { unsigned_abs result < 10 ^ 33 }
+    /// The score after a change of the start of intervention `i`, where it is below `limit`.
+    fn move_below<L: Ledger>(
+        &mut self,
+        i: u32,
+        s: u32,
+        limit: i128,
+        steps: &mut Steps<L>,
+    ) -> Option<i128>
+        requires number { i < length self.old.instance.names }
+        requires allowed { IsTrue (is_allowed self.old.instance i s) }
+        ensures value { IfSome result
+            (λ score. score ≡ score_of self.old.instance (map Some (slice_set self.old.starts i s))) }
+        ensures below { IfSome result (λ score. score <ℤ limit) }
+        ensures none { IfNone result (limit ≤ℤ score_of self.old.instance (map Some (slice_set self.old.starts i s))) }
         ensures same { self.new ≡ self.old }
         ensures forward { steps.old ≤ steps.new }
     {
-        self.violations.allowed();
-        let back = self.change(change, steps);
-        let score = self.score();
-        self.undo(back, steps);
-        score
+        let from = self.start_of(i);
+        let runs = [taken(i, from), added(i, s)];
+        self.rows
+            .score_below(self.violations.instance(), &runs, limit, steps)
     }
 
-    /// The key after a change, where it is below `limit`. No row is touched where the violation decides.
+    /// The score after an exchange of the starts of two interventions, which may be one, where it is below `limit`.
+    fn exchange_below<L: Ledger>(
+        &mut self,
+        i: u32,
+        j: u32,
+        limit: i128,
+        steps: &mut Steps<L>,
+    ) -> Option<i128>
+        requires first { i < length self.old.instance.names }
+        requires second { j < length self.old.instance.names }
+        requires first_allowed { IsTrue (is_allowed self.old.instance i (slice_index self.old.starts j)) }
+        requires second_allowed { IsTrue (is_allowed self.old.instance j (slice_index self.old.starts i)) }
+        ensures value { IfSome result
+            (λ score. score ≡ score_of self.old.instance (map Some (swap self.old.starts i j))) }
+        ensures below { IfSome result (λ score. score <ℤ limit) }
+        ensures none { IfNone result (limit ≤ℤ score_of self.old.instance (map Some (swap self.old.starts i j))) }
+        ensures same { self.new ≡ self.old }
+        ensures forward { steps.old ≤ steps.new }
+    {
+        let first = self.start_of(i);
+        let second = self.start_of(j);
+        let runs = [
+            taken(i, first),
+            added(i, second),
+            taken(j, second),
+            added(j, first),
+        ];
+        self.rows
+            .score_below(self.violations.instance(), &runs, limit, steps)
+    }
+
+    /// The score after a change, where it is below `limit`. It is judged on scratch: nothing that is kept is changed.
+    fn score_below<L: Ledger>(
+        &mut self,
+        change: Change,
+        limit: i128,
+        steps: &mut Steps<L>,
+    ) -> Option<i128>
+        requires { CanChange self.old.instance self.old.starts change }
+        ensures value { IfSome result
+            (λ score. score ≡ score_of self.old.instance (map Some (after_change change self.old.starts))) }
+        ensures below { IfSome result (λ score. score <ℤ limit) }
+        ensures none { IfNone result
+            (limit ≤ℤ score_of self.old.instance (map Some (after_change change self.old.starts))) }
+        ensures same { self.new ≡ self.old }
+        ensures forward { steps.old ≤ steps.new }
+    {
+        match change {
+            Change::Move { i, s } => self.move_below(i, s, limit, steps),
+            Change::Swap { i, j } => self.exchange_below(i, j, limit, steps),
+        }
+    }
+
+    /// The key after a change, where it is below `limit`. No row is changed, and none is read where the violation is
+    /// above that of the limit.
     pub(crate) fn key_below<L: Ledger>(
         &mut self,
         change: Change,
@@ -222,20 +308,16 @@ impl<'a, R: Row> Board<'a, R> {
         ensures same { self.new ≡ self.old }
         ensures forward { steps.old ≤ steps.new }
     {
+        self.instance().fits();
         let violation = self.violations.after(change);
         if limit.violation < violation {
             return None;
         }
-        let score = self.score_after(change, steps);
-        let key = Key { violation, score };
-        if is_lower(key, limit) {
-            Some(key)
-        } else {
-            None
-        }
+        let score = self.score_below(change, score_limit(violation, limit), steps)?;
+        Some(Key { violation, score })
     }
 
-    /// Whether a change lowers the key. No row is touched where the violation decides.
+    /// Whether a change lowers the key. No row is changed, and none is read where the violation decides.
     pub(crate) fn lowers<L: Ledger>(&mut self, change: Change, steps: &mut Steps<L>) -> bool
         requires { CanChange self.old.instance self.old.starts change }
         ensures value { IsTrue result
@@ -249,6 +331,6 @@ impl<'a, R: Row> Board<'a, R> {
         if violation != key.violation {
             return violation < key.violation;
         }
-        self.score_after(change, steps) < key.score
+        self.score_below(change, key.score, steps).is_some()
     }
 }

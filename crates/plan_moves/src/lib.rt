@@ -8,7 +8,7 @@
 mod board;
 mod change;
 mod kept;
-mod key_order;
+mod key_limit;
 mod moves;
 mod script_line;
 mod violations;

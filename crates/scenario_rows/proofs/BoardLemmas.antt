@@ -14,7 +14,8 @@ use Rattle.scenario_rows.specs.declared.change.Change.{Change}
 use Rattle.scenario_rows.specs.declared.change.Change.TheVariants.{Add, Take}
 use Rattle.scenario_rows.specs.RiskStates.{PeriodState, period_of}
 use Rattle.scenario_rows.specs.Parts.{AreRowSums}
-use Rattle.scenario_rows.specs.Changes.{changed, changed_sums, changed_period, start_before, start_after}
+use Rattle.scenario_rows.specs.Changes.{changed, changed_sums, changed_period}
+use Rattle.scenario_rows.specs.RunChanges.{start_before, start_after}
 use Rattle.scenario_rows.proofs.RowLemmas.{changed_sums-from}
 
 -- the scenario sums of a period are those of a row
@@ -116,7 +117,7 @@ scenario_sums-idle change inst board i s t each h e r =
 
 -- ---- the same of periods
 
-abbrev at_sums : Tables → ℕ → List ℤ → PeriodState
+abbrev pub at_sums : Tables → ℕ → List ℤ → PeriodState
 at_sums inst t xs = record { alpha = inst.alpha; rank = rank_of inst t; sums = xs }
 
 pub period_of-changed : (change : Change) (inst : Tables) (board : List (Option ℕ)) (i s t : ℕ)

@@ -4,3 +4,7 @@ pub mod RowLemmas
 pub mod BoardLemmas
 pub mod ScoreLemmas
 pub mod OverLemmas
+pub mod QuantileLemmas
+pub mod ShiftLemmas
+pub mod JudgeLemmas
+pub mod BoundLemmas

@@ -20,7 +20,8 @@ use Rattle.scenario_rows.specs.declared.change.Change.{Change}
 use Rattle.scenario_rows.specs.RiskStates.{PeriodState, RiskState, period_of, IsOver}
 use Rattle.scenario_rows.specs.Bounds.{most_scenarios, period_bound}
 use Rattle.scenario_rows.specs.Parts.{AreRowSums, period_at}
-use Rattle.scenario_rows.specs.Changes.{changed_period, CanChange, AreChangedBelow, start_before, start_after}
+use Rattle.scenario_rows.specs.Changes.{changed_period, CanChange, AreChangedBelow}
+use Rattle.scenario_rows.specs.RunChanges.{start_before, start_after}
 use Rattle.scenario_rows.proofs.BoardLemmas.{AreRowSums-scenario_sums, scenario_sums-changed, period_of-changed}
 use Rattle.scenario_rows.proofs.BoardLemmas.{period_of-idle, allowed_after}
 

@@ -83,3 +83,9 @@ part_quotient a n q s e w r h some few sq ss se sw ee ew er =
     ∙ ap (λ (x : ℤ). (pos a *ℤ x) +ℤ (pos (1_000_000 - a) *ℤ by_bits e)) bs
     ∙ ap (λ (x : ℤ). (pos a *ℤ s) +ℤ (pos (1_000_000 - a) *ℤ x)) (be ∙ ee') in
     back_from_abs r size ∙ f ∙ ap (λ (x : ℤ). floor_of x n) ew'
+
+-- the same numbers, as the code hands them on
+pub part_handed : (a n : ℕ) (q s p : ℤ) → unsigned_abs q < 2 ^ 127 → unsigned_abs s < 2 ^ 127
+    → p ≡ floor_of ((pos a *ℤ by_bits s) +ℤ (pos (1_000_000 - a) *ℤ int_max (pos 0) (pos n *ℤ by_bits q -ℤ by_bits s)))
+    n → p ≡ floor_of ((pos a *ℤ s) +ℤ (pos (1_000_000 - a) *ℤ int_max (pos 0) (pos n *ℤ q -ℤ s))) n
+part_handed a n q s p hq hs h = h ∙ rw (back_from_abs q hq, back_from_abs s hs) refl

@@ -1,6 +1,6 @@
 -- Rows of sums that change.
 use Rattle.std.proofs.Common.{Option, Some, None, ◌≡◌, ℕ, zero, suc, refl, ◌+◌, ◌*◌, ◌<◌, ◌≤◌, ◌^◌, sym, ◌∙◌, ap, subst}
-use Rattle.std.proofs.Common.{arith, ℤ, pos, ◌+ℤ◌, ◌-ℤ◌, List, length, get_or, unsigned_abs}
+use Rattle.std.proofs.Common.{arith, ℤ, pos, ◌-ℤ◌, List, length, get_or, unsigned_abs}
 use Rattle.std.specs.Prelude.{IfSome}
 use Rattle.std.proofs.lemmas.List.Elements.{All-get_or}
 use Rattle.fixed_num.specs.Sums.{total, sum_below, list_of}

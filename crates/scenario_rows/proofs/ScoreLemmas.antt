@@ -81,7 +81,7 @@ exchange_small score a b h k l =
 
 -- ---- the score of what is on board
 
-part_at : (inst : Tables) (board : List (Option ℕ)) (t : ℕ)
+pub part_at : (inst : Tables) (board : List (Option ℕ)) (t : ℕ)
     → part_of (period_of inst board t) ≡ floor_of (numerator_of inst board t) (scenarios_of inst t)
 unfolding part_in
 part_at inst board t = ap (floor_of (numerator_of inst board t)) (length-scenario_sums inst board t)

@@ -1,6 +1,6 @@
 -- Sums to which the risks of a run are added, or from which they are taken. Cited by
 -- private functions only: no part of any promise.
-use Rattle.std.specs.Prelude.{◌≡◌, ℕ, ◌+◌, ◌<◌, ◌≤◌, ℤ, pos, ◌+ℤ◌, ◌-ℤ◌, List, length, IsTrue, Option, Some, None}
+use Rattle.std.specs.Prelude.{◌≡◌, ℕ, ◌+◌, ◌<◌, ◌≤◌, ℤ, pos, ◌+ℤ◌, ◌-ℤ◌, List, length, IsTrue, Option}
 use Rattle.std.specs.Prelude.{slice_index_or}
 use Rattle.fixed_num.specs.Sums.{list_of}
 use Rattle.instance_model.specs.Tables.{Tables, scenarios_of, is_allowed, in_run, risk_of}
@@ -37,15 +37,6 @@ pub record CanChange (inst : Tables) (change : Change) (i s t : ℕ) (sums : Lis
   pub to : t ≤ inst.periods
   pub each : length sums ≡ scenarios_of inst t
   pub row : AreRowSums (changed_sums inst change i s t sums)
-
--- what stands on board of an intervention with this start before a change, and after it
-abbrev pub start_before : Change → ℕ → Option ℕ
-start_before Add s = None
-start_before Take s = Some s
-
-abbrev pub start_after : Change → ℕ → Option ℕ
-start_after Add s = Some s
-start_after Take s = None
 
 -- the periods below t are those of one board, the others those of another
 pub record AreChangedBelow (inst : Tables) (old new : List (Option ℕ)) (t : ℕ)

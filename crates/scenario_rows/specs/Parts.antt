@@ -47,7 +47,8 @@ pub record IsScored (periods : List PeriodState) (score : ℤ) : Type 0 where
   pub sound : All IsSoundPeriod periods
   pub value : score ≡ total (map part_of periods)
 
--- the periods are scored, and none has more sums than this
-pub record AreKept (periods : List PeriodState) (score : ℤ) (size : ℕ) : Type 0 where
+-- the periods are scored, and there is room for the sums of each, and for their values
+pub record AreKept (periods : List PeriodState) (score : ℤ) (size values : ℕ) : Type 0 where
   pub scored : IsScored periods score
   pub room : All (λ p. length p.sums ≤ size) periods
+  pub values_room : values ≡ size

@@ -1,15 +1,24 @@
-//! A change of sums by risks.
-ghost use Rattle.std.specs.Prelude.{◌≡◌, ◌^◌, ◌<◌, unsigned_abs};
+//! Runs that are put on board or taken off it, and the change of sums by their risks.
+ghost use Rattle.std.specs.Prelude.{◌≡◌, ◌^◌, ◌<◌, pos, unsigned_abs};
 ghost use Rattle.instance_model.specs.Plans.{IsSmallSum};
-ghost use Rattle.scenario_rows.specs.Changes.{changed, start_after};
+ghost use Rattle.scenario_rows.specs.RunChanges.{start_after};
+ghost use Rattle.scenario_rows.specs.Changes.{changed};
 
 use fixed_num::{Amount, Fixed, Sum};
 
-/// Whether the risks of a run are added or taken away.
+/// Whether a run is put on board, so that its risks are added, or taken off.
 #[derive(Clone, Copy)]
-pub(crate) enum Change {
+pub enum Change {
     Add,
     Take,
+}
+
+/// The run of intervention `i` at start `s` is put on board or taken off it.
+#[derive(Clone, Copy)]
+pub struct RunChange {
+    pub change: Change,
+    pub i: u32,
+    pub s: u32,
 }
 
 impl Change {
@@ -32,6 +41,17 @@ impl Change {
         match self {
             Change::Add => total.plus(risk_total),
             Change::Take => total.minus(risk_total),
+        }
+    }
+
+    /// By how much the change by a risk raises a sum.
+    pub(crate) fn rise(self, risk: Fixed) -> i128
+        ensures value { result ≡ changed self (pos 0) risk }
+        ensures small { unsigned_abs result < 10 ^ 20 }
+    {
+        match self {
+            Change::Add => risk.count(),
+            Change::Take => -risk.count(),
         }
     }
 

@@ -5,11 +5,15 @@
 #![tactic(auto)]
 
 mod change;
+mod judge;
 mod part;
 mod period_row;
+mod quantile;
 mod risk_rows;
 mod runs;
 mod shift;
 mod sum_row;
+mod touched;
 
+pub use change::{Change, RunChange};
 pub use risk_rows::RiskRows;

@@ -1,12 +1,13 @@
 //! One period of the rows: contracts see its scenario sums, its rank and the weight of the mean.
-ghost use Rattle.std.specs.Prelude.{◌≡◌, ◌+◌, ◌≤◌, length, map, Some, IfOk, IfSome};
+ghost use Rattle.std.specs.Prelude.{◌≡◌, ◌+◌, ◌*◌, ◌≤◌, ◌^◌, ◌≤ℤ◌, length, map, Some, IfOk, IfSome, unsigned_abs};
 ghost use Rattle.instance_model.specs.Plans.{AreAllowedStarts};
 ghost use Rattle.scenario_rows.specs.RiskStates.{period_of};
 ghost use Rattle.scenario_rows.specs.Bounds.{period_bound};
 ghost use Rattle.scenario_rows.specs.Changes.{CanChange, changed_period};
 ghost use Rattle.scenario_rows.specs.Parts.{part_of, IsSoundPeriod};
+ghost use Rattle.scenario_rows.specs.Shifts.{CanShift, shifted_period};
 
-use crate::change::Change;
+use crate::change::{Change, RunChange};
 use crate::runs::sums_of;
 use crate::sum_row::SumRow;
 use fixed_num::{Amount, Steps, Sum};
@@ -95,5 +96,48 @@ impl<R: Row> PeriodRow<R> {
         let scratch = &mut scratch[..risks.len()];
         self.row.change(risks, change, scratch, steps);
         self.part = self.row.part(self.alpha, self.rank, steps);
+    }
+
+    /// At most what period `t`, which this is, adds to the score after the changes by the runs. No sum is read but the
+    /// quantile.
+    pub(crate) fn least_part_after<L: Ledger>(
+        &self,
+        inst: &Instance,
+        runs: &[RunChange],
+        t: u32,
+        steps: &mut Steps<L>,
+    ) -> Amount
+        requires { CanShift inst.now t runs.now self.now.sums }
+        ensures least { result ≤ℤ part_of (shifted_period inst.now t runs.now self.now) }
+        ensures small { unsigned_abs result ≤ 3 * 1024 * 1024 * 10 ^ 26 }
+        ensures forward { steps.old ≤ steps.new }
+    {
+        self.row
+            .least_part_after(inst, runs, t, self.alpha, self.rank, steps)
+    }
+
+    /// What period `t`, which this is, adds to the score after the changes by the runs. The sums are changed on scratch.
+    pub(crate) fn part_after<L: Ledger>(
+        &self,
+        inst: &Instance,
+        runs: &[RunChange],
+        t: u32,
+        scratch: &mut [Sum],
+        values: &mut [i128],
+        steps: &mut Steps<L>,
+    ) -> Amount
+        requires can { CanShift inst.now t runs.now self.now.sums }
+        requires sums_room { length self.now.sums ≤ length scratch.old }
+        requires values_room { length self.now.sums ≤ length values.old }
+        ensures value { result ≡ part_of (shifted_period inst.now t runs.now self.now) }
+        ensures small { unsigned_abs result ≤ 3 * 1024 * 1024 * 10 ^ 26 }
+        ensures sums_room { length scratch.new ≡ length scratch.old }
+        ensures values_room { length values.new ≡ length values.old }
+        ensures forward { steps.old ≤ steps.new }
+    {
+        let n = self.row.len() as usize;
+        let scratch = &mut scratch[..n];
+        let values = &mut values[..n];
+        self.row.part_after(inst, runs, t, self.alpha, self.rank, scratch, values, steps)
     }
 }

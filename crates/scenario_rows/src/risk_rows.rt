@@ -1,15 +1,17 @@
 //! The rows of all periods, with the score: contracts see the starts on board beside the sums by period.
 ghost use Rattle.std.specs.Prelude.{◌≡◌, ℕ, ◌+◌, ◌-◌, ◌<◌, ◌≤◌, ◌^◌, length, map, Some, None, IfOk, IfSome, IsSome};
-ghost use Rattle.std.specs.Prelude.{IsTrue, unsigned_abs, slice_set};
+ghost use Rattle.std.specs.Prelude.{IfNone, ◌<ℤ◌, ◌≤ℤ◌, IsTrue, unsigned_abs, slice_set};
 ghost use Rattle.instance_model.specs.Tables.{Tables, scenarios_of, delta_of, is_allowed};
 ghost use Rattle.instance_model.specs.Plans.{AreAllowedStarts, start_of};
 ghost use Rattle.instance_model.specs.Values.{score_of};
 ghost use Rattle.scenario_rows.specs.RiskStates.{IsOver};
 ghost use Rattle.scenario_rows.specs.Bounds.{period_bound, run_bound};
 ghost use Rattle.scenario_rows.specs.Parts.{period_at};
-ghost use Rattle.scenario_rows.specs.Changes.{CanChange, changed_period, start_before, start_after};
+ghost use Rattle.scenario_rows.specs.RunChanges.{start_before, start_after, CanChangeRuns, board_after};
+ghost use Rattle.scenario_rows.specs.Changes.{CanChange, changed_period};
 
-use crate::change::Change;
+use crate::change::{Change, RunChange};
+use crate::judge::score_from;
 use crate::period_row::PeriodRow;
 use duration_calendar::run;
 use fixed_num::{Amount, Steps, Sum};
@@ -29,6 +31,8 @@ pub struct RiskRows<R: Row> {
     score: Amount,
     /// Room for the sums of the longest period.
     scratch: Vec<Sum>,
+    /// Room for their values.
+    values: Vec<i128>,
 }
 
 impl<R: Row> Model for RiskRows<R> {
@@ -40,7 +44,7 @@ impl<R: Row> Model for RiskRows<R> {
 
     ghost view = { λ r. record { board = r.board.items; periods = r.periods.items } };
 
-    ghost invariant = { λ r. AreKept r.periods.items r.score (length r.scratch.items) };
+    ghost invariant = { λ r. AreKept r.periods.items r.score (length r.scratch.items) (length r.values.items) };
 }
 
 /// The greatest number of scenarios of a period.
@@ -77,12 +81,15 @@ fn rows_of<R: Row, L: Ledger>(
         score = score.plus(period.part());
         periods.push(period)?;
     }
-    let scratch = vec![in alloc; Sum::zero(); most_scenarios(inst) as usize]?;
+    let most = most_scenarios(inst) as usize;
+    let scratch = vec![in alloc; Sum::zero(); most]?;
+    let values = vec![in alloc; 0; most]?;
     Ok(RiskRows {
         board,
         periods,
         score,
         scratch,
+        values,
     })
 }
 
@@ -102,6 +109,38 @@ impl<R: Row> RiskRows<R> {
         ensures small { unsigned_abs result < 10 ^ 37 }
     {
         self.score.number()
+    }
+
+    /// The score after runs are put on board and taken off it, one after another, where it is below the limit. No run
+    /// is changed, and no memory taken.
+    pub fn score_below<L: Ledger>(
+        &mut self,
+        inst: &Instance,
+        runs: &[RunChange],
+        limit: i128,
+        steps: &mut Steps<L>,
+    ) -> Option<i128>
+        requires over { IsOver inst.now self.old }
+        requires can { CanChangeRuns inst.now self.old.board runs.now }
+        ensures value { IfSome result (λ score. score ≡ score_of inst.now (board_after runs.now self.old.board)) }
+        ensures below { IfSome result (λ score. score <ℤ limit) }
+        ensures none { IfNone result (limit ≤ℤ score_of inst.now (board_after runs.now self.old.board)) }
+        ensures same { self.new ≡ self.old }
+        ensures forward { steps.old ≤ steps.new }
+    {
+        inst.fits();
+        let after = score_from(
+            &self.periods,
+            inst,
+            runs,
+            1,
+            self.score,
+            limit,
+            &mut self.scratch,
+            &mut self.values,
+            steps,
+        )?;
+        Some(after.number())
     }
 
     /// Puts intervention `i` on board at start `s`.

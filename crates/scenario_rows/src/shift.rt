@@ -1,12 +1,16 @@
 //! Scenario sums on scratch, changed by the risks of a run: contracts see lists by scenario.
-ghost use Rattle.std.specs.Prelude.{◌≡◌, ◌*◌, ◌≤◌, ◌^◌, length, unsigned_abs};
+ghost use Rattle.std.specs.Prelude.{◌≡◌, ◌+◌, ◌*◌, ◌≤◌, ◌^◌, [], ◌∷◌, length, unsigned_abs};
 ghost use Rattle.fixed_num.specs.Sums.{total};
 ghost use Rattle.scenario_rows.specs.Changes.{changed_by};
 ghost use Rattle.scenario_rows.specs.Parts.{AreRowSums};
+ghost use Rattle.scenario_rows.specs.Shifts.{CanShift, shifted, shifted_by};
 
-use crate::change::Change;
-use fixed_num::{Amount, Fixed, Sum};
+use crate::change::{Change, RunChange};
+use crate::touched::is_running;
+use fixed_num::{Amount, Fixed, Steps, Sum};
+use instance_model::Instance;
 use quantile_index::Row;
+use std::sync::ledger::Ledger;
 
 /// Copies the sums of a row.
 pub(crate) fn copy_sums<R: Row>(row: &R, to: &mut [Sum])
@@ -26,6 +30,40 @@ pub(crate) fn shift(sums: &mut [Sum], risks: &[Fixed], change: Change)
 {
     for (k, risk) in risks.iter().enumerate() {
         sums[k] = change.sum_after(sums[k], *risk);
+    }
+}
+
+/// Changes each sum of period `t` by the run, where that is in progress.
+fn shift_by_run<L: Ledger>(
+    inst: &Instance,
+    one: RunChange,
+    t: u32,
+    sums: &mut [Sum],
+    steps: &mut Steps<L>,
+)
+    requires { CanShift inst.now t (one ∷ []) sums.old }
+    ensures sums { sums.new ≡ shifted inst.now t one sums.old }
+    ensures forward { steps.old ≤ steps.new }
+{
+    if is_running(inst, one, t) {
+        shift(sums, inst.risks(one.i, one.s, t, steps), one.change);
+    }
+}
+
+/// Changes the sums of period `t` by the runs, one after another.
+pub(crate) fn shift_by_runs<L: Ledger>(
+    inst: &Instance,
+    runs: &[RunChange],
+    t: u32,
+    sums: &mut [Sum],
+    steps: &mut Steps<L>,
+)
+    requires { CanShift inst.now t runs.now sums.old }
+    ensures sums { sums.new ≡ shifted_by inst.now t runs.now sums.old }
+    ensures forward { steps.old ≤ steps.new }
+{
+    for one in runs {
+        shift_by_run(inst, *one, t, sums, steps);
     }
 }
 

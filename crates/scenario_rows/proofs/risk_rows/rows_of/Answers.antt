@@ -1,10 +1,9 @@
-use Rattle.std.proofs.Common.{refl, ◌≡◌, ◌∙◌, ◌+◌, ◌<◌, ◌≤◌, sym, ap, subst, arith, ℕ, ℤ, List, [], ◌∷◌, ◌++◌, length}
+use Rattle.std.proofs.Common.{refl, ◌≡◌, ◌∙◌, ◌+◌, ◌<◌, ◌≤◌, sym, ap, arith, ℕ, List, [], ◌∷◌, ◌++◌, length}
 use Rattle.std.proofs.Common.{map, Some}
 use Rattle.std.specs.List.{range_with_len}
 use Rattle.std.proofs.lemmas.List.FromFn.{map-range_with_len_more, length-map-range_with_len}
 use Rattle.instance_model.specs.Tables.{scenarios_of}
 use Rattle.scenario_rows.specs.RiskStates.{PeriodState, period_of}
-use Rattle.scenario_rows.specs.Parts.{IsScored}
 use Rattle.scenario_rows.proofs.ScoreLemmas.{part_of_small, scored_small, IsScored-none, IsScored-push, exchange_small}
 use Rattle.scenario_rows.proofs.OverLemmas.{IsOver-starts, IsOver-same, room_for}
 use Rattle.scenario_rows.proofs.risk_rows.rows_of.Goals as goal
@@ -58,10 +57,17 @@ invariant_of-result g c =
     let most : (t : ℕ) → 1 ≤ t → t ≤ c.args.inst.now.periods
     → scenarios_of c.args.inst.now t ≤ length c.in_ok-scratch.scratch.items =
     λ t from to. omega
-    (arith, c.most_scenarios.ensures t from to, c.in_ok-scratch.ensures.len, c.in_ok-scratch.scratch.ok.0) in
+    (arith, c.most_scenarios-most.ensures t from to, c.in_ok-scratch.ensures.len, c.in_ok-scratch.scratch.ok.0) in
     record {
       scored = c.loop-u.invariant.scored;
       room = room_for c.args.inst.now (map Some c.args.starts.now) c.loop-u.periods.items c.loop-u.u
           (length c.in_ok-scratch.scratch.items) c.loop-u.invariant.made
           (omega (arith, c.periods-u-end.ensures.value)) most;
+      values_room = omega (
+        arith,
+        c.in_ok-values.ensures.len,
+        c.in_ok-values.values.ok.0,
+        c.in_ok-scratch.ensures.len,
+        c.in_ok-scratch.scratch.ok.0,
+      );
     }

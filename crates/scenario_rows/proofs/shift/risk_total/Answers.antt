@@ -1,4 +1,4 @@
-use Rattle.std.proofs.Common.{◌≡◌, ◌∙◌, sym, ap, arith, pos, ◌+◌, ◌*◌, ◌+ℤ◌, ◌<◌, ◌≤◌, ◌^◌, ℕ, ℤ, List, length, get_or}
+use Rattle.std.proofs.Common.{◌≡◌, ◌∙◌, sym, ap, arith, pos, ◌+ℤ◌, ◌<◌, ◌≤◌, ◌^◌, ℕ, ℤ, List, length, get_or}
 use Rattle.std.proofs.Common.{take, unsigned_abs}
 use Rattle.std.proofs.lemmas.List.{take_all}
 use Rattle.fixed_num.specs.Sums.{total}

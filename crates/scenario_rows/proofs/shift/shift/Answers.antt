@@ -1,6 +1,4 @@
-use Rattle.std.proofs.Common.{◌≡◌, ◌∙◌, sym, ap, subst, arith, pos, ℤ, List, length, get_or}
-use Rattle.instance_model.specs.Plans.{IsSmallSum}
-use Rattle.scenario_rows.specs.Changes.{changed}
+use Rattle.std.proofs.Common.{◌∙◌, arith, pos}
 use Rattle.scenario_rows.proofs.ListLemmas.{read_at}
 use Rattle.scenario_rows.proofs.RowLemmas.{changed_by-from, changed_by_small}
 use Rattle.scenario_rows.proofs.shift.shift.Goals as goal

@@ -1,4 +1,4 @@
-use Rattle.std.proofs.Common.{◌≡◌, ◌∙◌, sym, ap, subst, arith, pos, ◌+◌, ◌*◌, ◌+ℤ◌, ◌<◌, ◌≤◌, ◌^◌, ℕ, ℤ, List, length}
+use Rattle.std.proofs.Common.{◌≡◌, ◌∙◌, sym, ap, arith, pos, ◌+ℤ◌, ◌<◌, ◌≤◌, ℕ, ℤ, List, length}
 use Rattle.std.proofs.Common.{get_or, take, All, unsigned_abs}
 use Rattle.std.proofs.lemmas.List.{take_all}
 use Rattle.std.proofs.lemmas.List.Elements.{All-get_or}
@@ -22,7 +22,11 @@ read_is xs i x v w h all ex ev ew =
 
 pub loop-sum-init : goal.loop-sum-init
 loop-sum-init g c =
-    record { value = c.zero-total.ensures ∙ sym total-none; small = rw c.zero-total.ensures (omega arith) }
+    record {
+      value = c.zero-total.ensures ∙ sym total-none;
+      small = rw c.zero-total.ensures (omega arith);
+      forward = omega arith;
+    }
 
 pub plus-total-requires : goal.plus-total-requires
 plus-total-requires g c =
@@ -41,7 +45,8 @@ loop-sum-preserved g c =
       small =
           rw c.plus-total.ensures
           (omega (arith, r.1, abs-sum c.loop-sum.total c.of.result, c.loop-sum.invariant.small));
+      forward = omega (arith, c.loop-sum.invariant.forward, c.value.ensures.cost);
     }
 
-pub returns : goal.returns
-returns g c = c.loop-sum.invariant.value ∙ ap total (take_all c.loop-sum.sum-index c.args.sums.now (omega arith))
+pub returns-clause-total : goal.returns-clause-total
+returns-clause-total g c = c.loop-sum.invariant.value ∙ ap total (take_all c.loop-sum.sum-index c.args.sums.now (omega arith))

@@ -6,4 +6,5 @@ abbrev pub invariant-loop-sum : goal.invariant-loop-sum
 invariant-loop-sum g l = record {
   value : l.total ≡ total (take l.sum-index l.sums);
   small : unsigned_abs l.total ≤ l.sum-index * 102_400_000_000_000_000_000_000;
+  forward : l.fn.steps ≤ l.steps;
 }

@@ -1,8 +1,5 @@
-use Rattle.std.proofs.Common.{◌≡◌, ◌∙◌, sym, ap, subst, ℕ, List, length}
-use Rattle.plan_moves.specs.declared.change.Change.{Change}
-use Rattle.plan_moves.specs.Boards.{Board}
-use Rattle.plan_moves.specs.Changing.{CanChange, after_change}
-use Rattle.plan_moves.specs.Trails.{step_back}
+use Rattle.std.proofs.Common.{subst}
+use Rattle.plan_moves.specs.Changing.{CanChange}
 use Rattle.plan_moves.proofs.board.Board.change.Goals as goal
 
 pub set_start-from-requires-clause-number : goal.set_start-from-requires-clause-number

@@ -1,4 +1,4 @@
-use Rattle.std.proofs.Common.{◌<◌, ◌≡◌, sym, ap, subst, arith, length, IsTrue}
+use Rattle.std.proofs.Common.{◌<◌, sym, ap, subst, arith, length, IsTrue}
 use Rattle.instance_model.specs.Tables.{Tables, is_allowed}
 use Rattle.scenario_rows.specs.RiskStates.{IsOver}
 use Rattle.plan_moves.specs.Boards.{Board, AreRowsOf}

@@ -1,4 +1,4 @@
-use Rattle.std.proofs.Common.{◌≡◌, ◌∙◌, ◌*◌, ◌^◌, ◌<◌, ap, arith, map, Some, unsigned_abs}
+use Rattle.std.proofs.Common.{◌∙◌, ap, arith, map, Some}
 use Rattle.fixed_num.proofs.SignedLemmas.{back_from_abs}
 use Rattle.instance_model.specs.Keys.{violation_of}
 use Rattle.plan_moves.specs.Boards.{Board}

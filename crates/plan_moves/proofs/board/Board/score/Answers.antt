@@ -1,4 +1,4 @@
-use Rattle.std.proofs.Common.{◌≡◌, ◌∙◌, ◌^◌, ◌<◌, ap, subst, arith, map, Some, unsigned_abs}
+use Rattle.std.proofs.Common.{◌∙◌, ap, subst, arith, map, Some}
 use Rattle.fixed_num.proofs.SignedLemmas.{back_from_abs}
 use Rattle.instance_model.specs.Fitting.{IsFitting}
 use Rattle.instance_model.specs.Values.{score_of}

@@ -1,4 +1,4 @@
-use Rattle.std.proofs.Common.{◌≡◌, ◌∙◌, ◌++◌, ◌∷◌, [], sym, ap, subst, ℕ, List}
+use Rattle.std.proofs.Common.{◌∙◌, ◌++◌, ◌∷◌, [], sym, ap, subst, ℕ, List}
 use Rattle.undo_trail.specs.declared.Step.{Step}
 use Rattle.plan_moves.specs.Boards.{Board}
 use Rattle.plan_moves.specs.Changing.{after_change}

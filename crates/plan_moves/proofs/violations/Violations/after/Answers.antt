@@ -1,11 +1,11 @@
-use Rattle.std.proofs.Common.{◌≡◌, ◌∙◌, ◌*◌, ◌^◌, ◌<◌, sym, ap, subst, arith, ℕ, List, length, map, Some, unsigned_abs}
+use Rattle.std.proofs.Common.{◌∙◌, sym, ap, subst, arith, ℕ, List, length, map, Some}
 use Rattle.fixed_num.proofs.SignedLemmas.{back_from_abs}
 use Rattle.undo_trail.specs.declared.Step.{Step}
 use Rattle.instance_model.specs.Plans.{AreAllowedStarts}
 use Rattle.instance_model.specs.Keys.{violation_of}
 use Rattle.plan_moves.specs.Boards.{Board}
 use Rattle.plan_moves.specs.Changing.{after_change}
-use Rattle.plan_moves.specs.Trails.{undone, step_back, NamesBelow}
+use Rattle.plan_moves.specs.Trails.{undone, NamesBelow}
 use Rattle.plan_moves.proofs.ChangingLemmas.{named-step_back, undone-step_back}
 use Rattle.plan_moves.proofs.violations.Violations.after.Goals as goal
 

@@ -1,9 +1,9 @@
-use Rattle.std.proofs.Common.{◌≡◌, ◌∙◌, ◌≤◌, ◌+◌, sym, ap, subst, arith, ℕ, ℤ, List, length}
+use Rattle.std.proofs.Common.{◌≡◌, ◌∙◌, ◌+◌, sym, ap, subst, arith, ℕ, ℤ, List, length}
 use Rattle.fixed_num.proofs.SumLemmas.{length-list_of}
 use Rattle.instance_model.specs.Tables.{scenarios_of, risk_of}
 use Rattle.scenario_rows.specs.RiskStates.{PeriodState}
 use Rattle.scenario_rows.specs.Changes.{CanChange, changed_period}
-use Rattle.scenario_rows.specs.Parts.{AreRowSums, part_in}
+use Rattle.scenario_rows.specs.Parts.{AreRowSums}
 use Rattle.scenario_rows.proofs.RowLemmas.{length-changed_sums, changed_by-risks, length-changed_by, cost_period}
 use Rattle.scenario_rows.proofs.period_row.PeriodRow.change.Goals as goal
 

@@ -1,4 +1,4 @@
-use Rattle.std.proofs.Common.{◌≡◌, ◌∙◌, ◌≤◌, sym, ap, subst, arith, ℤ, List, length, map, Some}
+use Rattle.std.proofs.Common.{◌∙◌, sym, ap, subst, arith, length, map, Some}
 use Rattle.instance_model.proofs.PlanLemmas.{length-scenario_sums}
 use Rattle.scenario_rows.specs.Parts.{AreRowSums}
 use Rattle.scenario_rows.proofs.BoardLemmas.{AreRowSums-scenario_sums}

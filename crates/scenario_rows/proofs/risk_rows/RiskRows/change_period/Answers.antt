@@ -1,5 +1,5 @@
-use Rattle.std.proofs.Common.{◌≡◌, ◌∙◌, ◌-◌, ◌<◌, ◌≤◌, sym, ap, subst, arith, ℕ, ℤ, ◌-ℤ◌, ◌+ℤ◌, List, ◌++◌, take, drop}
-use Rattle.std.proofs.Common.{All, length, get_or}
+use Rattle.std.proofs.Common.{◌≡◌, ◌∙◌, ◌-◌, ◌<◌, ◌≤◌, sym, ap, subst, arith, ℕ, ◌++◌, take, drop}
+use Rattle.std.proofs.Common.{All, length}
 use Rattle.std.proofs.Math.ListN.{set}
 use Rattle.std.proofs.lemmas.List.Elements.{All-set}
 use Rattle.fixed_num.proofs.SumLemmas.{written_back}
@@ -54,4 +54,5 @@ invariant_of-self g c =
           (λ (n : ℕ). All (λ p. length p.sums ≤ n) (set c.self.inside.periods.items (c.args.t - 1) c.change.new.self))
           (sym size) (All-set (λ p. length p.sums ≤ length scratch) c.self.inside.periods.items (c.args.t - 1)
           c.change.new.self (omega (arith, each, fits)) c.self.invariant.room);
+      values_room = c.self.invariant.values_room ∙ sym size;
     }

@@ -1,4 +1,4 @@
-use Rattle.std.proofs.Common.{refl, ◌≡◌, ◌∙◌, ◌+◌, ◌-◌, ◌*◌, ◌<◌, ◌≤◌, sym, ap, subst, arith, ℕ, List, Option, true}
+use Rattle.std.proofs.Common.{refl, ◌≡◌, ◌∙◌, ◌+◌, ◌-◌, ◌*◌, ◌≤◌, sym, ap, subst, arith, ℕ, List, Option, true}
 use Rattle.std.specs.Prelude.{IfSome}
 use Rattle.std.proofs.Math.ListN.{set}
 use Rattle.duration_calendar.specs.declared.window.Window.{Window}
@@ -6,7 +6,8 @@ use Rattle.duration_calendar.proofs.WindowLemmas.{in_window_from}
 use Rattle.instance_model.specs.Tables.{in_run, scenarios_of, delta_of}
 use Rattle.scenario_rows.specs.RiskStates.{RiskState}
 use Rattle.scenario_rows.specs.Bounds.{most_scenarios, period_bound}
-use Rattle.scenario_rows.specs.Changes.{AreChangedBelow, start_after}
+use Rattle.scenario_rows.specs.Changes.{AreChangedBelow}
+use Rattle.scenario_rows.specs.RunChanges.{start_after}
 use Rattle.scenario_rows.proofs.OverLemmas.{AreChangedBelow-start, CanChange-at, AreChangedBelow-more, IsOver-changed}
 use Rattle.scenario_rows.proofs.OverLemmas.{IsOver-same, scenarios_of-most, cost_none, cost_run}
 use Rattle.scenario_rows.proofs.risk_rows.RiskRows.change_run.Goals as goal

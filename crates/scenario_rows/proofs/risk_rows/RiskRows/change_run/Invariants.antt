@@ -2,7 +2,8 @@ use Rattle.std.proofs.Common.{◌≡◌, ◌+◌, ◌-◌, ◌*◌, ◌≤◌}
 use Rattle.std.specs.Prelude.{IfSome}
 use Rattle.std.proofs.Math.ListN.{set}
 use Rattle.scenario_rows.specs.Bounds.{period_bound, most_scenarios}
-use Rattle.scenario_rows.specs.Changes.{AreChangedBelow, start_after}
+use Rattle.scenario_rows.specs.Changes.{AreChangedBelow}
+use Rattle.scenario_rows.specs.RunChanges.{start_after}
 use Rattle.scenario_rows.proofs.risk_rows.RiskRows.change_run.Given as goal
 
 abbrev pub invariant-loop-t : goal.invariant-loop-t

@@ -1,4 +1,4 @@
-use Rattle.std.proofs.Common.{◌≡◌, sym, subst, arith, ℕ, Option, Some, None, get_or, IsTrue}
+use Rattle.std.proofs.Common.{◌≡◌, subst, arith, ℕ, Option, Some, None, get_or, IsTrue}
 use Rattle.std.specs.Prelude.{IfSome}
 use Rattle.std.proofs.lemmas.Grind.{common_steps}
 use Rattle.instance_model.specs.Tables.{is_allowed}

@@ -1,5 +1,4 @@
-use Rattle.std.proofs.Common.{◌≡◌, ◌∙◌, ◌<◌, ◌≤◌, ◌+◌, ◌*◌, ◌^◌, sym, ap, subst, arith, ℕ, ℤ, List, length}
-use Rattle.std.proofs.Common.{unsigned_abs}
+use Rattle.std.proofs.Common.{◌∙◌, ◌≤◌, ◌+◌, ◌*◌, sym, ap, subst, arith, ℕ, ℤ, List, length}
 use Rattle.std.specs.Prelude.{IfSome}
 use Rattle.scenario_rows.specs.Changes.{changed_by}
 use Rattle.scenario_rows.specs.Parts.{AreRowSums}

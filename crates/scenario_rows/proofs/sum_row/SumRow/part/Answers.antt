@@ -1,4 +1,4 @@
-use Rattle.std.proofs.Common.{◌≡◌, ◌∙◌, ◌<◌, ◌≤◌, ◌*◌, ◌^◌, sym, ap, arith, ℤ, unsigned_abs}
+use Rattle.std.proofs.Common.{◌∙◌, ap, arith}
 use Rattle.fixed_num.proofs.SignedLemmas.{back_from_abs}
 use Rattle.scenario_rows.specs.Parts.{part_in}
 use Rattle.scenario_rows.proofs.PartLemmas.{part_made}

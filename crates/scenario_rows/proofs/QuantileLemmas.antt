@@ -1,0 +1,120 @@
+-- How a quantile rises with its sums, and what a period adds with it.
+use Rattle.std.proofs.Common.{◌≡◌, ℕ, zero, suc, ◌-◌, ◌*◌, ◌<◌, ◌≤◌, ◌^◌, refl, sym, arith, ℤ, pos, neg_ℤ, ◌+ℤ◌, ◌-ℤ◌}
+use Rattle.std.proofs.Common.{◌*ℤ◌, ◌<ℤ◌, ◌≤ℤ◌, Bool, true, false, cond, List, [], ◌∷◌, length, get_or, count_by}
+use Rattle.std.proofs.Common.{int_lt, int_le, unsigned_abs}
+use Rattle.std.specs.Int.{int_max}
+use Rattle.std.proofs.lemmas.Int.{by_lt_z}
+use Rattle.std.proofs.lemmas.List.Sums.{sum_by-cons}
+use Rattle.std.proofs.lemmas.List.Elements.{All-contains}
+use borrow.Author.Differences.{at_most_in, le-true, true_is_lt, lt_out}
+use Rattle.fixed_num.specs.Floors.{floor_of}
+use Rattle.fixed_num.specs.Rank.{mth_smallest}
+use Rattle.fixed_num.specs.Sums.{total}
+use Rattle.fixed_num.proofs.FloorLemmas.{floor_of_mono}
+use Rattle.fixed_num.proofs.RankLemmas.{IsMthSmallest-mth_smallest}
+use Rattle.fixed_num.proofs.SignedLemmas.{signed_arith}
+use Rattle.instance_model.specs.Plans.{IsSmallSum}
+use Rattle.instance_model.proofs.DeviationLemmas.{scale_mono}
+use Rattle.scenario_rows.specs.Parts.{AreRowSums, part_in}
+use Rattle.scenario_rows.specs.Shifts.{AreBoundsOf}
+use Rattle.scenario_rows.proofs.PartLemmas.{part_in_is}
+
+-- ---- counts of two lists, place by place
+
+weaker : (p q : Bool) → (p ≡ true → q ≡ true) → cond p 1 0 ≤ cond q 1 0
+weaker true q h = rw (h refl) (omega arith)
+weaker false q h = omega arith
+
+count_moved : (p q : ℤ → Bool) (ys xs : List ℤ) → length ys ≡ length xs
+    → ((k : ℕ) → k < length xs → p (get_or ys k (pos 0)) ≡ true → q (get_or xs k (pos 0)) ≡ true)
+    → count_by p ys ≤ count_by q xs
+count_moved p q [] [] e h = omega arith
+count_moved p q (y ∷ ys) [] e h = absurd (omega (arith, e))
+count_moved p q [] (x ∷ xs) e h = absurd (omega (arith, e))
+count_moved p q (y ∷ ys) (x ∷ xs) e h =
+    let rest = count_moved p q ys xs (omega (arith, e)) (λ k l. h (suc k) (omega (arith, l))) in
+    let here = weaker (p y) (q x) (h zero (omega arith)) in
+    omega (
+      arith,
+      rest,
+      here,
+      sum_by-cons (λ z. cond (p z) 1 0) y ys,
+      sum_by-cons (λ z. cond (q z) 1 0) x xs,
+    )
+
+-- where each number rises by at least d, so does the m-th smallest
+pub mth_smallest-raised : (m : ℕ) (xs ys : List ℤ) (d : ℤ) → 1 ≤ m → m ≤ length xs → length ys ≡ length xs
+    → ((k : ℕ) → k < length xs → (get_or xs k (pos 0) +ℤ d) ≤ℤ get_or ys k (pos 0))
+    → (mth_smallest m xs +ℤ d) ≤ℤ mth_smallest m ys
+mth_smallest-raised m xs ys d one few each h =
+    let q = mth_smallest m xs in
+    let r = mth_smallest m ys in
+    let hx = IsMthSmallest-mth_smallest m xs (omega (arith, one)) few in
+    let hy = IsMthSmallest-mth_smallest m ys (omega (arith, one)) (omega (arith, few, each)) in
+    by_lt_z r (q +ℤ d)
+    (λ l. let c = count_moved (λ y. int_le y r) (λ x. int_lt x q) ys xs each (λ k b e.
+    sym (true_is_lt (get_or xs k (pos 0)) q (lt_out (get_or xs k (pos 0)) q
+    (below (get_or xs k (pos 0)) (get_or ys k (pos 0)) q r (h k b) l
+    (at_most_in (get_or ys k (pos 0)) r (le-true (get_or ys k (pos 0)) r e)))))) in
+    absurd (omega (arith, c, hy.upto, hx.below)))
+    (λ l. l)
+  where
+    below : (x y q r : ℤ) → (x +ℤ d) ≤ℤ y → r <ℤ (q +ℤ d) → y ≤ℤ r → x <ℤ q
+    below x y q r a b c = omega (arith, signed_arith, a, b, c)
+
+-- ---- what a greater quantile adds
+
+max_mono : (a b : ℤ) → a ≤ℤ b → int_max (pos 0) a ≤ℤ int_max (pos 0) b
+max_mono a b h = omega (arith, signed_arith, h)
+
+add_mono : (s a b : ℤ) → a ≤ℤ b → (s +ℤ a) ≤ℤ (s +ℤ b)
+add_mono s a b h = omega (arith, signed_arith, h)
+
+less_mono : (s a b : ℤ) → a ≤ℤ b → (a -ℤ s) ≤ℤ (b -ℤ s)
+less_mono s a b h = omega (arith, signed_arith, h)
+
+part_mono : (a n : ℕ) (q r s : ℤ) → 1 ≤ n → q ≤ℤ r
+    → floor_of ((pos a *ℤ s) +ℤ (pos (1_000_000 - a) *ℤ int_max (pos 0) (pos n *ℤ q -ℤ s))) n
+    ≤ℤ floor_of ((pos a *ℤ s) +ℤ (pos (1_000_000 - a) *ℤ int_max (pos 0) (pos n *ℤ r -ℤ s))) n
+part_mono a n q r s some l =
+    let x = int_max (pos 0) (pos n *ℤ q -ℤ s) in
+    let y = int_max (pos 0) (pos n *ℤ r -ℤ s) in
+    let e = max_mono (pos n *ℤ q -ℤ s) (pos n *ℤ r -ℤ s)
+    (less_mono s (pos n *ℤ q) (pos n *ℤ r) (scale_mono n q r l)) in
+    floor_of_mono ((pos a *ℤ s) +ℤ (pos (1_000_000 - a) *ℤ x)) ((pos a *ℤ s) +ℤ (pos (1_000_000 - a) *ℤ y)) n
+    (omega (arith, some))
+    (add_mono (pos a *ℤ s) (pos (1_000_000 - a) *ℤ x) (pos (1_000_000 - a) *ℤ y) (scale_mono (1_000_000 - a) x y e))
+
+-- from a total and at most a quantile: at most what the sums add
+pub part_in-least : (a rank : ℕ) (xs : List ℤ) (s q : ℤ) → 1 ≤ length xs → AreBoundsOf rank xs s q
+    → floor_of ((pos a *ℤ s) +ℤ (pos (1_000_000 - a) *ℤ int_max (pos 0) (pos (length xs) *ℤ q -ℤ s))) (length xs)
+    ≤ℤ part_in a rank xs
+part_in-least a rank xs s q some b =
+    rw (part_in_is a rank xs, b.total) (part_mono a (length xs) q (mth_smallest rank xs) (total xs) some b.quantile)
+
+-- ---- a bound on a quantile, kept in range
+
+pub small_quantile : (rank : ℕ) (xs : List ℤ) → 1 ≤ rank → rank ≤ length xs → AreRowSums xs
+    → IsSmallSum (mth_smallest rank xs)
+small_quantile rank xs one few row =
+    All-contains IsSmallSum xs (mth_smallest rank xs) row.small
+    (IsMthSmallest-mth_smallest rank xs (omega (arith, one)) few).member
+
+kept_below : (a r : ℤ) → a ≤ℤ r → unsigned_abs r ≤ 1024 * 10 ^ 20
+    → (int_max (neg_ℤ (pos (1024 * 10 ^ 20))) a ≤ℤ r)
+    × (unsigned_abs (int_max (neg_ℤ (pos (1024 * 10 ^ 20))) a) ≤ 1024 * 10 ^ 20)
+kept_below a r h k = (omega (arith, signed_arith, h, k), omega (arith, signed_arith, h, k))
+
+pub AreBoundsOf-raised : (rank : ℕ) (xs ys : List ℤ) (s q d t r : ℤ) → 1 ≤ rank → rank ≤ length xs
+    → length ys ≡ length xs → AreRowSums ys
+    → ((k : ℕ) → k < length xs → (get_or xs k (pos 0) +ℤ d) ≤ℤ get_or ys k (pos 0)) → AreBoundsOf rank xs s q
+    → t ≡ total ys → r ≡ int_max (neg_ℤ (pos (1024 * 10 ^ 20))) (q +ℤ d) → AreBoundsOf rank ys t r
+AreBoundsOf-raised rank xs ys s q d t r one few each row h b et er =
+    let m = mth_smallest-raised rank xs ys d one few each h in
+    let small = small_quantile rank ys one (omega (arith, few, each)) row in
+    let sum = shifted_bound q (mth_smallest rank xs) (mth_smallest rank ys) b.quantile m in
+    let k = kept_below (q +ℤ d) (mth_smallest rank ys) sum small.small in
+    record { total = et; quantile = rw er k.0; small = record { small = rw er k.1 } }
+  where
+    shifted_bound : (q x y : ℤ) → q ≤ℤ x → (x +ℤ d) ≤ℤ y → (q +ℤ d) ≤ℤ y
+    shifted_bound q x y a b = omega (arith, signed_arith, a, b)
