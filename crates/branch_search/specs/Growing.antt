@@ -28,21 +28,21 @@ IsLeafNode (Band c t side) = ⊤
 IsLeafNode (Excl e) = ⊤
 IsLeafNode (Empty i) = ⊤
 
--- number k is a split of i after m
-pub record IsSplitAt (cells : List Cell) (boxes : List (List Span)) (k i m : ℕ) : Type 0 where
-  pub within : (cell_at cells k).left + 1 < length cells
-  pub split : IsSplit (box_at boxes k) i m
-  pub left : box_at boxes (cell_at cells k).left ≡ below (box_at boxes k) i m
-  pub right : box_at boxes ((cell_at cells k).left + 1) ≡ above (box_at boxes k) i m
+-- a split of a box has its parts at a number and the next, of so many numbers
+pub record IsSplitAt (count : ℕ) (boxes : List (List Span)) (box : List Span) (left i m : ℕ) : Type 0 where
+  pub within : left + 1 < count
+  pub split : IsSplit box i m
+  pub left_is : box_at boxes left ≡ below box i m
+  pub right_is : box_at boxes (left + 1) ≡ above box i m
 
--- the parts of a split stand in its two parts
-abbrev pub IsLinked : List Cell → List (List Span) → ℕ → Node → Type 0
-IsLinked cells boxes k (Split i m) = IsSplitAt cells boxes k i m
-IsLinked cells boxes k (Cost j) = ⊤
-IsLinked cells boxes k Point = ⊤
-IsLinked cells boxes k (Band c t side) = ⊤
-IsLinked cells boxes k (Excl e) = ⊤
-IsLinked cells boxes k (Empty i) = ⊤
+-- a leaf has no parts
+abbrev pub IsLinked : ℕ → List (List Span) → List Span → ℕ → Node → Type 0
+IsLinked count boxes box left (Split i m) = IsSplitAt count boxes box left i m
+IsLinked count boxes box left (Cost j) = ⊤
+IsLinked count boxes box left Point = ⊤
+IsLinked count boxes box left (Band c t side) = ⊤
+IsLinked count boxes box left (Excl e) = ⊤
+IsLinked count boxes box left (Empty i) = ⊤
 
 -- number k is a part of the split at its parent, which has a lesser number
 pub record IsPartOf (cells : List Cell) (k p : ℕ) : Type 0 where
@@ -58,7 +58,8 @@ pub record AreBoxesOf (inst : Tables) (cells : List Cell) (boxes : List (List Sp
   pub some : 0 < length cells
   pub root : box_at boxes 0 ≡ root_box inst
   pub boxed : (k : ℕ) → k < length cells → IsBox inst (box_at boxes k)
-  pub linked : (k : ℕ) → k < length cells → IsLinked cells boxes k (node_at cells k)
+  pub linked : (k : ℕ) → k < length cells
+      → IsLinked (length cells) boxes (box_at boxes k) (cell_at cells k).left (node_at cells k)
   pub parts : (k : ℕ) → 0 < k → k < length cells → IsPartOf cells k (cell_at cells k).parent
 
 -- number n becomes a split, of which the parts get the next two numbers

@@ -1,6 +1,6 @@
 -- The shape of a tree under construction: which numbers stand where. Cited by private functions only: no part of any
 -- promise.
-use Rattle.std.specs.Prelude.{◌≡◌, ℕ, suc, ◌+◌, ◌<◌, List, [], ◌∷◌, ◌++◌, length, ◌==◌, if◌then◌else◌, All}
+use Rattle.std.specs.Prelude.{◌≡◌, ℕ, suc, ◌+◌, ◌<◌, List, [], ◌∷◌, ◌++◌, length, ◌==◌, if◌then◌else◌}
 use Rattle.branch_tree.specs.declared.node.Node.{Node}
 use Rattle.branch_tree.specs.declared.node.Node.TheVariants.{Split, Cost, Point, Band, Excl, Empty}
 use Rattle.branch_tree.specs.Trees.{Tree, leaf, split}
@@ -26,10 +26,29 @@ abbrev pub forks : Shape → ℕ
 forks (tip k) = 0
 forks (fork k l r) = suc (forks l + forks r)
 
--- how often a number is among some numbers
-abbrev pub times : ℕ → List ℕ → ℕ
-times j [] = 0
-times j (k ∷ ks) = (if k == j then 1 else 0) + times j ks
+-- how many numbers it has
+abbrev pub size : Shape → ℕ
+size (tip k) = 1
+size (fork k l r) = suc (size l + size r)
+
+-- 1 for the same number, and else 0
+abbrev pub same : ℕ → ℕ → ℕ
+same k j = if k == j then 1 else 0
+
+-- how often it has a number
+abbrev pub times : ℕ → Shape → ℕ
+times j (tip k) = same k j
+times j (fork k l r) = same k j + (times j l + times j r)
+
+-- how often it has a number that is no split
+abbrev pub tips : ℕ → Shape → ℕ
+tips j (tip k) = same k j
+tips j (fork k l r) = tips j l + tips j r
+
+-- all of its numbers are below n
+abbrev pub IsWithin : ℕ → Shape → Type 0
+IsWithin n (tip k) = k < n
+IsWithin n (fork k l r) = (k < n) × IsWithin n l × IsWithin n r
 
 -- number k is a split, and its parts have the numbers a and b
 pub record IsForkAt (cells : List Cell) (k a b : ℕ) : Type 0 where
@@ -48,9 +67,9 @@ Stands cells (fork k l r) = IsForkAt cells k (top l) (top r) × Stands cells l �
 pub record IsShapeOf (cells : List Cell) (shape : Shape) : Type 0 where
   pub stands : Stands cells shape
   pub root : top shape ≡ 0
-  pub once : (k : ℕ) → k < length cells → times k (numbers shape) ≡ 1
-  pub within : All (λ k. k < length cells) (numbers shape)
-  pub count : length (numbers shape) ≡ length cells
+  pub once : (k : ℕ) → k < length cells → times k shape ≡ 1
+  pub within : IsWithin (length cells) shape
+  pub count : size shape ≡ length cells
 
 -- ---- trees
 

@@ -31,3 +31,7 @@ task_of base value inst lists incumbent =
 -- that of one box, where no plan handed in is spoken of
 abbrev pub free_task : Bases → PlanValue → Tables → List PriceList → Task
 free_task base value inst lists = task_of base value inst lists None
+
+-- the same without the plan handed in
+abbrev pub freed : Task → Task
+freed task = free_task task.base task.value task.inst task.lists

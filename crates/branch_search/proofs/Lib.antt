@@ -1,0 +1,11 @@
+pub mod CellLemmas
+pub mod ShapeLemmas
+pub mod TreeLemmas
+pub mod WorthLemmas
+pub mod LeafLemmas
+pub mod EntryLemmas
+pub mod StepLemmas
+pub mod BeginLemmas
+pub mod EndLemmas
+pub mod ClimbLemmas
+pub mod ListLemmas
