@@ -189,7 +189,7 @@ are_boxes_more inst cells boxes n i m a b w known leaf split la lb =
     part_kept : (k p : ℕ) → k < length cells → IsPartOf cells k p → IsPartOf (split_cells cells n i m a b) k p
     part_kept k p l h =
         let d : p ≡ n → ⊥ = λ e. split_is_no_leaf (node_at cells n) h.number h.last
-            (subst (λ (j : ℕ). node_at cells j ≡ Split h.number h.last) e h.node) leaf in
+        (subst (λ (j : ℕ). node_at cells j ≡ Split h.number h.last) e h.node) leaf in
         let same = at_other cells n i m a b known p (omega (arith, h.lesser, l)) d in
         record {
           lesser = h.lesser;

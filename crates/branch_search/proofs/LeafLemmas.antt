@@ -163,11 +163,15 @@ improved_twice task box old mid new first (inl e) =
 improved_twice task box old mid new (inl e) (inr w) =
     inr (subst
     (λ (o : Option (List ℕ)). (plan : List ℕ) × (new ≡ Some plan) × IsBetterIn task box o plan) e w)
-improved_twice task box old mid new (inr (first, f, b)) (inr (plan, e, c)) = inr (plan, e, record {
-  inside = c.inside;
-  better = λ other g. at_most_trans (task.value task.inst plan) (task.value task.inst first)
-      (task.value task.inst other) (c.better first f) (b.better other g);
-})
+improved_twice task box old mid new (inr (first, f, b)) (inr (plan, e, c)) = inr (
+  plan,
+  e,
+  record {
+    inside = c.inside;
+    better = λ other g. at_most_trans (task.value task.inst plan) (task.value task.inst first)
+        (task.value task.inst other) (c.better first f) (b.better other g);
+  },
+)
 
 pub parts_settled : (task : Task) (box : List Span) (i m : ℕ) (old mid new : Option (List ℕ)) (left right : Settled)
     → IsSplit box i m → IsLeafOf task mid (below box i m) left → IsImprovedIn task (below box i m) old mid

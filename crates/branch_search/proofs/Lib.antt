@@ -9,3 +9,7 @@ pub mod BeginLemmas
 pub mod EndLemmas
 pub mod ClimbLemmas
 pub mod ListLemmas
+pub mod StateLemmas
+pub mod SettleLemmas
+pub mod HeapLemmas
+pub mod VolumeLemmas

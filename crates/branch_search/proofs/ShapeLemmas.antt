@@ -100,8 +100,7 @@ module _ (cells : List Cell) (n i m : ℕ) (a b : Node) (known : n < length cell
     where
       split_stands : Stands (split_cells cells n i m a b) (fork n (tip (length cells)) (tip (suc (length cells))))
       split_stands =
-          let e = at_split cells n i m a b known in
-          (
+          let e = at_split cells n i m a b known in (
             record {
               number = i;
               last = m;
@@ -120,8 +119,7 @@ module _ (cells : List Cell) (n i m : ℕ) (a b : Node) (known : n < length cell
       at false e = subst (λ (c : Cell). IsLeafNode c.node)
           (sym (at_other cells n i m a b known k w (eqb-false k n e))) h
   stands-grown (fork k l r) h w =
-      let e = at_other cells n i m a b known k w.0 (fork_apart cells n k (top l) (top r) leaf h.0) in
-      (
+      let e = at_other cells n i m a b known k w.0 (fork_apart cells n k (top l) (top r) leaf h.0) in (
         record {
           number = h.0.number;
           last = h.0.last;

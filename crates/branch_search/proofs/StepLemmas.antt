@@ -38,7 +38,7 @@ part_waits task part box q j p l h = at_most_trans (worth_in task box q) (worth_
     (worth_of_part (task.base task.inst (list_at task.inst task.lists q)) task.inst (list_at task.inst task.lists q)
     part box p h.unrefuted.starts) (h.list.greatest q l)
 
-waits_at : (task : Task) (best : Option (List ℕ)) (box : List Span) (node : Node) (j : ℕ) → node ≡ Cost j
+pub waits_at : (task : Task) (best : Option (List ℕ)) (box : List Span) (node : Node) (j : ℕ) → node ≡ Cost j
     → IsSettled task best box node → IsWaitingBox task box j
 waits_at task best box node j e h = subst (IsSettled task best box) e h
 

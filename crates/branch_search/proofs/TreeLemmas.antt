@@ -82,8 +82,7 @@ module _ (inst : Tables) (cells : List Cell) (boxes : List (List Span)) (w : Are
       (λ (n : Node). IsSplit (box_at boxes k) (number_of n) (last_of n)
       × IsTreeInRange inst lists (below (box_at boxes k) (number_of n) (last_of n)) (tree_of cells l)
       × IsTreeInRange inst lists (above (box_at boxes k) (number_of n) (last_of n)) (tree_of cells r))
-      (sym h.0.node)
-      (
+      (sym h.0.node) (
         p.split,
         subst (λ (b : List Span). IsTreeInRange inst lists b (tree_of cells l)) p.left_is
             (in_range lists each l h.1 v.1),

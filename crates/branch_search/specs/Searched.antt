@@ -102,20 +102,16 @@ pub record IsSearched (base : Bases) (value : PlanValue) (inst : Tables) (prices
   pub tree : Tree
   pub of_nodes : IsTreeOf inst answer.cert tree
   pub holds : All (CertLeafHolds base value inst answer.cert) (leaves (root_box inst) tree)
-
   -- its splits
   pub few : length (split_boxes (root_box inst) tree) ≤ turns
   pub splits : All (IsSplitBox base value inst incumbent answer.cert) (split_boxes (root_box inst) tree)
-
   -- its leaves
   pub bounding : All (λ leaf. IsBounding base value inst answer.cert.lists answer.best leaf.box leaf.node)
       (leaves (root_box inst) tree)
-
   -- the best plan and the bound
   pub best : IsBestOver value inst incumbent answer.best
   pub bound : IsLeastOf (IsAmong base value inst answer.cert.lists answer.best (leaves (root_box inst) tree))
       answer.cert.bound
-
   -- whether the search is unfinished, and what it shows where it isn't
   pub unfinished : IsTrue answer.unfinished
       ↔ Any (IsUnfinishedLeaf base value inst answer.cert.lists answer.best) (leaves (root_box inst) tree)

@@ -12,7 +12,7 @@ mod growth;
 mod nodes;
 mod point;
 mod refuting;
-mod search;
+mod searching;
 mod settling;
 mod splitting;
 mod step;
@@ -21,5 +21,5 @@ mod waiting;
 mod walking;
 mod worths;
 
-pub use search::search;
+pub use searching::search;
 pub use tree_end::TreeEnd;

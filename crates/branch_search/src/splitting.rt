@@ -1,5 +1,6 @@
 //! Where a box is split, and the split of a node.
-ghost use Rattle.std.specs.Prelude.{◌≡◌, ◌<◌, length, IfSome, IfNone, OnOk};
+ghost use Rattle.std.specs.Prelude.{◌≡◌, ℕ, ◌<◌, ◌≤◌, length, IfSome, IfNone, OnOk};
+ghost use Rattle.lagrange_bound.specs.Boxes.{span_of};
 ghost use Rattle.branch_tree.specs.Trees.{IsSplit};
 ghost use Rattle.branch_tree.specs.Holding.{IsSingle};
 ghost use Rattle.branch_search.specs.Growing.{split_cells};
@@ -11,7 +12,8 @@ use std::alloc::AllocError;
 
 /// The middle of the first interval of several starts.
 pub(crate) fn middle(spans: &[Span]) -> Option<(u32, u32)>
-    requires { length spans.now ≤ 1024 }
+    requires few { length spans.now ≤ 1024 }
+    requires order { (i : ℕ) → i < length spans.now → (span_of spans.now i).from ≤ (span_of spans.now i).to }
     ensures some { IfSome result (λ place. IsSplit spans.now place.0 place.1) }
     ensures none { IfNone result (IsSingle spans.now) }
 {

@@ -63,5 +63,9 @@ pub(crate) fn greatest_worth(worths: &Worths, spans: &[Span]) -> (u32, i128)
         return (0, first);
     };
     let second = worth(table, spans);
-    if first < second { (1, second) } else { (0, first) }
+    if first < second {
+        (1, second)
+    } else {
+        (0, first)
+    }
 }

@@ -1,5 +1,7 @@
 //! The search: its contract is `IsSearched`, which says sentence by sentence what a search promises.
-ghost use Rattle.std.specs.Prelude.{◌≡◌, ◌≤◌, ℤ, All, IfOk, OnOk, IfSome, option_map};
+ghost use Rattle.std.specs.Prelude.{◌≡◌, ◌+◌, ◌≤◌, ℤ, false, length, All, IfOk, OnOk, IfSome, option_map};
+ghost use Rattle.instance_model.specs.Naturals.{count_product};
+ghost use Rattle.instance_model.specs.Tables.{tmax};
 ghost use Rattle.lagrange_bound.specs.Prices.{IsPriceList};
 ghost use Rattle.branch_tree.specs.Validity.{IsValid};
 ghost use Rattle.branch_search.specs.Best.{IsFeasiblePlan};
@@ -78,6 +80,10 @@ pub fn search<G: Goal>(
         IsValid (G.base_gives goal.now) (G.value_gives goal.now) inst.now answer.cert) }
     ensures searched { IfOk result (IsSearched (G.base_gives goal.now) (G.value_gives goal.now) inst.now prices
         (option_map (λ given. given.now) incumbent) turns) }
+
+    // With turns for all plans but one, the search is finished.
+    ensures enough { IfOk result (λ answer.
+        count_product (length inst.now.names) (tmax inst.now) ≤ turns + 1 → answer.unfinished ≡ false) }
 {
     inst.fits();
     let lists = list_of(alloc, prices)?;
