@@ -98,14 +98,14 @@ grown_at_first task leaf old new entries fits given feasible h w p =
     record {
       boxes = root_box task.inst ∷ [];
       shape = tip 0;
-      are_boxes = root_boxes task.inst leaf.node fits l.leaf;
-      is_shape = root_shape leaf.node l.leaf;
+      are_boxes = root_boxes task.inst leaf.node fits l.no_split;
+      is_shape = root_shape leaf.node l.no_split;
       splits_are = refl;
       settled = λ k m. only (λ k. IsSettled task new (box_at (root_box task.inst ∷ []) k)
           (node_at ((record { node = leaf.node; parent = 0; left = 0 }) ∷ []) k)) k m l.settled;
       level = λ k a b j m e s. absurd (split_is_no_leaf
           (node_at ((record { node = leaf.node; parent = 0; left = 0 }) ∷ []) k) a b e
-          (only (λ k. IsLeafNode (node_at ((record { node = leaf.node; parent = 0; left = 0 }) ∷ []) k)) k m l.leaf));
+          (only (λ k. IsLeafNode (node_at ((record { node = leaf.node; parent = 0; left = 0 }) ∷ []) k)) k m l.no_split));
       waits = root_entries task (root_box task.inst) leaf new entries l p;
       best_is = still_best task (root_box task.inst) old new (improved_for task (root_box task.inst) old new w)
           (best_at_first task old given feasible);

@@ -315,7 +315,7 @@ module _ (task : Task) (growth : Growth) (g : IsGrowth task growth) (left : Opti
                 let floor = g.state.level k i m j l e s in
                 split_at_most task growth.best left (worth_in task (box_at g.state.boxes k) j) b g.valued
                 (λ z q. left_floor z (left_of left (IsLeftWorth growth.best growth.waiting) z q some)
-                (worth_in task (box_at g.state.boxes k) j) floor) floor.best f;
+                (worth_in task (box_at g.state.boxes k) j) floor) floor.under_best f;
           }
 
       left_floor : (z : ℤ) → IsLeftWorth growth.best growth.waiting z → (y : ℤ)
@@ -323,7 +323,7 @@ module _ (task : Task) (growth : Growth) (g : IsGrowth task growth) (left : Opti
       left_floor z w y h =
           let s = All-contains (λ (e : ℤ × ℕ). IsEntry task growth.cells.items g.state.boxes e) growth.waiting
           (z, w.number) g.state.waits.sound w.member in
-          subst (λ (x : ℤ). y ≤ℤ x) (sym s.worth) (h.costs w.number s.list s.within s.node)
+          subst (λ (x : ℤ). y ≤ℤ x) (sym s.worth) (h.under_costs w.number s.list s.within s.node)
 
       none_unfinished : NoneIsLeft growth.best growth.waiting
           → Any (IsUnfinishedLeaf task.base task.value task.inst task.lists (plan_in growth.best))

@@ -92,8 +92,8 @@ worth_for task box (Empty i) worth h = h
 pub leaf_for : (task : Task) (best : Option (List ℕ)) (box : List Span) (leaf : Settled)
     → IsLeafOf (freed task) best box leaf → IsLeafOf task best box leaf
 leaf_for task best box leaf h = record {
-  leaf = h.leaf;
-  settled = settled_for task best box leaf.node h.leaf h.settled;
+  no_split = h.no_split;
+  settled = settled_for task best box leaf.node h.no_split h.settled;
   worth = worth_for task box leaf.node leaf.worth h.worth;
   small = h.small;
 }
@@ -126,7 +126,7 @@ still_settled task box old new here (Empty i) w h = h
 pub still_leaf : (task : Task) (box : List Span) (old new : Option (List ℕ)) (here : List Span) (leaf : Settled)
     → IsImprovedIn task box old new → IsLeafOf task old here leaf → IsLeafOf task new here leaf
 still_leaf task box old new here leaf w h = record {
-  leaf = h.leaf;
+  no_split = h.no_split;
   settled = still_settled task box old new here leaf.node w h.settled;
   worth = h.worth;
   small = h.small;
@@ -178,8 +178,8 @@ pub parts_settled : (task : Task) (box : List Span) (i m : ℕ) (old mid new : O
     → IsLeafOf task new (above box i m) right → IsImprovedIn task (above box i m) mid new
     → ArePartsOf task box i m old new left right
 parts_settled task box i m old mid new left right s hl il hr ir = record {
-  left = still_leaf task (above box i m) mid new (below box i m) left ir hl;
-  right = hr;
+  left_is = still_leaf task (above box i m) mid new (below box i m) left ir hl;
+  right_is = hr;
   improved = improved_twice task box old mid new
       (improved_in_part task (below box i m) box old mid (below_is_part box i m s) il)
       (improved_in_part task (above box i m) box mid new (above_is_part box i m s) ir);

@@ -81,7 +81,7 @@ waiting_leaf base value inst lists worths best box j z h b u several greatest is
     let list = greatest_is (table_worth worths box) (worth_by base inst lists box) (last_table worths.given)
     (length lists) j (last_is base inst lists worths.given h.given) same greatest in
     record {
-      leaf = tt;
+      no_split = tt;
       settled = record { unrefuted = u; several = several; list = list };
       worth = ap Some (is ∙ same j list.number);
       small = small;

@@ -1,10 +1,10 @@
 -- The state of a search as it is kept: what its calls need, and what a step leaves.
 use Rattle.std.proofs.Common.{◌≡◌, ℕ, zero, suc, ◌+◌, ◌<◌, ◌≤◌, ◌⊎◌, inl, inr, refl, sym, ◌∙◌, ap, subst, arith, ℤ, ◌^◌}
-use Rattle.std.proofs.Common.{◌≤ℤ◌, ◌<ℤ◌, List, [], ◌∷◌, length, All, Contains, Option, Some, None, unsigned_abs}
+use Rattle.std.proofs.Common.{◌≤ℤ◌, ◌<ℤ◌, List, [], ◌∷◌, length, get_or, All, Contains, IfSome, Option, Some, None, unsigned_abs}
 use Rattle.std.proofs.Common.{true, false}
 use Rattle.std.specs.Prelude.{IsPermutation}
 use Rattle.std.proofs.lemmas.Bool.{cases_Bool}
-use Rattle.std.proofs.lemmas.List.Elements.{All-contains, All-cons}
+use Rattle.std.proofs.lemmas.List.Elements.{All-contains, All-nil, All-cons}
 use Rattle.std.proofs.lemmas.List.Sorted.{Contains-permutation}
 use Rattle.fixed_num.proofs.SignedLemmas.{signed_arith}
 use Rattle.instance_model.specs.Naturals.{count_product}
@@ -15,7 +15,9 @@ use Rattle.lagrange_bound.specs.Prices.{PriceList, IsPriceList}
 use Rattle.lagrange_bound.specs.Goals.{Bases, PlanValue}
 use Rattle.lagrange_bound.specs.Boxes.{IsBox}
 use Rattle.lagrange_bound.specs.Worth.{WorthBoundsPlans}
+use Rattle.certificate_lines.specs.declared.line.Version.{Version}
 use Rattle.branch_tree.specs.Trees.{IsSplit}
+use Rattle.branch_tree.specs.Ranges.{HasPricesOf, IsBoundInRange, IsInRange}
 use Rattle.branch_tree.specs.Holding.{IsSingle}
 use Rattle.branch_search.specs.declared.best.Best.{Best}
 use Rattle.branch_search.specs.declared.cell.Cell.{Cell}
@@ -122,7 +124,7 @@ pub answer_is : (task : Task) (growth : Growth) (answer : TreeEnd) (prices : Opt
     → ((z : ℤ) → IsLeftWorth growth.best growth.waiting z → growth.splits ≡ turns)
     → IsSearched task.base task.value task.inst prices task.incumbent turns answer
 answer_is task growth answer prices turns g a lists few spent = searched task growth g a.left a.some a.none prices lists
-    turns few spent answer a.version a.bound a.lists (a.nodes g.state.shape g.state.is_shape) a.best a.unfinished
+    turns few spent answer a.version a.bound a.lists_are (a.nodes g.state.shape g.state.is_shape) a.best a.unfinished
 
 pub enough_turns : (base : Bases) (value : PlanValue) (inst : Tables) (prices : Option PriceList)
     (incumbent : Option (List ℕ)) (turns : ℕ) (answer : TreeEnd) → IsFitting inst
@@ -138,3 +140,29 @@ enough_turns base value inst prices incumbent turns answer fits h enough =
         let v = too_few inst (length answer.cert.lists) h.tree fits h.of_nodes.in_range
         (w.0, w.1, w.2, w.3, w.4.several) in
         absurd (omega (arith, v, h.spent e, enough))
+
+-- ---- ranges
+lists_in_range : (inst : Tables) (prices : Option PriceList) → IfSome prices (IsPriceList inst)
+    → (length (lists_of prices) ≤ 1) × All (IsPriceList inst) (lists_of prices)
+lists_in_range inst None h = (omega arith, All-nil (IsPriceList inst))
+lists_in_range inst (Some prices) h = (omega arith, All-cons (IsPriceList inst) prices [] h (All-nil (IsPriceList inst)))
+
+pub lists_known : (inst : Tables) (prices : Option PriceList) (lists : List PriceList)
+    → IfSome prices (IsPriceList inst) → lists ≡ lists_of prices
+    → (length lists ≤ 1) × All (IsPriceList inst) lists
+lists_known inst prices lists h e =
+    subst (λ (xs : List PriceList). (length xs ≤ 1) × All (IsPriceList inst) xs) (sym e) (lists_in_range inst prices h)
+
+pub answer_in_range : (base : Bases) (value : PlanValue) (inst : Tables) (prices : Option PriceList)
+    (incumbent : Option (List ℕ)) (turns : ℕ) (answer : TreeEnd) → IfSome prices (IsPriceList inst)
+    → IsSearched base value inst prices incumbent turns answer → IsBoundInRange answer.cert.bound
+    → IsInRange inst answer.cert
+answer_in_range base value inst prices incumbent turns answer p h b =
+    let w = lists_known inst prices answer.cert.lists p h.lists in
+    record {
+      bound = b;
+      few = omega (arith, w.0);
+      lists = w.1;
+      version = λ k d l. subst (λ (v : Version). HasPricesOf v (get_or answer.cert.lists k d)) (sym h.version) tt;
+      tree = (h.tree, h.of_nodes);
+    }

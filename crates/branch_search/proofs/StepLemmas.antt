@@ -49,8 +49,8 @@ leaf_of_cost node j e = subst IsLeafNode (sym e) tt
 floor_under : (task : Task) (cells : List Cell) (boxes : List (List Span)) (best : Option (List ℕ)) (y z : ℤ)
     → y ≤ℤ z → IsFloor task cells boxes best z → IsFloor task cells boxes best y
 floor_under task cells boxes best y z l h = record {
-  best = λ plan e. at_most_trans y z (task.value task.inst plan) l (h.best plan e);
-  costs = λ k j m e. at_most_trans y z (worth_in task (box_at boxes k) j) l (h.costs k j m e);
+  under_best = λ plan e. at_most_trans y z (task.value task.inst plan) l (h.under_best plan e);
+  under_costs = λ k j m e. at_most_trans y z (worth_in task (box_at boxes k) j) l (h.under_costs k j m e);
 }
 
 short_floor : (task : Task) (best : Option (List ℕ)) (z : ℤ) → IsShort task.value task.inst best z
@@ -63,8 +63,8 @@ least_floor : (task : Task) (cells : List Cell) (boxes : List (List Span)) (best
     (old rest : List (ℤ × ℕ)) (z : ℤ) (n : ℕ) → AreEntries task cells boxes old → IsPermutation old ((z, n) ∷ rest)
     → All (λ e. z ≤ℤ e.0) rest → IsShort task.value task.inst best z → IsFloor task cells boxes best z
 least_floor task cells boxes best old rest z n h p l s = record {
-  best = short_floor task best z s;
-  costs = λ k j m e. All-contains (λ (x : ℤ × ℕ). z ≤ℤ x.0) ((z, n) ∷ rest) (worth_in task (box_at boxes k) j, k)
+  under_best = short_floor task best z s;
+  under_costs = λ k j m e. All-contains (λ (x : ℤ × ℕ). z ≤ℤ x.0) ((z, n) ∷ rest) (worth_in task (box_at boxes k) j, k)
       (All-cons (λ (x : ℤ × ℕ). z ≤ℤ x.0) (z, n) rest (omega (arith, signed_arith)) l)
       (Contains-permutation old ((z, n) ∷ rest) (worth_in task (box_at boxes k) j, k) p (h.complete k j m e));
 }
@@ -106,10 +106,10 @@ module _ (task : Task) (cells : List Cell) (n i m : ℕ) (left right : Settled) 
     leaf = leaf_of_cost (node_at cells n) entry.list entry.node
 
     one : IsLeafOf task new (below (box_at g.boxes n) i m) left
-    one = leaf_for task new (below (box_at g.boxes n) i m) left parts.left
+    one = leaf_for task new (below (box_at g.boxes n) i m) left parts.left_is
 
     two : IsLeafOf task new (above (box_at g.boxes n) i m) right
-    two = leaf_for task new (above (box_at g.boxes n) i m) right parts.right
+    two = leaf_for task new (above (box_at g.boxes n) i m) right parts.right_is
 
     improved : IsImprovedIn task (box_at g.boxes n) old new
     improved = improved_for task (box_at g.boxes n) old new parts.improved
@@ -151,7 +151,7 @@ module _ (task : Task) (cells : List Cell) (n i m : ℕ) (left right : Settled) 
     best_floor y l h plan e = at improved
       where
         at : IsImprovedIn task (box_at g.boxes n) old new → y ≤ℤ task.value task.inst plan
-        at (inl f) = h.best plan (sym f ∙ e)
+        at (inl f) = h.under_best plan (sym f ∙ e)
         at (inr (other, f, b)) =
             let s = some_is other plan (sym f ∙ e) in
             let bound = law task.inst (list_at task.inst task.lists entry.list) (box_at g.boxes n) other fits
@@ -176,7 +176,7 @@ module _ (task : Task) (cells : List Cell) (n i m : ℕ) (left right : Settled) 
         ∙ ap (λ (c : Cell). c.node) (at_split cells n i m left.node right.node entry.within)) e)
     cost_floor y l h k j e (inr (inl (s, d))) = subst (λ (b : List Span). y ≤ℤ worth_in task b j)
         (sym (box_before g.boxes n i m k (omega (arith, s, each))))
-        (h.costs k j s (sym (ap (λ (c : Cell). c.node)
+        (h.under_costs k j s (sym (ap (λ (c : Cell). c.node)
         (at_other cells n i m left.node right.node entry.within k s d)) ∙ e))
     cost_floor y l h k j e (inr (inr (inl q))) = subst (λ (b : List Span). y ≤ℤ worth_in task b j)
         (sym (box_left g.boxes n i m k (each ∙ q)))
@@ -190,8 +190,8 @@ module _ (task : Task) (cells : List Cell) (n i m : ℕ) (left right : Settled) 
     floor_more : (y : ℤ) → y ≤ℤ z → IsFloor task cells g.boxes old y
         → IsFloor task (split_cells cells n i m left.node right.node) (split_list g.boxes n i m) new y
     floor_more y l h = record {
-      best = best_floor y l h;
-      costs = λ k j s e. cost_floor y l h k j e (where_is (length cells) n k
+      under_best = best_floor y l h;
+      under_costs = λ k j s e. cost_floor y l h k j e (where_is (length cells) n k
           (omega (arith, s, length_split cells n i m left.node right.node entry.within)));
     }
 
@@ -219,20 +219,20 @@ module _ (task : Task) (cells : List Cell) (n i m : ℕ) (left right : Settled) 
         (sym (box_before g.boxes n i m k (omega (arith, l, each))))
         (floor_more (worth_in task (box_at g.boxes k) j)
         (subst (λ (y : ℤ). worth_in task (box_at g.boxes k) j ≤ℤ y) (sym entry.worth)
-        (h.costs n entry.list entry.within entry.node)) h)
+        (h.under_costs n entry.list entry.within entry.node)) h)
     level_at k a b j e s (inr (inr (inl q))) = absurd (no_split k a b left.node
-        (ap (λ (c : Cell). c.node) (at_left cells n i m left.node right.node entry.within k q)) one.leaf e)
+        (ap (λ (c : Cell). c.node) (at_left cells n i m left.node right.node entry.within k q)) one.no_split e)
     level_at k a b j e s (inr (inr (inr q))) = absurd (no_split k a b right.node
-        (ap (λ (c : Cell). c.node) (at_right cells n i m left.node right.node entry.within k q)) two.leaf e)
+        (ap (λ (c : Cell). c.node) (at_right cells n i m left.node right.node entry.within k q)) two.no_split e)
 
     pub grown_more : IsGrown task (split_cells cells n i m left.node right.node) after new (splits + 1)
     grown_more = record {
       boxes = split_list g.boxes n i m;
       shape = grown n (length cells) g.shape;
       are_boxes = are_boxes_more task.inst cells g.boxes n i m left.node right.node g.are_boxes entry.within leaf split
-          one.leaf two.leaf;
-      is_shape = shape_more cells n i m left.node right.node entry.within leaf one.leaf two.leaf g.shape g.is_shape;
-      splits_are = forks_more cells n i m left.node right.node entry.within leaf one.leaf two.leaf g.shape g.is_shape
+          one.no_split two.no_split;
+      is_shape = shape_more cells n i m left.node right.node entry.within leaf one.no_split two.no_split g.shape g.is_shape;
+      splits_are = forks_more cells n i m left.node right.node entry.within leaf one.no_split two.no_split g.shape g.is_shape
           ∙ ap (λ (t : ℕ). t + 1) g.splits_are;
       settled = λ k l. settled_at k (where_is (length cells) n k
           (omega (arith, l, length_split cells n i m left.node right.node entry.within)));

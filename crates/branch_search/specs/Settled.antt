@@ -52,7 +52,7 @@ IsImprovedIn task box old new =
 
 -- a leaf that is right for its box, and the worth of the box where it waits
 pub record IsLeafOf (task : Task) (best : Option (List ℕ)) (box : List Span) (leaf : Settled) : Type 0 where
-  pub leaf : IsLeafNode leaf.node
+  pub no_split : IsLeafNode leaf.node
   pub settled : IsSettled task best box leaf.node
   pub worth : IsWorthOf task box leaf.node leaf.worth
   pub small : IfSome leaf.worth (λ z. unsigned_abs z < 10 ^ 37)
@@ -60,6 +60,6 @@ pub record IsLeafOf (task : Task) (best : Option (List ℕ)) (box : List Span) (
 -- the two leaves are those of the parts of a split, and the best plan may have become better in either
 pub record ArePartsOf (task : Task) (box : List Span) (i m : ℕ) (old new : Option (List ℕ))
     (left right : Settled) : Type 0 where
-  pub left : IsLeafOf task new (below box i m) left
-  pub right : IsLeafOf task new (above box i m) right
+  pub left_is : IsLeafOf task new (below box i m) left
+  pub right_is : IsLeafOf task new (above box i m) right
   pub improved : IsImprovedIn task box old new

@@ -47,8 +47,8 @@ pub record AreEntries (task : Task) (cells : List Cell) (boxes : List (List Span
 -- z is at most the value of the best plan, and at most the worth of each `cost` leaf
 pub record IsFloor (task : Task) (cells : List Cell) (boxes : List (List Span)) (best : Option (List ℕ))
     (z : ℤ) : Type 0 where
-  pub best : (plan : List ℕ) → best ≡ Some plan → z ≤ℤ task.value task.inst plan
-  pub costs : (k j : ℕ) → k < length cells → node_at cells k ≡ Cost j → z ≤ℤ worth_in task (box_at boxes k) j
+  pub under_best : (plan : List ℕ) → best ≡ Some plan → z ≤ℤ task.value task.inst plan
+  pub under_costs : (k j : ℕ) → k < length cells → node_at cells k ≡ Cost j → z ≤ℤ worth_in task (box_at boxes k) j
 
 -- ---- the state
 
@@ -100,7 +100,7 @@ bound_with None (Some best) = Least best.value
 -- an answer says what is kept
 pub record IsAnswerOf (growth : Growth) (lists : List PriceList) (answer : TreeEnd) : Type 0 where
   pub version : answer.cert.version ≡ Two
-  pub lists : answer.cert.lists ≡ lists
+  pub lists_are : answer.cert.lists ≡ lists
   pub nodes : (shape : Shape) → IsShapeOf growth.cells.items shape
       → answer.cert.nodes ≡ map (node_at growth.cells.items) (numbers shape)
   pub best : answer.best ≡ plan_in growth.best

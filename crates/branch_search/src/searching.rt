@@ -3,6 +3,7 @@ ghost use Rattle.std.specs.Prelude.{◌≡◌, ◌+◌, ◌≤◌, ℤ, false, l
 ghost use Rattle.instance_model.specs.Naturals.{count_product};
 ghost use Rattle.instance_model.specs.Tables.{tmax};
 ghost use Rattle.lagrange_bound.specs.Prices.{IsPriceList};
+ghost use Rattle.branch_tree.specs.Ranges.{IsBoundInRange, IsInRange};
 ghost use Rattle.branch_tree.specs.Validity.{IsValid};
 ghost use Rattle.branch_search.specs.Best.{IsFeasiblePlan};
 ghost use Rattle.branch_search.specs.Searched.{lists_of, IsSearched};
@@ -47,7 +48,7 @@ fn grow<G: Goal>(
         lists.now (option_map (λ given. given.now) incumbent)) growth.old }
     requires none { growth.old.splits ≡ 0 }
     ensures state { OnOk result (IsGrowth (task_of (G.base_gives goal.now) (G.value_gives goal.now) inst.now
-        lists.now (option_map (λ given. given.now) incumbent)) growth.new) }
+        lists.now (option_map (λ given. given.now) incumbent.entry)) growth.new) }
     ensures few { OnOk result (growth.new.splits ≤ turns) }
     ensures spent { OnOk result
         ((z : ℤ) → IsLeftWorth growth.new.best growth.new.waiting z → growth.new.splits ≡ turns) }
@@ -79,7 +80,11 @@ pub fn search<G: Goal>(
     ensures valid { IfOk result (λ answer.
         IsValid (G.base_gives goal.now) (G.value_gives goal.now) inst.now answer.cert) }
     ensures searched { IfOk result (IsSearched (G.base_gives goal.now) (G.value_gives goal.now) inst.now prices
-        (option_map (λ given. given.now) incumbent) turns) }
+        (option_map (λ given. given.now) incumbent.entry) turns) }
+
+    // The certificate is in range where its bound is.
+    ensures in_range { IfOk result (λ answer.
+        IsBoundInRange answer.cert.bound → IsInRange inst.now answer.cert) }
 
     // With turns for all plans but one, the search is finished.
     ensures enough { IfOk result (λ answer.

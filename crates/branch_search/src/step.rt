@@ -28,7 +28,7 @@ fn given_best<G: Goal>(
     incumbent: Option<&[u32]>,
 ) -> Result<Option<Best>, AllocError>
     requires { IfSome incumbent (λ given. IsFeasiblePlan inst.now given.now) }
-    ensures plan { IfOk result (λ best. plan_in best ≡ option_map (λ given. given.now) incumbent) }
+    ensures plan { IfOk result (λ best. plan_in best ≡ option_map (λ given. given.now) incumbent.entry) }
     ensures valued { IfOk result (IsValued (G.value_gives goal.now) inst.now) }
 {
     let Some(given) = incumbent else {
@@ -54,7 +54,7 @@ pub(crate) fn begin<G: Goal>(
     requires worths { AreWorthsOf (G.base_gives goal.now) inst.now lists.now worths.now }
     requires incumbent { IfSome incumbent (λ given. IsFeasiblePlan inst.now given.now) }
     ensures state { IfOk result (λ growth. IsGrowth (task_of (G.base_gives goal.now) (G.value_gives goal.now) inst.now
-        lists.now (option_map (λ given. given.now) incumbent)) growth) }
+        lists.now (option_map (λ given. given.now) incumbent.entry)) growth) }
     ensures none { IfOk result (λ growth. growth.splits ≡ 0) }
 {
     inst.fits();
@@ -108,7 +108,7 @@ pub(crate) fn split_least<G: Goal>(
     requires left { (z : ℤ) × IsLeftWorth growth.old.best growth.old.waiting z }
     requires turns { growth.old.splits < 4_294_967_295 }
     ensures state { OnOk result (IsGrowth (task_of (G.base_gives goal.now) (G.value_gives goal.now) inst.now
-        lists.now (option_map (λ given. given.now) incumbent)) growth.new) }
+        lists.now (option_map (λ given. given.now) incumbent.entry)) growth.new) }
     ensures one { OnOk result (growth.new.splits ≡ growth.old.splits + 1) }
 {
     inst.fits();
