@@ -301,6 +301,13 @@ module _ (task : Task) (growth : Growth) (g : IsGrowth task growth) (left : Opti
     finished = finished_of task.value task.inst growth.best left g.valued;
   }
     where
+      left_floor : (z : ℤ) → IsLeftWorth growth.best growth.waiting z → (y : ℤ)
+          → IsFloor task growth.cells.items g.state.boxes (plan_in growth.best) y → y ≤ℤ z
+      left_floor z w y h =
+          let s = All-contains (λ (e : ℤ × ℕ). IsEntry task growth.cells.items g.state.boxes e) growth.waiting
+          (z, w.number) g.state.waits.sound w.member in
+          subst (λ (x : ℤ). y ≤ℤ x) (sym s.worth) (h.under_costs w.number s.list s.within s.node)
+
       split_box : (k i m : ℕ) → k < length growth.cells.items → node_at growth.cells.items k ≡ Split i m
           → IsSplitBox task.base task.value task.inst task.incumbent
           (answer_of Two (bound_with left growth.best) task.lists
@@ -317,13 +324,6 @@ module _ (task : Task) (growth : Growth) (g : IsGrowth task growth) (left : Opti
                 (λ z q. left_floor z (left_of left (IsLeftWorth growth.best growth.waiting) z q some)
                 (worth_in task (box_at g.state.boxes k) j) floor) floor.under_best f;
           }
-
-      left_floor : (z : ℤ) → IsLeftWorth growth.best growth.waiting z → (y : ℤ)
-          → IsFloor task growth.cells.items g.state.boxes (plan_in growth.best) y → y ≤ℤ z
-      left_floor z w y h =
-          let s = All-contains (λ (e : ℤ × ℕ). IsEntry task growth.cells.items g.state.boxes e) growth.waiting
-          (z, w.number) g.state.waits.sound w.member in
-          subst (λ (x : ℤ). y ≤ℤ x) (sym s.worth) (h.under_costs w.number s.list s.within s.node)
 
       none_unfinished : NoneIsLeft growth.best growth.waiting
           → Any (IsUnfinishedLeaf task.base task.value task.inst task.lists (plan_in growth.best))

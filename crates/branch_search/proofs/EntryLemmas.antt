@@ -24,6 +24,9 @@ use Rattle.branch_search.proofs.CellLemmas.{box_right, cost_is_no_split, Where, 
 use Rattle.branch_search.proofs.LeafLemmas.{none_is_not_some, some_is}
 
 -- ---- counting
+abbrev one_if : Bool → ℕ
+one_if b = cond b 1 0
+
 abbrev pub is_of : ℕ → ℤ × ℕ → ℕ
 is_of k entry = cond (eqb entry.1 k) 1 0
 
@@ -31,7 +34,7 @@ none_counted : (n k : ℕ) (entries : List (ℤ × ℕ)) → All (λ entry. entr
     → entries_of k entries ≡ 0
 none_counted n k [] h l = refl
 none_counted n k (e ∷ es) h l =
-    let z = ap (λ (b : Bool). cond b 1 0) (ne_eqb e.1 k
+    let z = ap one_if (ne_eqb e.1 k
     (let m = All-head (λ (entry : ℤ × ℕ). entry.1 < n) e es h in λ f. omega (arith, f, m, l))) in
     let r = none_counted n k es (All-tail (λ (entry : ℤ × ℕ). entry.1 < n) e es h) l in
     let s = sum_by-cons (is_of k) e es in
@@ -42,7 +45,7 @@ uncounted k [] h = All-nil (λ (entry : ℤ × ℕ). entry.1 ≡ k → ⊥)
 uncounted k (e ∷ es) h =
     let s = sum_by-cons (is_of k) e es in
     All-cons (λ (entry : ℤ × ℕ). entry.1 ≡ k → ⊥) e es
-    (λ f. let o = ap (λ (b : Bool). cond b 1 0) (eq-eqb e.1 k f) in
+    (λ f. let o = ap one_if (eq-eqb e.1 k f) in
     let t : is_of k e ≡ 1 = o in omega (arith, s, t, h))
     (uncounted k es (omega (arith, s, h)))
 
@@ -53,7 +56,7 @@ counted_in (Some z) n k = cond (eqb n k) 1 0
 
 pub counted_with : (worth : Option ℤ) (n k : ℕ) (old new : List (ℤ × ℕ)) → IsPermutation (with_entry worth n old) new
     → entries_of k new ≡ counted_in worth n k + entries_of k old
-counted_with None n k old new p = sum_by-IsPermutation (is_of k) old new p
+counted_with None n k old new p = let e = sum_by-IsPermutation (is_of k) old new p in omega (arith, e)
 counted_with (Some z) n k old new p = sum_by_pushed (is_of k) (z, n) old new p
 
 pub counted_at_most : (worth : Option ℤ) (n k : ℕ) → counted_in worth n k ≤ 1
@@ -66,7 +69,7 @@ counted_at_most (Some z) n k = at (eqb n k)
 
 counted_not : (worth : Option ℤ) (n k : ℕ) → (n ≡ k → ⊥) → counted_in worth n k ≡ 0
 counted_not None n k d = refl
-counted_not (Some z) n k d = ap (λ (b : Bool). cond b 1 0) (ne_eqb n k d)
+counted_not (Some z) n k d = ap one_if (ne_eqb n k d)
 
 pub all_with : (P : ℤ × ℕ → Type 0) (worth : Option ℤ) (n : ℕ) (old new : List (ℤ × ℕ))
     → IsPermutation (with_entry worth n old) new → ((z : ℤ) → worth ≡ Some z → P (z, n)) → All P old → All P new
@@ -153,7 +156,7 @@ module _ (task : Task) (cells : List Cell) (boxes : List (List Span)) (n i m : �
       count_after k = let c = sum_by_popped (is_of k) (z, n) old rest p in let o = h.once k in omega (arith, c, o)
 
       n_is_out : entries_of n rest ≡ 0
-      n_is_out = let c = count_after n in let t = ap (λ (x : Bool). cond x 1 0) (eq-eqb n n refl) in
+      n_is_out = let c = count_after n in let t = ap one_if (eq-eqb n n refl) in
           let s : is_of n (z, n) ≡ 1 = t in omega (arith, c, s)
 
       rest_sound : All (IsEntry task (split_cells cells n i m a b) (split_list boxes n i m)) rest

@@ -13,3 +13,4 @@ pub mod StateLemmas
 pub mod SettleLemmas
 pub mod HeapLemmas
 pub mod VolumeLemmas
+pub mod RefutingLemmas

@@ -93,7 +93,7 @@ one_more nodes n xs = append_assoc nodes (n ∷ []) xs
 pub leaf_listed : (cells : List Cell) (shape : Shape) (nodes : List Node) (rest : List ℕ) (k : ℕ)
     → IsAtTop cells shape nodes rest k → ((i m : ℕ) → node_at cells k ≡ Split i m → ⊥)
     → IsListed cells shape (nodes ++ node_at cells k ∷ []) rest
-leaf_listed cells shape nodes rest k h no = at h.first h.top_is h.stands h.whole
+leaf_listed cells shape nodes rest k h apart = at h.first h.top_is h.stands h.whole
   where
     at : (first : Shape) → top first ≡ k → Stands cells first
         → nodes ++ map (node_at cells) (numbers first ++ all_numbers h.others) ≡ map (node_at cells) (numbers shape)
@@ -106,7 +106,7 @@ leaf_listed cells shape nodes rest k h no = at h.first h.top_is h.stands h.whole
       whole = one_more nodes (node_at cells k) (map (node_at cells) (all_numbers h.others))
           ∙ ap (λ (t : ℕ). nodes ++ (node_at cells t ∷ map (node_at cells) (all_numbers h.others))) (sym e) ∙ q;
     }
-    at (fork j l r) e s q = absurd (no s.0.number s.0.last (ap (node_at cells) (sym e) ∙ s.0.node))
+    at (fork j l r) e s q = absurd (apart s.0.number s.0.last (ap (node_at cells) (sym e) ∙ s.0.node))
 
 -- the parts of a split at the top
 pub record ArePartsAt (cells : List Cell) (shape : Shape) (nodes : List Node) (rest : List ℕ) (k : ℕ) : Type 0 where
@@ -135,8 +135,8 @@ split_listed cells shape nodes rest k i m h node = at h.first h.top_is h.stands 
                 ∙ ap (λ (x : ℕ). x ∷ ((cell_at cells k).left + 1) ∷ reverse rest) (sym a)
                 ∙ ap (λ (x : ℕ). top l ∷ x ∷ reverse rest) (sym b)
                 ∙ ap (λ (xs : List ℕ). top l ∷ top r ∷ xs) h.tops;
-            stand = (s.1, s.2, h.stand);
-            within = (w.1, w.2, h.within);
+            stand = (s.1, (s.2, h.stand));
+            within = (w.1, (w.2, h.within));
             whole = one_more nodes (node_at cells k)
                 (map (node_at cells) (numbers l ++ (numbers r ++ all_numbers h.others)))
                 ∙ ap (λ (t : ℕ). nodes ++ (node_at cells t

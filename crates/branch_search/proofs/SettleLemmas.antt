@@ -3,18 +3,19 @@ use Rattle.std.proofs.Common.{◌≡◌, ℕ, zero, suc, ◌+◌, ◌<◌, ◌�
 use Rattle.std.proofs.Common.{◌≤ℤ◌, ◌<ℤ◌, List, [], ◌∷◌, length, map, get_or, All, Option, Some, None, is_some, Bool, true, false}
 use Rattle.std.proofs.Common.{unsigned_abs}
 use Rattle.std.proofs.lemmas.Bool.{true≢false}
+use Rattle.std.proofs.lemmas.List.{get_or_default}
 use Rattle.fixed_num.proofs.SignedLemmas.{signed_arith}
 use Rattle.instance_model.specs.declared.rule.Rule.{Rule}
 use Rattle.instance_model.specs.Tables.{Tables}
 use Rattle.instance_model.specs.Plans.{AreAllowedStarts}
 use Rattle.instance_model.specs.Rules.{first_rule, IsFeasible}
 use Rattle.lagrange_bound.specs.declared.span.Span.{Span}
-use Rattle.lagrange_bound.specs.Prices.{PriceList}
+use Rattle.lagrange_bound.specs.Prices.{PriceList, zero_list}
 use Rattle.lagrange_bound.specs.Goals.{Bases, PlanValue}
 use Rattle.lagrange_bound.specs.Boxes.{span_of, IsBox, HasStarts, IsPlanIn}
 use Rattle.lagrange_bound.specs.Tabulated.{PriceRows, IsPricedBox}
 use Rattle.branch_tree.specs.declared.node.Node.TheVariants.{Cost}
-use Rattle.branch_tree.specs.Holding.{IsSingle, first_starts}
+use Rattle.branch_tree.specs.Holding.{IsSingle, first_starts, list_at}
 use Rattle.branch_tree.proofs.Refuting.{feasible_allowed, length-first_starts}
 use Rattle.branch_search.specs.declared.settling.Settled.{Settled}
 use Rattle.branch_search.specs.declared.worths.Worths.{Worths}
@@ -121,4 +122,33 @@ point_plan inst box b s f = record {
   from = λ i l. let e = first_start_is box i (omega (arith, l, b.each)) in omega (arith, e);
   to = λ i l. let e = first_start_is box i (omega (arith, l, b.each)) in
       let o = s i (omega (arith, l, b.each)) in omega (arith, e, o);
+}
+
+-- ---- tables that were made
+zero_is : (inst : Tables) (lists : List PriceList) → list_at inst lists 0 ≡ zero_list inst
+unfolding list_at
+zero_is inst lists = refl
+
+first_is : (inst : Tables) (lists : List PriceList) (prices : PriceList) → 0 < length lists
+    → prices ≡ get_or lists 0 prices → prices ≡ list_at inst lists 1
+unfolding list_at
+first_is inst lists prices l e = e ∙ get_or_default lists 0 prices (zero_list inst) l
+
+pub given_table_is : (base : Bases) (inst : Tables) (lists : List PriceList) (prices : PriceList) (table : PriceRows)
+    → length lists ≤ 1 → (length lists ≡ 0 → ⊥) → prices ≡ get_or lists 0 prices → IsTableOf base inst prices table
+    → IsGivenTable base inst lists (Some table)
+given_table_is base inst lists prices table few some e h =
+    let one : length lists ≡ 1 = at (length lists) few some in
+    (one, subst (λ (p : PriceList). IsTableOf base inst p table) (first_is inst lists prices (omega (arith, one)) e) h)
+  where
+    at : (n : ℕ) → n ≤ 1 → (n ≡ 0 → ⊥) → n ≡ 1
+    at zero l d = absurd (d refl)
+    at (suc n) l d = omega (arith, l)
+
+pub worths_are : (base : Bases) (inst : Tables) (lists : List PriceList) (worths : Worths) (none : PriceList)
+    → none ≡ zero_list inst → IsTableOf base inst none worths.zero → IsGivenTable base inst lists worths.given
+    → AreWorthsOf base inst lists worths
+worths_are base inst lists worths none e h g = record {
+  zero = subst (λ (p : PriceList). IsTableOf base inst p worths.zero) (e ∙ sym (zero_is inst lists)) h;
+  given = g;
 }

@@ -32,7 +32,7 @@ use Rattle.branch_search.specs.Settled.{ArePartsOf}
 use Rattle.branch_search.specs.Valued.{plan_in, IsSmallValue, IsBelow, IsValued}
 use Rattle.branch_search.specs.Entries.{with_entry}
 use Rattle.branch_search.specs.States.{IsEntry, IsGrown, IsGrowth, IsLeftWorth, IsKept, IsAnswerOf}
-use Rattle.branch_search.proofs.LeafLemmas.{at_most_below}
+use Rattle.branch_search.proofs.LeafLemmas.{at_most_below, below_is_at_most}
 use Rattle.branch_search.proofs.EntryLemmas.{popped}
 use Rattle.branch_search.proofs.StepLemmas.{waits_at, grown_more}
 use Rattle.branch_search.proofs.EndLemmas.{below_short, searched}
@@ -88,6 +88,15 @@ popped_several task growth g rest y n spans p e s =
     let x = popped_entry task growth g rest y n p in
     (waits_at task (plan_in growth.best) (box_at g.state.boxes n) (node_at growth.cells.items n) x.list x.node (g.state.settled n x.within)).several
     (subst IsSingle e s)
+
+-- a plan whose value is below that of the best one is better
+pub better_than : (value : PlanValue) (inst : Tables) (best : Option Best) (z : ℤ) (starts plan : List ℕ)
+    → starts ≡ plan → IsValued value inst best → IsBelow best z → z ≡ value inst starts → (other : List ℕ)
+    → plan_in best ≡ Some other → value inst plan ≤ℤ value inst other
+better_than value inst best z starts plan e v b is other f =
+    let s = subst (λ (o : Option (List ℕ)). IsShort value inst o z) f (below_short value inst best z v b) in
+    below_is_at_most (value inst plan) (value inst other)
+    (subst (λ (x : ℤ). x <ℤ value inst other) (is ∙ ap (value inst) e) s)
 
 -- ---- a step
 pub step_kept : (task : Task) (old new : Growth) (n i m c1 c2 : ℕ) (left right : Settled) (y z : ℤ)

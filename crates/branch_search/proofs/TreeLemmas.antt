@@ -150,24 +150,27 @@ module _ (inst : Tables) (cells : List Cell) (boxes : List (List Span)) (w : Are
       (λ (n : Node). Any P (leaves (below (box_at boxes k) (number_of n) (last_of n)) (tree_of cells l)
       ++ leaves (above (box_at boxes k) (number_of n) (last_of n)) (tree_of cells r)))
       (sym h.0.node)
-      (at p.left_is p.right_is (eqb k j) refl some (cases_lt 0 (times j l)))
+      (at p.left_is p.right_is (λ o. some_leaf P j lj here l h.1 v.1 o) (λ o. some_leaf P j lj here r h.2 v.2 o) (eqb k j) refl
+      some (cases_lt 0 (times j l)))
     where
       at : box_at boxes (top l) ≡ below (box_at boxes k) h.0.number h.0.last
           → box_at boxes (top r) ≡ above (box_at boxes k) h.0.number h.0.last
+          → (0 < times j l → Any P (leaves (box_at boxes (top l)) (tree_of cells l)))
+          → (0 < times j r → Any P (leaves (box_at boxes (top r)) (tree_of cells r)))
           → (b : Bool) → eqb k j ≡ b → 0 < cond b 1 0 + (times j l + times j r)
           → (0 < times j l) ⊎ (times j l ≤ 0)
           → Any P (leaves (below (box_at boxes k) h.0.number h.0.last) (tree_of cells l)
           ++ leaves (above (box_at boxes k) h.0.number h.0.last) (tree_of cells r))
-      at el er true e s o = absurd (split_is_no_leaf (node_at cells j) h.0.number h.0.last
+      at el er il ir true e s o = absurd (split_is_no_leaf (node_at cells j) h.0.number h.0.last
           (subst (λ (i : ℕ). node_at cells i ≡ Split h.0.number h.0.last) (eqb-true k j e) h.0.node) lj)
-      at el er false e s (inl o) =
+      at el er il ir false e s (inl o) =
           let x = subst (λ (b : List Span). Any P (leaves b (tree_of cells l))) el
-          (some_leaf P j lj here l h.1 v.1 o) in
+          (il o) in
           any_left P (leaves (below (box_at boxes k) h.0.number h.0.last) (tree_of cells l))
           (leaves (above (box_at boxes k) h.0.number h.0.last) (tree_of cells r)) x
-      at el er false e s (inr o) =
+      at el er il ir false e s (inr o) =
           let x = subst (λ (b : List Span). Any P (leaves b (tree_of cells r))) er
-          (some_leaf P j lj here r h.2 v.2 (omega (arith, s, o))) in
+          (ir (omega (arith, s, o))) in
           any_right P (leaves (below (box_at boxes k) h.0.number h.0.last) (tree_of cells l))
           (leaves (above (box_at boxes k) h.0.number h.0.last) (tree_of cells r)) x
 

@@ -36,23 +36,26 @@ product_some (suc n) f h = mul-le 1 1 (count_product n f) (f n) (product_some n 
 product_several : (n : ℕ) (f : ℕ → ℕ) (i : ℕ) → ((j : ℕ) → j < n → 1 ≤ f j) → i < n → 2 ≤ f i → 2 ≤ count_product n f
 unfolding count_product
 product_several zero f i h l two = absurd (omega (arith, l))
-product_several (suc n) f i h l two = at (eq-or-lt_of_le (let m : i ≤ n = omega (arith, l) in m))
+product_several (suc n) f i h l two =
+    at (λ m. product_several n f i (λ j k. h j (omega (arith, k))) m two)
+    (eq-or-lt_of_le (let m : i ≤ n = omega (arith, l) in m))
   where
-    at : (i ≡ n) ⊎ (i < n) → 2 ≤ count_product n f * f n
-    at (inl e) = mul-le 1 2 (count_product n f) (f n) (product_some n f (λ j m. h j (omega (arith, m))))
+    at : (i < n → 2 ≤ count_product n f) → (i ≡ n) ⊎ (i < n) → 2 ≤ count_product n f * f n
+    at ih (inl e) = mul-le 1 2 (count_product n f) (f n) (product_some n f (λ j m. h j (omega (arith, m))))
         (subst (λ (k : ℕ). 2 ≤ f k) e two)
-    at (inr m) = mul-le 2 1 (count_product n f) (f n) (product_several n f i (λ j k. h j (omega (arith, k))) m two)
-        (h n (omega arith))
+    at ih (inr m) = mul-le 2 1 (count_product n f) (f n) (ih m) (h n (omega arith))
 
 -- one factor is the sum of two
 product_parts : (n i : ℕ) (f g h : ℕ → ℕ) → i < n → f i + g i ≡ h i → ((j : ℕ) → (j ≡ i → ⊥) → f j ≡ h j)
     → ((j : ℕ) → (j ≡ i → ⊥) → g j ≡ h j) → count_product n f + count_product n g ≡ count_product n h
 unfolding count_product
 product_parts zero i f g h l e u v = absurd (omega (arith, l))
-product_parts (suc n) i f g h l e u v = at (eq-or-lt_of_le (let m : i ≤ n = omega (arith, l) in m))
+product_parts (suc n) i f g h l e u v =
+    at (λ m. product_parts n i f g h m e u v) (eq-or-lt_of_le (let m : i ≤ n = omega (arith, l) in m))
   where
-    at : (i ≡ n) ⊎ (i < n) → count_product n f * f n + count_product n g * g n ≡ count_product n h * h n
-    at (inl q) =
+    at : (i < n → count_product n f + count_product n g ≡ count_product n h) → (i ≡ n) ⊎ (i < n)
+        → count_product n f * f n + count_product n g * g n ≡ count_product n h * h n
+    at ih (inl q) =
         let a = product_same n f h (λ j m. u j (λ r. omega (arith, r, q, m))) in
         let b = product_same n g h (λ j m. v j (λ r. omega (arith, r, q, m))) in
         let c : f n + g n ≡ h n = subst (λ (k : ℕ). f k + g k ≡ h k) q e in
@@ -61,10 +64,10 @@ product_parts (suc n) i f g h l e u v = at (eq-or-lt_of_le (let m : i ≤ n = om
       where
         spread : (x a b : ℕ) → x * a + x * b ≡ x * (a + b)
         spread x a b = omega arith
-    at (inr m) =
+    at ih (inr m) =
         let a = u n (λ r. omega (arith, r, m)) in
         let b = v n (λ r. omega (arith, r, m)) in
-        let c = product_parts n i f g h m e u v in
+        let c = ih m in
         ap (λ (x : ℕ). count_product n f * x + count_product n g * g n) a
         ∙ ap (λ (x : ℕ). count_product n f * h n + count_product n g * x) b
         ∙ gathered (count_product n f) (count_product n g) (h n) ∙ ap (λ (x : ℕ). x * h n) c
@@ -164,20 +167,26 @@ several_volume inst lists box (leaf n) r h (k, x, l, e, s) = at (cases_lt 1 (vol
 several_volume inst lists box (split i m l x) r h some =
     let c = volume_parts box i m r.0 in
     let d = length-append (split_boxes (below box i m) l) (split_boxes (above box i m) x) in
-    at (any_parts (λ y. ¬ IsSingle y.box) (leaves (below box i m) l) (leaves (above box i m) x) some) c d
+    at (λ s. several_volume inst lists (below box i m) l r.1 (below_ordered box i m r.0 h) s)
+    (λ s. several_volume inst lists (above box i m) x r.2 (above_ordered box i m r.0 h) s)
+    (any_parts (λ y. ¬ IsSingle y.box) (leaves (below box i m) l) (leaves (above box i m) x) some) c d
   where
-    at : Any (λ y. ¬ IsSingle y.box) (leaves (below box i m) l) ⊎ Any (λ y. ¬ IsSingle y.box) (leaves (above box i m) x)
+    at : (Any (λ y. ¬ IsSingle y.box) (leaves (below box i m) l)
+        → length (split_boxes (below box i m) l) + 2 ≤ volume (below box i m))
+        → (Any (λ y. ¬ IsSingle y.box) (leaves (above box i m) x)
+        → length (split_boxes (above box i m) x) + 2 ≤ volume (above box i m))
+        → Any (λ y. ¬ IsSingle y.box) (leaves (below box i m) l) ⊎ Any (λ y. ¬ IsSingle y.box) (leaves (above box i m) x)
         → volume (below box i m) + volume (above box i m) ≡ volume box
         → length (split_boxes (below box i m) l ++ split_boxes (above box i m) x)
         ≡ length (split_boxes (below box i m) l) + length (split_boxes (above box i m) x)
         → suc (length (split_boxes (below box i m) l ++ split_boxes (above box i m) x)) + 2 ≤ volume box
-    at (inl s) c d =
-        let a = several_volume inst lists (below box i m) l r.1 (below_ordered box i m r.0 h) s in
+    at il ir (inl s) c d =
+        let a = il s in
         let b = tree_volume inst lists (above box i m) x r.2 (above_ordered box i m r.0 h) in
         omega (arith, a, b, c, d)
-    at (inr s) c d =
+    at il ir (inr s) c d =
         let a = tree_volume inst lists (below box i m) l r.1 (below_ordered box i m r.0 h) in
-        let b = several_volume inst lists (above box i m) x r.2 (above_ordered box i m r.0 h) s in
+        let b = ir s in
         omega (arith, a, b, c, d)
 
 -- ---- the root

@@ -83,6 +83,8 @@ pub(crate) fn settle_parts<G: Goal>(
     ensures valued { OnOk result (IsValued (G.value_gives goal.now) inst.now best.new) }
 {
     parts_are_boxes();
+    let _few = inst.periods();
+    let _starts = inst.tmax(i);
     let span = spans[i as usize];
     spans[i as usize] = Span {
         from: span.from,

@@ -1,0 +1,6 @@
+use Rattle.std.proofs.Common.{map}
+use Rattle.std.proofs.lemmas.List.Sorted.{IsPermutation-map}
+use Rattle.branch_search.proofs.waiting.Waiting.push.Goals as goal
+
+pub returns : goal.returns
+returns c = rw ← c.self.view_is (IsPermutation-map (λ r. r.0) _ _ c.in_ok-push.ensures.permutation)
