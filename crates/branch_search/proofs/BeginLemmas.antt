@@ -1,7 +1,8 @@
 -- The state of a search before any split.
 use Rattle.std.proofs.Common.{◌≡◌, ℕ, zero, suc, ◌+◌, ◌<◌, ◌≤◌, refl, sym, ◌∙◌, ap, subst, arith, ℤ, ◌≤ℤ◌, ◌^◌}
 use Rattle.std.proofs.Common.{List, [], ◌∷◌, length, All, Contains, Option, Some, None, IfSome, unsigned_abs}
-use Rattle.std.specs.Prelude.{IsPermutation}
+use Rattle.std.proofs.Common.{Bor}
+use Rattle.std.specs.Prelude.{IsPermutation, option_map}
 use Rattle.std.proofs.lemmas.List.Elements.{All-nil}
 use Rattle.fixed_num.proofs.SignedLemmas.{signed_arith}
 use Rattle.instance_model.specs.Tables.{Tables}
@@ -110,3 +111,10 @@ grown_at_first task leaf old new entries fits given feasible h w p =
       best_is = still_best task (root_box task.inst) old new (improved_for task (root_box task.inst) old new w)
           (best_at_first task old given feasible);
     }
+
+-- the plan handed in, as it is kept
+pub given_feasible : (inst : Tables) (incumbent : Option (Bor (List ℕ))) (best : Option (List ℕ))
+    → best ≡ option_map (λ given. given.now) incumbent → IfSome incumbent (λ given. IsFeasiblePlan inst given.now)
+    → IfSome best (IsFeasiblePlan inst)
+given_feasible inst None best e h = subst (λ (o : Option (List ℕ)). IfSome o (IsFeasiblePlan inst)) (sym e) tt
+given_feasible inst (Some given) best e h = subst (λ (o : Option (List ℕ)). IfSome o (IsFeasiblePlan inst)) (sym e) h

@@ -52,7 +52,7 @@ abbrev pub longer : List Cell → ℕ → Node → Node → List Cell
 longer cells n a b = cells ++ new_leaf a n ∷ new_leaf b n ∷ []
 
 abbrev pub no_cell : Cell
-no_cell = record { node = Point; parent = 0; left = 0 }
+no_cell = record { node = Split 0 0; parent = 0; left = 0 }
 
 abbrev pub new_split : List Cell → (n i m : ℕ) → Cell
 new_split cells n i m = record { node = Split i m; parent = (cell_at cells n).parent; left = length cells }

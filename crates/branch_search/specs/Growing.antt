@@ -11,7 +11,7 @@ use Rattle.branch_search.specs.declared.cell.Cell.{Cell}
 
 -- what stands at a number
 abbrev pub cell_at : List Cell → ℕ → Cell
-cell_at cells k = slice_index_or cells k (record { node = Point; parent = 0; left = 0 })
+cell_at cells k = slice_index_or cells k (record { node = Split 0 0; parent = 0; left = 0 })
 
 abbrev pub node_at : List Cell → ℕ → Node
 node_at cells k = (cell_at cells k).node

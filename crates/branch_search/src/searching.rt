@@ -92,17 +92,10 @@ pub fn search<G: Goal>(
 {
     inst.fits();
     let lists = list_of(alloc, prices)?;
-    let worths = worths_of(alloc, goal, inst, lists.as_slice())?;
-    let mut growth = begin(alloc, goal, inst, lists.as_slice(), &worths, incumbent)?;
-    grow(
-        alloc,
-        goal,
-        inst,
-        lists.as_slice(),
-        &worths,
-        incumbent,
-        turns,
-        &mut growth,
-    )?;
-    finish(alloc, lists, growth)
+    let known = lists.as_slice();
+    let worths = worths_of(alloc, goal, inst, known)?;
+    let mut growth = begin(alloc, goal, inst, known, &worths, incumbent)?;
+    grow(alloc, goal, inst, known, &worths, incumbent, turns, &mut growth)?;
+    let answer = finish(alloc, lists, growth)?;
+    Ok(answer)
 }

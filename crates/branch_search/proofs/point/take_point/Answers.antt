@@ -3,6 +3,9 @@ use Rattle.instance_model.specs.Plans.{AreAllowedStarts}
 use Rattle.branch_tree.specs.Holding.{first_starts}
 use Rattle.branch_tree.proofs.Refuting.{length-first_starts}
 use Rattle.lagrange_bound.specs.Boxes.{IsPlanIn}
+use Rattle.std.proofs.Common.{arith}
+use Rattle.fixed_num.proofs.SignedLemmas.{back_from_abs}
+use Rattle.branch_search.specs.Valued.{IsBelow}
 use Rattle.branch_search.proofs.SettleLemmas.{allowed_of_feasible, point_feasible, point_plan}
 use Rattle.branch_search.proofs.StateLemmas.{better_than}
 use Rattle.branch_search.proofs.point.take_point.Goals as goal
@@ -30,7 +33,8 @@ returns-then-is_below-clause-improved g c =
         inside = subst (IsPlanIn c.args.inst.now c.args.spans.now) (sym e)
             (point_plan c.args.inst.now c.args.spans.now c.requires.spans c.requires.single f);
         better = better_than (g.G.Goal.value_gives c.args.goal.now) c.args.inst.now c.args.best.now c.in_ok-value.value
-            c.as_slice-3.result.now c.from_vec.result d c.requires.valued (c.is_below.ensures.0 c.if-is_below.true)
+            c.as_slice-3.result.now c.from_vec.result d c.requires.valued (subst (IsBelow c.args.best.now) (back_from_abs c.in_ok-value.value (omega (arith, c.in_ok-value.ensures.small)))
+            (c.is_below.ensures.0 c.if-is_below.true))
             c.in_ok-value.ensures.value;
       },
     )

@@ -3,4 +3,4 @@ use Rattle.std.proofs.lemmas.List.Sorted.{IsPermutation-map}
 use Rattle.branch_search.proofs.waiting.Waiting.push.Goals as goal
 
 pub returns : goal.returns
-returns c = rw ← c.self.view_is (IsPermutation-map (λ r. r.0) _ _ c.in_ok-push.ensures.permutation)
+returns c = rw (← c.self.view_is) (IsPermutation-map (λ r. r.0) _ _ c.in_ok-push.ensures.permutation)
