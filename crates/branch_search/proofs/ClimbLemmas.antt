@@ -1,8 +1,8 @@
 -- The box of a number, by the way up to the root.
 use Rattle.std.proofs.Common.{◌≡◌, ℕ, zero, suc, ◌+◌, ◌-◌, ◌<◌, ◌≤◌, ◌⊎◌, inl, inr, refl, sym, ◌∙◌, ap, subst, arith}
-use Rattle.std.proofs.Common.{List, length, get_or, set, max, min, Bool, true, false, cond, eqb}
+use Rattle.std.proofs.Common.{◌++◌, take, drop, List, length, get_or, set, max, min, Bool, true, false, cond, eqb}
 use Rattle.std.proofs.lemmas.Bool.{cases_eq, eq-eqb, ne_eqb}
-use Rattle.std.proofs.lemmas.List.{length-set, get_or-set_same, get_or-set_other, ext_get_or}
+use Rattle.std.proofs.lemmas.List.{length-set, get_or-set_same, get_or-set_other, ext_get_or, drop_all, take_all, append-nil}
 use Rattle.instance_model.specs.Tables.{Tables, tmax}
 use Rattle.instance_model.specs.Fitting.{IsFitting}
 use Rattle.lagrange_bound.specs.declared.span.Span.{Span}
@@ -145,6 +145,16 @@ split_facts inst cells boxes p i m w l e =
     let b = w.boxed p l in
     let n : i < length inst.names = omega (arith, x.split.number, b.each) in
     (n, omega (arith, x.split.to, b.to i n))
+
+-- what a call wrote to a slice of a whole list is the list
+pub same_back : (xs ys : List Span) (n : ℕ) → length xs ≡ length ys → n ≡ length ys
+    → take n (xs ++ drop (length xs) ys) ≡ xs
+same_back xs ys n e f = ap (λ (zs : List Span). take n (xs ++ zs)) (drop_all (length xs) ys (omega (arith, e)))
+    ∙ ap (λ (zs : List Span). take n zs) (append-nil xs) ∙ take_all n xs (omega (arith, e, f))
+
+pub length_narrowed : (box : List Span) (cell : Cell) (k i m : ℕ) → length (narrowed box cell k i m) ≡ length box
+length_narrowed box cell k i m =
+    length-set box i (cond (eqb cell.left k) (cut_above (span_of box i) m) (cut_below (span_of box i) m))
 
 -- ---- at the root
 abbrev span_with : ℕ → ℕ → Span

@@ -1,5 +1,5 @@
 use Rattle.std.proofs.Common.{◌≡◌, ◌<◌, ◌≤◌, ◌+◌, length, ap, arith, rules, inl, inr, List}
-use Rattle.std.proofs.lemmas.List.{length_push}
+use Rattle.std.proofs.lemmas.List.{length_push, nil_from_length}
 use Rattle.branch_tree.specs.declared.node.Node.{Node}
 use Rattle.branch_search.specs.Growing.{cell_at, node_at}
 use Rattle.branch_search.proofs.ListLemmas.{list_start, at_top, top_known, leaf_listed, split_listed, list_end}
@@ -52,5 +52,6 @@ returns c = λ s h. elim c.loop-step-test.branch [
   | else-loop-step-test w ↦ list_end c.args.cells.now s c.loop-step.nodes.items c.loop-step.stack.items h
       (c.loop-step.invariant.listed s h) (inr (omega (arith, w.loop-step-test.false, c.loop-step.invariant.count)))
   | then-loop-step-test+in_default w ↦ list_end c.args.cells.now s c.loop-step.nodes.items c.loop-step.stack.items h
-      (c.loop-step.invariant.listed s h) (inl (w.in_default.ensures.rest))
+      (c.loop-step.invariant.listed s h) (inl (nil_from_length c.loop-step.stack.items
+      (omega (arith, w.in_default.ensures.cases.0, c.loop-step.stack.ok.0))))
 ]
