@@ -5,4 +5,4 @@ use Rattle.branch_search.proofs.waiting.Waiting.push.Goals as goal
 pub returns : goal.returns
 returns c =
     let p = IsPermutation-map (λ r. r.0) _ _ c.in_ok-push.ensures.permutation in
-    rw (← c.self.view_is) (rw (to_z-of_z c.ranges.worth.fits) at p)
+    rw (← c.self.view_is) (rw (to_z-of_z c.ranges.worth) at p)
