@@ -1,0 +1,186 @@
+-- Settled leaves: whatever plan was handed in, and when the best plan gets better.
+use Rattle.std.proofs.Common.{◌≡◌, ℕ, ◌<◌, ◌≤◌, ◌⊎◌, inl, inr, refl, sym, ◌∙◌, subst, arith, ℤ, ◌≤ℤ◌, ◌<ℤ◌, List, length}
+use Rattle.std.proofs.Common.{Option, Some, None}
+use Rattle.fixed_num.proofs.SignedLemmas.{signed_arith}
+use Rattle.instance_model.specs.Tables.{Tables}
+use Rattle.instance_model.specs.Fitting.{IsFitting}
+use Rattle.lagrange_bound.specs.declared.span.Span.{Span}
+use Rattle.lagrange_bound.specs.Prices.{PriceList, IsPriceList}
+use Rattle.lagrange_bound.specs.Goals.{Bases, PlanValue}
+use Rattle.lagrange_bound.specs.Boxes.{IsPlanIn, span_of}
+use Rattle.branch_tree.specs.declared.node.Node.{Node}
+use Rattle.branch_tree.specs.declared.node.Node.TheVariants.{Split, Cost, Point, Band, Excl, Empty}
+use Rattle.branch_tree.specs.Trees.{below, above, IsSplit}
+use Rattle.branch_tree.specs.Holding.{first_starts}
+use Rattle.branch_tree.specs.Ranges.{IsLeafInRange}
+use Rattle.branch_tree.proofs.StartLemmas.{has_start_from}
+use Rattle.branch_search.specs.declared.settling.Settled.{Settled}
+use Rattle.branch_search.specs.Best.{IsReached, IsShort, IsFeasiblePlan, IsNoWorse, IsBestOver}
+use Rattle.branch_search.specs.Boxes.{IsUnrefuted}
+use Rattle.branch_search.specs.Tasks.{Task, freed, worth_in}
+use Rattle.branch_search.specs.Growing.{IsLeafNode}
+use Rattle.branch_search.specs.Settled.{IsWaitingBox, IsSettled, IsWorthOf, IsBetterIn, IsImprovedIn, IsLeafOf, ArePartsOf}
+use Rattle.branch_search.specs.Refuting.{IsRefuting}
+use Rattle.branch_search.proofs.WorthLemmas.{IsPart, plan_of_part, below_is_part, above_is_part}
+
+pub at_most_trans : (a b c : ℤ) → a ≤ℤ b → b ≤ℤ c → a ≤ℤ c
+at_most_trans a b c h k = omega (arith, signed_arith)
+
+pub below_at_most : (a b c : ℤ) → a <ℤ b → b ≤ℤ c → a <ℤ c
+below_at_most a b c h k = omega (arith, signed_arith)
+
+pub at_most_below : (a b c : ℤ) → a ≤ℤ b → b <ℤ c → a <ℤ c
+at_most_below a b c h k = omega (arith, signed_arith)
+
+pub below_is_at_most : (a b : ℤ) → a <ℤ b → a ≤ℤ b
+below_is_at_most a b h = omega (arith, signed_arith)
+
+pub none_is_not_some : {A : Type 0} (x : A) → None ≡ Some x → ⊥
+none_is_not_some x e = cc
+
+pub some_is : {A : Type 0} (x y : A) → Some x ≡ Some y → x ≡ y
+some_is x y e = cc
+
+-- ---- a refuting leaf
+pub refuting_leaf : (inst : Tables) (box : List Span) (node : Node) → IsRefuting inst box node → IsLeafNode node
+refuting_leaf inst box (Split i m) h = h
+refuting_leaf inst box (Cost j) h = tt
+refuting_leaf inst box Point h = tt
+refuting_leaf inst box (Band c t s) h = tt
+refuting_leaf inst box (Excl e) h = tt
+refuting_leaf inst box (Empty i) h = tt
+
+pub refuting_settled : (task : Task) (best : Option (List ℕ)) (box : List Span) (node : Node)
+    → IsRefuting task.inst box node → IsSettled task best box node
+refuting_settled task best box (Split i m) h = absurd h
+refuting_settled task best box (Cost j) h = absurd h
+refuting_settled task best box Point h = absurd h
+refuting_settled task best box (Band c t s) h = ((h.resource, h.from, h.to), h.holds)
+refuting_settled task best box (Excl e) h = (h.number, h.holds)
+refuting_settled task best box (Empty i) h =
+    (h.number, λ s a. h.none (has_start_from task.inst i s (span_of box i) a))
+
+pub refuting_worth : (task : Task) (box : List Span) (node : Node) → IsRefuting task.inst box node
+    → IsWorthOf task box node None
+refuting_worth task box (Split i m) h = refl
+refuting_worth task box (Cost j) h = absurd h
+refuting_worth task box Point h = refl
+refuting_worth task box (Band c t s) h = refl
+refuting_worth task box (Excl e) h = refl
+refuting_worth task box (Empty i) h = refl
+
+-- ---- whatever plan was handed in
+pub settled_for : (task : Task) (best : Option (List ℕ)) (box : List Span) (node : Node) → IsLeafNode node
+    → IsSettled (freed task) best box node → IsSettled task best box node
+settled_for task best box (Split i m) l h = absurd l
+settled_for task best box (Cost j) l h =
+    record { unrefuted = h.unrefuted; several = h.several; list = h.list }
+settled_for task best box Point l h = h
+settled_for task best box (Band c t s) l h = h
+settled_for task best box (Excl e) l h = h
+settled_for task best box (Empty i) l h = h
+
+pub worth_for : (task : Task) (box : List Span) (node : Node) (worth : Option ℤ) → IsWorthOf (freed task) box node worth
+    → IsWorthOf task box node worth
+worth_for task box (Split i m) worth h = h
+worth_for task box (Cost j) worth h = h
+worth_for task box Point worth h = h
+worth_for task box (Band c t s) worth h = h
+worth_for task box (Excl e) worth h = h
+worth_for task box (Empty i) worth h = h
+
+pub leaf_for : (task : Task) (best : Option (List ℕ)) (box : List Span) (leaf : Settled)
+    → IsLeafOf (freed task) best box leaf → IsLeafOf task best box leaf
+leaf_for task best box leaf h = record {
+  no_split = h.no_split;
+  settled = settled_for task best box leaf.node h.no_split h.settled;
+  worth = worth_for task box leaf.node leaf.worth h.worth;
+  small = h.small;
+}
+
+pub improved_for : (task : Task) (box : List Span) (old new : Option (List ℕ))
+    → IsImprovedIn (freed task) box old new → IsImprovedIn task box old new
+improved_for task box old new (inl e) = inl e
+improved_for task box old new (inr (plan, e, h)) = inr (plan, e, record { inside = h.inside; better = h.better })
+
+-- ---- a better plan
+pub still_reached : (task : Task) (box : List Span) (old new : Option (List ℕ)) (z : ℤ)
+    → IsImprovedIn task box old new → IsReached task.value task.inst old z → IsReached task.value task.inst new z
+still_reached task box old new z (inl e) h =
+    subst (λ (o : Option (List ℕ)). IsReached task.value task.inst o z) (sym e) h
+still_reached task box None new z (inr w) h = absurd h
+still_reached task box (Some other) new z (inr (plan, e, b)) h =
+    subst (λ (o : Option (List ℕ)). IsReached task.value task.inst o z) (sym e)
+    (at_most_trans (task.value task.inst plan) (task.value task.inst other) z (b.better other refl) h)
+
+pub still_settled : (task : Task) (box : List Span) (old new : Option (List ℕ)) (here : List Span) (node : Node)
+    → IsImprovedIn task box old new → IsSettled task old here node → IsSettled task new here node
+still_settled task box old new here (Split i m) w h = h
+still_settled task box old new here (Cost j) w h = h
+still_settled task box old new here Point w h =
+    (h.0, λ f. still_reached task box old new (task.value task.inst (first_starts here)) w (h.1 f))
+still_settled task box old new here (Band c t s) w h = h
+still_settled task box old new here (Excl e) w h = h
+still_settled task box old new here (Empty i) w h = h
+
+pub still_leaf : (task : Task) (box : List Span) (old new : Option (List ℕ)) (here : List Span) (leaf : Settled)
+    → IsImprovedIn task box old new → IsLeafOf task old here leaf → IsLeafOf task new here leaf
+still_leaf task box old new here leaf w h = record {
+  no_split = h.no_split;
+  settled = still_settled task box old new here leaf.node w h.settled;
+  worth = h.worth;
+  small = h.small;
+}
+
+-- the best plan over the one handed in, once it gets better
+pub still_best : (task : Task) (box : List Span) (old new : Option (List ℕ)) → IsImprovedIn task box old new
+    → IsBestOver task.value task.inst task.incumbent old → IsBestOver task.value task.inst task.incumbent new
+still_best task box old new (inl e) h = subst (IsBestOver task.value task.inst task.incumbent) (sym e) h
+still_best task box old new (inr (plan, e, b)) h =
+    subst (IsBestOver task.value task.inst task.incumbent) (sym e) (record {
+      feasible = record { each = b.inside.each; feasible = b.inside.feasible };
+      at_most = at old b h;
+    })
+  where
+    at : (old : Option (List ℕ)) → IsBetterIn task box old plan
+        → IsBestOver task.value task.inst task.incumbent old
+        → (given : List ℕ) → task.incumbent ≡ Some given → task.value task.inst plan ≤ℤ task.value task.inst given
+    at None b h given f = absurd (none_is_not_some given (sym h ∙ f))
+    at (Some other) b h given f = at_most_trans (task.value task.inst plan) (task.value task.inst other)
+        (task.value task.inst given) (b.better other refl) (h.at_most given f)
+
+-- ---- one part after the other
+pub improved_in_part : (task : Task) (part box : List Span) (old new : Option (List ℕ)) → IsPart part box
+    → IsImprovedIn task part old new → IsImprovedIn task box old new
+improved_in_part task part box old new p (inl e) = inl e
+improved_in_part task part box old new p (inr (plan, e, b)) =
+    inr (plan, e, record { inside = plan_of_part task.inst part box plan p b.inside; better = b.better })
+
+pub improved_twice : (task : Task) (box : List Span) (old mid new : Option (List ℕ)) → IsImprovedIn task box old mid
+    → IsImprovedIn task box mid new → IsImprovedIn task box old new
+improved_twice task box old mid new first (inl e) =
+    subst (λ (o : Option (List ℕ)). IsImprovedIn task box old o) (sym e) first
+improved_twice task box old mid new (inl e) (inr w) =
+    inr (subst
+    (λ (o : Option (List ℕ)). (plan : List ℕ) × (new ≡ Some plan) × IsBetterIn task box o plan) e w)
+improved_twice task box old mid new (inr (first, f, b)) (inr (plan, e, c)) = inr (
+  plan,
+  e,
+  record {
+    inside = c.inside;
+    better = λ other g. at_most_trans (task.value task.inst plan) (task.value task.inst first)
+        (task.value task.inst other) (c.better first f) (b.better other g);
+  },
+)
+
+pub parts_settled : (task : Task) (box : List Span) (i m : ℕ) (old mid new : Option (List ℕ)) (left right : Settled)
+    → IsSplit box i m → IsLeafOf task mid (below box i m) left → IsImprovedIn task (below box i m) old mid
+    → IsLeafOf task new (above box i m) right → IsImprovedIn task (above box i m) mid new
+    → ArePartsOf task box i m old new left right
+parts_settled task box i m old mid new left right s hl il hr ir = record {
+  left_is = still_leaf task (above box i m) mid new (below box i m) left ir hl;
+  right_is = hr;
+  improved = improved_twice task box old mid new
+      (improved_in_part task (below box i m) box old mid (below_is_part box i m s) il)
+      (improved_in_part task (above box i m) box mid new (above_is_part box i m s) ir);
+}

@@ -1,0 +1,16 @@
+pub mod CellLemmas
+pub mod ShapeLemmas
+pub mod TreeLemmas
+pub mod WorthLemmas
+pub mod LeafLemmas
+pub mod EntryLemmas
+pub mod StepLemmas
+pub mod BeginLemmas
+pub mod EndLemmas
+pub mod ClimbLemmas
+pub mod ListLemmas
+pub mod StateLemmas
+pub mod SettleLemmas
+pub mod HeapLemmas
+pub mod VolumeLemmas
+pub mod RefutingLemmas

@@ -1,0 +1,177 @@
+-- The state of a search as it is kept: what its calls need, and what a step leaves.
+use Rattle.std.proofs.Common.{◌≡◌, ℕ, zero, suc, ◌+◌, ◌<◌, ◌≤◌, ◌⊎◌, inl, inr, refl, sym, ◌∙◌, ap, subst, arith, ℤ, ◌^◌}
+use Rattle.std.proofs.Common.{◌≤ℤ◌, ◌<ℤ◌, List, [], ◌∷◌, length, get_or, All, Contains, IfSome, Option, Some, None, unsigned_abs}
+use Rattle.std.proofs.Common.{true, false}
+use Rattle.std.specs.Prelude.{IsPermutation}
+use Rattle.std.proofs.lemmas.Bool.{cases_Bool}
+use Rattle.std.proofs.lemmas.List.Elements.{All-contains, All-nil, All-cons}
+use Rattle.std.proofs.lemmas.List.Sorted.{Contains-permutation}
+use Rattle.fixed_num.proofs.SignedLemmas.{signed_arith}
+use Rattle.instance_model.specs.Naturals.{count_product}
+use Rattle.instance_model.specs.Tables.{Tables, tmax}
+use Rattle.instance_model.specs.Fitting.{IsFitting}
+use Rattle.lagrange_bound.specs.declared.span.Span.{Span}
+use Rattle.lagrange_bound.specs.Prices.{PriceList, IsPriceList}
+use Rattle.lagrange_bound.specs.Goals.{Bases, PlanValue}
+use Rattle.lagrange_bound.specs.Boxes.{IsBox}
+use Rattle.lagrange_bound.specs.Worth.{WorthBoundsPlans}
+use Rattle.certificate_lines.specs.declared.line.Version.{Version}
+use Rattle.branch_tree.specs.Trees.{IsSplit}
+use Rattle.branch_tree.specs.Ranges.{HasPricesOf, IsBoundInRange, IsInRange}
+use Rattle.branch_tree.specs.Holding.{IsSingle}
+use Rattle.branch_search.specs.declared.best.Best.{Best}
+use Rattle.branch_search.specs.declared.cell.Cell.{Cell}
+use Rattle.branch_search.specs.declared.growth.Growth.{Growth}
+use Rattle.branch_search.specs.declared.settling.Settled.{Settled}
+use Rattle.branch_search.specs.declared.tree_end.TreeEnd.{TreeEnd}
+use Rattle.branch_search.specs.Best.{IsShort}
+use Rattle.branch_search.specs.Searched.{lists_of, IsSearched}
+use Rattle.branch_search.specs.Tasks.{Task, freed}
+use Rattle.branch_search.specs.Growing.{box_at, node_at, split_cells}
+use Rattle.branch_search.specs.Settled.{ArePartsOf}
+use Rattle.branch_search.specs.Valued.{plan_in, IsSmallValue, IsBelow, IsValued}
+use Rattle.branch_search.specs.Entries.{with_entry}
+use Rattle.branch_search.specs.States.{IsEntry, IsGrown, IsGrowth, IsLeftWorth, IsKept, IsAnswerOf}
+use Rattle.branch_search.proofs.LeafLemmas.{at_most_below, below_is_at_most}
+use Rattle.branch_search.proofs.EntryLemmas.{popped}
+use Rattle.branch_search.proofs.StepLemmas.{waits_at, grown_more}
+use Rattle.branch_search.proofs.EndLemmas.{below_short, searched}
+use Rattle.branch_search.proofs.VolumeLemmas.{too_few}
+
+-- ---- sizes
+small_value : (value : PlanValue) (inst : Tables) (best : Option Best) → IsValued value inst best → IsSmallValue best
+small_value value inst None v = tt
+small_value value inst (Some best) v = v.small
+
+pub kept_of : (task : Task) (growth : Growth) → IsGrowth task growth → IsKept growth
+kept_of task growth g = record {
+  value = small_value task.value task.inst growth.best g.valued;
+  worths = λ k d l. (g.state.waits.sound k d l).small;
+}
+
+-- ---- the entry that is taken out
+below_less : (best : Option Best) (y z : ℤ) → y ≤ℤ z → IsBelow best z → IsBelow best y
+below_less None y z l h = tt
+below_less (Some best) y z l h = at_most_below y z best.value l h
+
+popped_least : (entries rest : List (ℤ × ℕ)) (y z : ℤ) (n k : ℕ) → IsPermutation entries ((y, n) ∷ rest)
+    → All (λ o. y ≤ℤ o.0) rest → Contains entries (z, k) → y ≤ℤ z
+popped_least entries rest y z n k p l c = All-contains (λ (o : ℤ × ℕ). y ≤ℤ o.0) ((y, n) ∷ rest) (z, k)
+    (All-cons (λ (o : ℤ × ℕ). y ≤ℤ o.0) (y, n) rest (omega (arith, signed_arith)) l)
+    (Contains-permutation entries ((y, n) ∷ rest) (z, k) p c)
+
+popped_short : (value : PlanValue) (inst : Tables) (best : Option Best) (entries rest : List (ℤ × ℕ)) (y z : ℤ) (n : ℕ)
+    → IsValued value inst best → IsLeftWorth best entries z → IsPermutation entries ((y, n) ∷ rest)
+    → All (λ o. y ≤ℤ o.0) rest → IsShort value inst (plan_in best) y
+popped_short value inst best entries rest y z n v w p l = below_short value inst best y v
+    (below_less best y z (popped_least entries rest y z n w.number p l w.member) w.below)
+
+popped_entry : (task : Task) (growth : Growth) (g : IsGrowth task growth) (rest : List (ℤ × ℕ)) (y : ℤ) (n : ℕ)
+    → IsPermutation growth.waiting ((y, n) ∷ rest) → IsEntry task growth.cells.items g.state.boxes (y, n)
+popped_entry task growth g rest y n p = All-contains (IsEntry task growth.cells.items g.state.boxes) growth.waiting
+    (y, n) g.state.waits.sound (popped growth.waiting rest (y, n) p)
+
+pub popped_known : (task : Task) (growth : Growth) (rest : List (ℤ × ℕ)) (y : ℤ) (n : ℕ) → IsGrowth task growth
+    → IsPermutation growth.waiting ((y, n) ∷ rest) → n < length growth.cells.items
+popped_known task growth rest y n g p = (popped_entry task growth g rest y n p).within
+
+pub popped_box : (task : Task) (growth : Growth) (g : IsGrowth task growth) (rest : List (ℤ × ℕ)) (y : ℤ) (n : ℕ)
+    (spans : List Span) → IsPermutation growth.waiting ((y, n) ∷ rest) → spans ≡ box_at g.state.boxes n
+    → IsBox task.inst spans
+popped_box task growth g rest y n spans p e = subst (IsBox task.inst) (sym e)
+    (g.state.are_boxes.boxed n (popped_entry task growth g rest y n p).within)
+
+pub popped_several : (task : Task) (growth : Growth) (g : IsGrowth task growth) (rest : List (ℤ × ℕ)) (y : ℤ) (n : ℕ)
+    (spans : List Span) → IsPermutation growth.waiting ((y, n) ∷ rest) → spans ≡ box_at g.state.boxes n
+    → IsSingle spans → ⊥
+popped_several task growth g rest y n spans p e s =
+    let x = popped_entry task growth g rest y n p in
+    (waits_at task (plan_in growth.best) (box_at g.state.boxes n) (node_at growth.cells.items n) x.list x.node (g.state.settled n x.within)).several
+    (subst IsSingle e s)
+
+-- a plan whose value is below that of the best one is better
+pub better_than : (value : PlanValue) (inst : Tables) (best : Option Best) (z : ℤ) (starts plan : List ℕ)
+    → starts ≡ plan → IsValued value inst best → IsBelow best z → z ≡ value inst starts → (other : List ℕ)
+    → plan_in best ≡ Some other → value inst plan ≤ℤ value inst other
+better_than value inst best z starts plan e v b is other f =
+    let s = subst (λ (o : Option (List ℕ)). IsShort value inst o z) f (below_short value inst best z v b) in
+    below_is_at_most (value inst plan) (value inst other)
+    (subst (λ (x : ℤ). x <ℤ value inst other) (is ∙ ap (value inst) e) s)
+
+-- ---- a step
+pub step_kept : (task : Task) (old new : Growth) (n i m c1 c2 : ℕ) (left right : Settled) (y z : ℤ)
+    (rest mid : List (ℤ × ℕ)) (spans : List Span)
+    → IsFitting task.inst → All (IsPriceList task.inst) task.lists → WorthBoundsPlans task.base task.value
+    → (g : IsGrowth task old) → IsLeftWorth old.best old.waiting z → IsPermutation old.waiting ((y, n) ∷ rest)
+    → All (λ o. y ≤ℤ o.0) rest → spans ≡ box_at g.state.boxes n → IsSplit spans i m
+    → ArePartsOf (freed task) spans i m (plan_in old.best) (plan_in new.best) left right
+    → new.cells.items ≡ split_cells old.cells.items n i m left.node right.node
+    → c1 ≡ length old.cells.items → c2 ≡ length old.cells.items + 1
+    → IsPermutation (with_entry left.worth c1 rest) mid → IsPermutation (with_entry right.worth c2 mid) new.waiting
+    → new.splits ≡ old.splits + 1 → IsValued task.value task.inst new.best → IsGrowth task new
+step_kept task old new n i m c1 c2 left right y z rest mid spans fits lists law g w p l e s parts cells d1 d2 pl pr
+    splits v =
+    let short = popped_short task.value task.inst old.best old.waiting rest y z n g.valued w p l in
+    let next = grown_more task old.cells.items n i m left right (plan_in old.best) (plan_in new.best) y old.waiting rest
+    mid new.waiting old.splits g.state p l short fits lists law
+    (subst (λ (b : List Span). IsSplit b i m) e s)
+    (subst
+    (λ (b : List Span). ArePartsOf (freed task) b i m (plan_in old.best) (plan_in new.best) left right) e parts)
+    (subst (λ (c : ℕ). IsPermutation (with_entry left.worth c rest) mid) d1 pl)
+    (subst (λ (c : ℕ). IsPermutation (with_entry right.worth c mid) new.waiting) d2 pr) in
+    record {
+      state = subst (λ (c : List Cell). IsGrown task c new.waiting (plan_in new.best) new.splits) (sym cells)
+          (subst (λ (k : ℕ). IsGrown task (split_cells old.cells.items n i m left.node right.node) new.waiting
+          (plan_in new.best) k) (sym splits) next);
+      valued = v;
+    }
+
+-- ---- the end
+pub answer_is : (task : Task) (growth : Growth) (answer : TreeEnd) (prices : Option PriceList) (turns : ℕ)
+    → IsGrowth task growth → IsAnswerOf growth task.lists answer → task.lists ≡ lists_of prices
+    → growth.splits ≤ turns
+    → ((z : ℤ) → IsLeftWorth growth.best growth.waiting z → growth.splits ≡ turns)
+    → IsSearched task.base task.value task.inst prices task.incumbent turns answer
+answer_is task growth answer prices turns g a lists few spent = searched task growth g a.left a.some a.none prices lists
+    turns few spent answer a.version a.bound a.lists_are (a.nodes g.state.shape g.state.is_shape) a.best a.unfinished
+
+pub enough_turns : (base : Bases) (value : PlanValue) (inst : Tables) (prices : Option PriceList)
+    (incumbent : Option (List ℕ)) (turns : ℕ) (answer : TreeEnd) → IsFitting inst
+    → IsSearched base value inst prices incumbent turns answer
+    → count_product (length inst.names) (tmax inst) ≤ turns + 1 → answer.unfinished ≡ false
+enough_turns base value inst prices incumbent turns answer fits h enough =
+    at (cases_Bool answer.unfinished)
+  where
+    at : (answer.unfinished ≡ true) ⊎ (answer.unfinished ≡ false) → answer.unfinished ≡ false
+    at (inr e) = e
+    at (inl e) =
+        let w = h.unfinished.0 e in
+        let v = too_few inst (length answer.cert.lists) h.tree fits h.of_nodes.in_range
+        (w.0, w.1, w.2, w.3, w.4.several) in
+        absurd (omega (arith, v, h.spent e, enough))
+
+-- ---- ranges
+lists_in_range : (inst : Tables) (prices : Option PriceList) → IfSome prices (IsPriceList inst)
+    → (length (lists_of prices) ≤ 1) × All (IsPriceList inst) (lists_of prices)
+lists_in_range inst None h = (omega arith, All-nil (IsPriceList inst))
+lists_in_range inst (Some prices) h = (omega arith, All-cons (IsPriceList inst) prices [] h (All-nil (IsPriceList inst)))
+
+pub lists_known : (inst : Tables) (prices : Option PriceList) (lists : List PriceList)
+    → IfSome prices (IsPriceList inst) → lists ≡ lists_of prices
+    → (length lists ≤ 1) × All (IsPriceList inst) lists
+lists_known inst prices lists h e =
+    subst (λ (xs : List PriceList). (length xs ≤ 1) × All (IsPriceList inst) xs) (sym e) (lists_in_range inst prices h)
+
+pub answer_in_range : (base : Bases) (value : PlanValue) (inst : Tables) (prices : Option PriceList)
+    (incumbent : Option (List ℕ)) (turns : ℕ) (answer : TreeEnd) → IfSome prices (IsPriceList inst)
+    → IsSearched base value inst prices incumbent turns answer → IsBoundInRange answer.cert.bound
+    → IsInRange inst answer.cert
+answer_in_range base value inst prices incumbent turns answer p h b =
+    let w = lists_known inst prices answer.cert.lists p h.lists in
+    record {
+      bound = b;
+      few = omega (arith, w.0);
+      lists = w.1;
+      version = λ k d l. subst (λ (v : Version). HasPricesOf v (get_or answer.cert.lists k d)) (sym h.version) tt;
+      tree = (h.tree, h.of_nodes);
+    }

@@ -1,0 +1,244 @@
+-- One step of a search: the leaf of least worth is split.
+use Rattle.std.proofs.Common.{◌≡◌, ℕ, zero, suc, ◌+◌, ◌<◌, ◌≤◌, ◌⊎◌, inl, inr, refl, sym, ◌∙◌, ap, subst, arith, ℤ}
+use Rattle.std.proofs.Common.{◌≤ℤ◌, ◌<ℤ◌, ◌^◌, List, [], ◌∷◌, length, All, Contains, Option, Some, None, IfSome, unsigned_abs}
+use Rattle.std.specs.Prelude.{IsPermutation}
+use Rattle.std.proofs.lemmas.List.Elements.{All-contains, All-cons}
+use Rattle.std.proofs.lemmas.List.Sorted.{Contains-permutation}
+use Rattle.fixed_num.proofs.SignedLemmas.{signed_arith}
+use Rattle.instance_model.specs.Fitting.{IsFitting}
+use Rattle.lagrange_bound.specs.declared.span.Span.{Span}
+use Rattle.lagrange_bound.specs.Prices.{IsPriceList}
+use Rattle.lagrange_bound.specs.Worth.{WorthBoundsPlans}
+use Rattle.branch_tree.specs.declared.node.Node.{Node}
+use Rattle.branch_tree.specs.declared.node.Node.TheVariants.{Split, Cost}
+use Rattle.branch_tree.specs.Trees.{below, above, IsSplit}
+use Rattle.branch_tree.specs.Holding.{list_at}
+use Rattle.branch_tree.proofs.Soundness.{list_in_range}
+use Rattle.branch_search.specs.declared.cell.Cell.{Cell}
+use Rattle.branch_search.specs.declared.settling.Settled.{Settled}
+use Rattle.branch_search.specs.Best.{IsShort, IsBestOver}
+use Rattle.branch_search.specs.Tasks.{Task, freed, worth_in, IsBelowGiven}
+use Rattle.branch_search.specs.Growing.{cell_at, node_at, box_at, IsLeafNode, split_cells, split_list}
+use Rattle.branch_search.specs.Shapes.{grown}
+use Rattle.branch_search.specs.Settled.{IsWaitingBox, IsSettled, IsWorthOf, IsImprovedIn, IsLeafOf, ArePartsOf}
+use Rattle.branch_search.specs.Entries.{with_entry}
+use Rattle.branch_search.specs.States.{IsEntry, AreEntries, IsFloor, IsGrown}
+use Rattle.branch_search.proofs.CellLemmas.{length_split, at_split, at_other, at_left, at_right, box_before, box_left}
+use Rattle.branch_search.proofs.CellLemmas.{box_right, are_boxes_more, cost_is_no_split, split_is_no_leaf, Where, where_is}
+use Rattle.branch_search.proofs.ShapeLemmas.{shape_more, forks_more}
+use Rattle.branch_search.proofs.WorthLemmas.{IsPart, below_is_part, above_is_part, worth_of_part}
+use Rattle.branch_search.proofs.LeafLemmas.{at_most_trans, below_at_most, at_most_below, below_is_at_most}
+use Rattle.branch_search.proofs.LeafLemmas.{none_is_not_some, some_is, leaf_for, improved_for, still_settled, still_best}
+use Rattle.branch_search.proofs.EntryLemmas.{entries_more, popped}
+
+-- what a part waits with is at least the worth of the box
+pub part_waits : (task : Task) (part box : List Span) (q j : ℕ) → IsPart part box → q ≤ length task.lists
+    → IsWaitingBox task part j → worth_in task box q ≤ℤ worth_in task part j
+part_waits task part box q j p l h = at_most_trans (worth_in task box q) (worth_in task part q) (worth_in task part j)
+    (worth_of_part (task.base task.inst (list_at task.inst task.lists q)) task.inst (list_at task.inst task.lists q)
+    part box p h.unrefuted.starts) (h.list.greatest q l)
+
+pub waits_at : (task : Task) (best : Option (List ℕ)) (box : List Span) (node : Node) (j : ℕ) → node ≡ Cost j
+    → IsSettled task best box node → IsWaitingBox task box j
+waits_at task best box node j e h = subst (IsSettled task best box) e h
+
+leaf_of_cost : (node : Node) (j : ℕ) → node ≡ Cost j → IsLeafNode node
+leaf_of_cost node j e = subst IsLeafNode (sym e) tt
+
+-- ---- floors
+floor_under : (task : Task) (cells : List Cell) (boxes : List (List Span)) (best : Option (List ℕ)) (y z : ℤ)
+    → y ≤ℤ z → IsFloor task cells boxes best z → IsFloor task cells boxes best y
+floor_under task cells boxes best y z l h = record {
+  under_best = λ plan e. at_most_trans y z (task.value task.inst plan) l (h.under_best plan e);
+  under_costs = λ k j m e. at_most_trans y z (worth_in task (box_at boxes k) j) l (h.under_costs k j m e);
+}
+
+short_floor : (task : Task) (best : Option (List ℕ)) (z : ℤ) → IsShort task.value task.inst best z
+    → (plan : List ℕ) → best ≡ Some plan → z ≤ℤ task.value task.inst plan
+short_floor task best z h plan e =
+    below_is_at_most z (task.value task.inst plan) (subst (λ (o : Option (List ℕ)). IsShort task.value task.inst o z) e h)
+
+-- the least of what waits is at most each worth that waits
+least_floor : (task : Task) (cells : List Cell) (boxes : List (List Span)) (best : Option (List ℕ))
+    (old rest : List (ℤ × ℕ)) (z : ℤ) (n : ℕ) → AreEntries task cells boxes old → IsPermutation old ((z, n) ∷ rest)
+    → All (λ e. z ≤ℤ e.0) rest → IsShort task.value task.inst best z → IsFloor task cells boxes best z
+least_floor task cells boxes best old rest z n h p l s = record {
+  under_best = short_floor task best z s;
+  under_costs = λ k j m e. All-contains (λ (x : ℤ × ℕ). z ≤ℤ x.0) ((z, n) ∷ rest) (worth_in task (box_at boxes k) j, k)
+      (All-cons (λ (x : ℤ × ℕ). z ≤ℤ x.0) (z, n) rest (omega (arith, signed_arith)) l)
+      (Contains-permutation old ((z, n) ∷ rest) (worth_in task (box_at boxes k) j, k) p (h.complete k j m e));
+}
+
+-- ---- below the plan handed in
+below_given : (task : Task) (best : Option (List ℕ)) (box : List Span) (z : ℤ)
+    → ((j : ℕ) → j ≤ length task.lists → worth_in task box j ≤ℤ z) → IsShort task.value task.inst best z
+    → IsBestOver task.value task.inst task.incumbent best → IsBelowGiven task box
+below_given task None box z h s b j given l e = absurd (none_is_not_some given (sym b ∙ e))
+below_given task (Some plan) box z h s b j given l e = at_most_below (worth_in task box j) z
+    (task.value task.inst given) (h j l)
+    (below_at_most z (task.value task.inst plan) (task.value task.inst given) s (b.at_most given e))
+
+-- ---- the step
+module _ (task : Task) (cells : List Cell) (n i m : ℕ) (left right : Settled) (old new : Option (List ℕ))
+    (z : ℤ) (before rest mid after : List (ℤ × ℕ)) (splits : ℕ)
+    (g : IsGrown task cells before old splits)
+    (p : IsPermutation before ((z, n) ∷ rest)) (least : All (λ e. z ≤ℤ e.0) rest)
+    (short : IsShort task.value task.inst old z) where
+  pub entry : IsEntry task cells g.boxes (z, n)
+  entry = All-contains (IsEntry task cells g.boxes) before (z, n) g.waits.sound (popped before rest (z, n) p)
+
+  pub waiting : IsWaitingBox task (box_at g.boxes n) entry.list
+  waiting = waits_at task old (box_at g.boxes n) (node_at cells n) entry.list entry.node (g.settled n entry.within)
+
+  floor : IsFloor task cells g.boxes old z
+  floor = least_floor task cells g.boxes old before rest z n g.waits p least short
+
+  worths_at_most : (j : ℕ) → j ≤ length task.lists → worth_in task (box_at g.boxes n) j ≤ℤ z
+  worths_at_most j l = subst (λ (y : ℤ). worth_in task (box_at g.boxes n) j ≤ℤ y) (sym entry.worth)
+      (waiting.list.greatest j l)
+
+  module _ (fits : IsFitting task.inst) (lists : All (IsPriceList task.inst) task.lists)
+      (law : WorthBoundsPlans task.base task.value) (split : IsSplit (box_at g.boxes n) i m)
+      (parts : ArePartsOf (freed task) (box_at g.boxes n) i m old new left right)
+      (pl : IsPermutation (with_entry left.worth (length cells) rest) mid)
+      (pr : IsPermutation (with_entry right.worth (length cells + 1) mid) after) where
+    leaf : IsLeafNode (node_at cells n)
+    leaf = leaf_of_cost (node_at cells n) entry.list entry.node
+
+    one : IsLeafOf task new (below (box_at g.boxes n) i m) left
+    one = leaf_for task new (below (box_at g.boxes n) i m) left parts.left_is
+
+    two : IsLeafOf task new (above (box_at g.boxes n) i m) right
+    two = leaf_for task new (above (box_at g.boxes n) i m) right parts.right_is
+
+    improved : IsImprovedIn task (box_at g.boxes n) old new
+    improved = improved_for task (box_at g.boxes n) old new parts.improved
+
+    each : length g.boxes ≡ length cells
+    each = g.are_boxes.each
+
+    -- ---- what is settled
+    settled_at : (k : ℕ) → Where (length cells) n k → IsSettled task new (box_at (split_list g.boxes n i m) k)
+        (node_at (split_cells cells n i m left.node right.node) k)
+    settled_at k (inl e) = subst
+        (λ (t : ℕ). IsSettled task new (box_at (split_list g.boxes n i m) t)
+        (node_at (split_cells cells n i m left.node right.node) t)) (sym e)
+        (subst (λ (c : Cell). IsSettled task new (box_at (split_list g.boxes n i m) n) c.node)
+        (sym (at_split cells n i m left.node right.node entry.within))
+        (subst (λ (b : List Span). IsSettled task new b (Split i m))
+        (sym (box_before g.boxes n i m n (omega (arith, entry.within, each))))
+        (waiting.unrefuted, below_given task old (box_at g.boxes n) z worths_at_most short g.best_is)))
+    settled_at k (inr (inl (l, d))) = subst
+        (λ (c : Cell). IsSettled task new (box_at (split_list g.boxes n i m) k) c.node)
+        (sym (at_other cells n i m left.node right.node entry.within k l d))
+        (subst (λ (b : List Span). IsSettled task new b (node_at cells k))
+        (sym (box_before g.boxes n i m k (omega (arith, l, each))))
+        (still_settled task (box_at g.boxes n) old new (box_at g.boxes k) (node_at cells k) improved (g.settled k l)))
+    settled_at k (inr (inr (inl q))) = subst
+        (λ (c : Cell). IsSettled task new (box_at (split_list g.boxes n i m) k) c.node)
+        (sym (at_left cells n i m left.node right.node entry.within k q))
+        (subst (λ (b : List Span). IsSettled task new b left.node) (sym (box_left g.boxes n i m k (each ∙ q)))
+        one.settled)
+    settled_at k (inr (inr (inr q))) = subst
+        (λ (c : Cell). IsSettled task new (box_at (split_list g.boxes n i m) k) c.node)
+        (sym (at_right cells n i m left.node right.node entry.within k q))
+        (subst (λ (b : List Span). IsSettled task new b right.node)
+        (sym (box_right g.boxes n i m k (ap (λ (t : ℕ). t + 1) each ∙ q))) two.settled)
+
+    -- ---- floors
+    best_floor : (y : ℤ) → y ≤ℤ z → IsFloor task cells g.boxes old y → (plan : List ℕ) → new ≡ Some plan
+        → y ≤ℤ task.value task.inst plan
+    best_floor y l h plan e = at improved
+      where
+        at : IsImprovedIn task (box_at g.boxes n) old new → y ≤ℤ task.value task.inst plan
+        at (inl f) = h.under_best plan (sym f ∙ e)
+        at (inr (other, f, b)) =
+            let s = some_is other plan (sym f ∙ e) in
+            let bound = law task.inst (list_at task.inst task.lists entry.list) (box_at g.boxes n) other fits
+            (list_in_range task.inst task.lists entry.list waiting.list.number lists) b.inside in
+            subst (λ (x : List ℕ). y ≤ℤ task.value task.inst x) s
+            (at_most_trans y z (task.value task.inst other) l
+            (subst (λ (x : ℤ). x ≤ℤ task.value task.inst other) (sym entry.worth) bound))
+
+    part_floor : (part : List Span) (node : Node) (j : ℕ) (y : ℤ) → y ≤ℤ z → IsPart part (box_at g.boxes n)
+        → node ≡ Cost j → IsSettled task new part node → y ≤ℤ worth_in task part j
+    part_floor part node j y l q e h = at_most_trans y z (worth_in task part j) l
+        (subst (λ (x : ℤ). x ≤ℤ worth_in task part j) (sym entry.worth)
+        (part_waits task part (box_at g.boxes n) entry.list j q waiting.list.number
+        (waits_at task new part node j e h)))
+
+    cost_floor : (y : ℤ) → y ≤ℤ z → IsFloor task cells g.boxes old y → (k j : ℕ)
+        → node_at (split_cells cells n i m left.node right.node) k ≡ Cost j → Where (length cells) n k
+        → y ≤ℤ worth_in task (box_at (split_list g.boxes n i m) k) j
+    cost_floor y l h k j e (inl q) = absurd (cost_is_no_split
+        (node_at (split_cells cells n i m left.node right.node) k) i m j
+        (ap (λ (t : ℕ). node_at (split_cells cells n i m left.node right.node) t) q
+        ∙ ap (λ (c : Cell). c.node) (at_split cells n i m left.node right.node entry.within)) e)
+    cost_floor y l h k j e (inr (inl (s, d))) = subst (λ (b : List Span). y ≤ℤ worth_in task b j)
+        (sym (box_before g.boxes n i m k (omega (arith, s, each))))
+        (h.under_costs k j s (sym (ap (λ (c : Cell). c.node)
+        (at_other cells n i m left.node right.node entry.within k s d)) ∙ e))
+    cost_floor y l h k j e (inr (inr (inl q))) = subst (λ (b : List Span). y ≤ℤ worth_in task b j)
+        (sym (box_left g.boxes n i m k (each ∙ q)))
+        (part_floor (below (box_at g.boxes n) i m) left.node j y l (below_is_part (box_at g.boxes n) i m split)
+        (sym (ap (λ (c : Cell). c.node) (at_left cells n i m left.node right.node entry.within k q)) ∙ e) one.settled)
+    cost_floor y l h k j e (inr (inr (inr q))) = subst (λ (b : List Span). y ≤ℤ worth_in task b j)
+        (sym (box_right g.boxes n i m k (ap (λ (t : ℕ). t + 1) each ∙ q)))
+        (part_floor (above (box_at g.boxes n) i m) right.node j y l (above_is_part (box_at g.boxes n) i m split)
+        (sym (ap (λ (c : Cell). c.node) (at_right cells n i m left.node right.node entry.within k q)) ∙ e) two.settled)
+
+    floor_more : (y : ℤ) → y ≤ℤ z → IsFloor task cells g.boxes old y
+        → IsFloor task (split_cells cells n i m left.node right.node) (split_list g.boxes n i m) new y
+    floor_more y l h = record {
+      under_best = best_floor y l h;
+      under_costs = λ k j s e. cost_floor y l h k j e (where_is (length cells) n k
+          (omega (arith, s, length_split cells n i m left.node right.node entry.within)));
+    }
+
+    no_split : (k a b : ℕ) (node : Node) → node_at (split_cells cells n i m left.node right.node) k ≡ node
+        → IsLeafNode node → node_at (split_cells cells n i m left.node right.node) k ≡ Split a b → ⊥
+    no_split k a b node e h f = split_is_no_leaf node a b (sym e ∙ f) h
+
+    level_at : (k a b j : ℕ) → node_at (split_cells cells n i m left.node right.node) k ≡ Split a b
+        → j ≤ length task.lists → Where (length cells) n k
+        → IsFloor task (split_cells cells n i m left.node right.node) (split_list g.boxes n i m) new
+        (worth_in task (box_at (split_list g.boxes n i m) k) j)
+    level_at k a b j e s (inl q) = subst
+        (λ (x : List Span). IsFloor task (split_cells cells n i m left.node right.node) (split_list g.boxes n i m) new
+        (worth_in task x j))
+        (sym (box_before g.boxes n i m n (omega (arith, entry.within, each)))
+        ∙ ap (box_at (split_list g.boxes n i m)) (sym q))
+        (floor_more (worth_in task (box_at g.boxes n) j) (worths_at_most j s)
+        (floor_under task cells g.boxes old (worth_in task (box_at g.boxes n) j) z (worths_at_most j s) floor))
+    level_at k a b j e s (inr (inl (l, d))) =
+        let f = sym (ap (λ (c : Cell). c.node) (at_other cells n i m left.node right.node entry.within k l d)) ∙ e in
+        let h = g.level k a b j l f s in
+        subst
+        (λ (x : List Span). IsFloor task (split_cells cells n i m left.node right.node) (split_list g.boxes n i m) new
+        (worth_in task x j))
+        (sym (box_before g.boxes n i m k (omega (arith, l, each))))
+        (floor_more (worth_in task (box_at g.boxes k) j)
+        (subst (λ (y : ℤ). worth_in task (box_at g.boxes k) j ≤ℤ y) (sym entry.worth)
+        (h.under_costs n entry.list entry.within entry.node)) h)
+    level_at k a b j e s (inr (inr (inl q))) = absurd (no_split k a b left.node
+        (ap (λ (c : Cell). c.node) (at_left cells n i m left.node right.node entry.within k q)) one.no_split e)
+    level_at k a b j e s (inr (inr (inr q))) = absurd (no_split k a b right.node
+        (ap (λ (c : Cell). c.node) (at_right cells n i m left.node right.node entry.within k q)) two.no_split e)
+
+    pub grown_more : IsGrown task (split_cells cells n i m left.node right.node) after new (splits + 1)
+    grown_more = record {
+      boxes = split_list g.boxes n i m;
+      shape = grown n (length cells) g.shape;
+      are_boxes = are_boxes_more task.inst cells g.boxes n i m left.node right.node g.are_boxes entry.within leaf split
+          one.no_split two.no_split;
+      is_shape = shape_more cells n i m left.node right.node entry.within leaf one.no_split two.no_split g.shape g.is_shape;
+      splits_are = forks_more cells n i m left.node right.node entry.within leaf one.no_split two.no_split g.shape g.is_shape
+          ∙ ap (λ (t : ℕ). t + 1) g.splits_are;
+      settled = λ k l. settled_at k (where_is (length cells) n k
+          (omega (arith, l, length_split cells n i m left.node right.node entry.within)));
+      level = λ k a b j l e s. level_at k a b j e s (where_is (length cells) n k
+          (omega (arith, l, length_split cells n i m left.node right.node entry.within)));
+      waits = entries_more task cells g.boxes n i m left.node right.node entry.within each z left.worth right.worth
+          before rest mid after g.waits p one.worth one.small two.worth two.small pl pr;
+      best_is = still_best task (box_at g.boxes n) old new improved g.best_is;
+    }

@@ -1,0 +1,43 @@
+-- Leaves that refute a box. Cited by private functions only: no part of any promise.
+use Rattle.std.specs.Prelude.{ℕ, ◌<◌, ◌≤◌, List, length}
+use Rattle.instance_model.specs.Tables.{Tables}
+use Rattle.lagrange_bound.specs.declared.span.Span.{Span}
+use Rattle.lagrange_bound.specs.Boxes.{starts_in, span_of}
+use Rattle.branch_tree.specs.declared.node.Node.{Node}
+use Rattle.branch_tree.specs.declared.node.Node.TheVariants.{Split, Cost, Point, Band, Excl, Empty}
+use Rattle.certificate_lines.specs.declared.line.Side.{Side}
+use Rattle.branch_tree.specs.Holding.{BandHolds, ExclHolds}
+
+-- a `band` leaf of this resource and period that holds
+pub record IsBandIn (inst : Tables) (box : List Span) (c t : ℕ) (side : Side) : Type 0 where
+  pub resource : c < length inst.resource_names
+  pub from : 1 ≤ t
+  pub to : t ≤ inst.periods
+  pub holds : BandHolds inst box c t side
+
+-- an `excl` leaf that holds
+pub record IsExclIn (inst : Tables) (box : List Span) (e : ℕ) : Type 0 where
+  pub number : e < length inst.exclusion_names
+  pub holds : ExclHolds inst box e
+
+-- an interval without an allowed start
+pub record IsEmptyIn (inst : Tables) (box : List Span) (i : ℕ) : Type 0 where
+  pub number : i < length inst.names
+  pub none : ¬ (0 < length (starts_in inst i (span_of box i)))
+
+-- a `band`, an `excl` or an `empty` leaf that holds
+abbrev pub IsRefuting : Tables → List Span → Node → Type 0
+IsRefuting inst box (Split i m) = ⊥
+IsRefuting inst box (Cost j) = ⊥
+IsRefuting inst box Point = ⊥
+IsRefuting inst box (Band c t side) = IsBandIn inst box c t side
+IsRefuting inst box (Excl e) = IsExclIn inst box e
+IsRefuting inst box (Empty i) = IsEmptyIn inst box i
+
+-- no band of resource c in period t holds on the box, and so on
+abbrev pub HasNoBandAt : Tables → List Span → ℕ → ℕ → Type 0
+HasNoBandAt inst box c t = (side : Side) → ¬ BandHolds inst box c t side
+
+-- none of resource c
+abbrev pub HasNoBandOf : Tables → List Span → ℕ → Type 0
+HasNoBandOf inst box c = (t : ℕ) → 1 ≤ t → t ≤ inst.periods → HasNoBandAt inst box c t

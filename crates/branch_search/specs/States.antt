@@ -1,0 +1,111 @@
+-- The state of a search. Cited by private functions only: no part of any promise.
+use Rattle.std.specs.Prelude.{◌≡◌, ◌^◌, ℕ, ◌+◌, ◌<◌, ◌≤◌, ℤ, ◌≤ℤ◌, ⊤, List, [], ◌∷◌, length, Option, Some, None}
+use Rattle.std.specs.Prelude.{All, Contains, cond, ◌==◌, map, is_some, IfSome, IfNone, unsigned_abs}
+use Rattle.std.specs.List.{sum_by}
+use Rattle.lagrange_bound.specs.declared.span.Span.{Span}
+use Rattle.lagrange_bound.specs.Prices.{PriceList}
+use Rattle.certificate_lines.specs.declared.line.Bound.{Bound}
+use Rattle.certificate_lines.specs.declared.line.Bound.TheVariants.{NoPlan, Least}
+use Rattle.certificate_lines.specs.declared.line.Version.TheVariants.{Two}
+use Rattle.branch_tree.specs.declared.node.Node.{Node}
+use Rattle.branch_tree.specs.declared.node.Node.TheVariants.{Split, Cost}
+use Rattle.branch_search.specs.declared.best.Best.{Best}
+use Rattle.branch_search.specs.declared.cell.Cell.{Cell}
+use Rattle.branch_search.specs.declared.growth.Growth.{Growth}
+use Rattle.branch_search.specs.declared.tree_end.TreeEnd.{TreeEnd}
+use Rattle.branch_search.specs.Best.{IsBestOver}
+use Rattle.branch_search.specs.Valued.{plan_in, IsValued, IsSmallValue, IsBelow}
+use Rattle.branch_search.specs.Tasks.{Task, worth_in}
+use Rattle.branch_search.specs.Growing.{cell_at, node_at, box_at, AreBoxesOf}
+use Rattle.branch_search.specs.Shapes.{Shape, forks, numbers, IsShapeOf}
+use Rattle.branch_search.specs.Settled.{IsSettled}
+
+-- ---- what waits
+
+-- the entry (z, k): number k waits with worth z
+pub record IsEntry (task : Task) (cells : List Cell) (boxes : List (List Span)) (entry : ℤ × ℕ) : Type 0 where
+  pub within : entry.1 < length cells
+  pub list : ℕ
+  pub node : node_at cells entry.1 ≡ Cost list
+  pub worth : entry.0 ≡ worth_in task (box_at boxes entry.1) list
+  pub small : unsigned_abs entry.0 < 10 ^ 37
+
+-- how many entries a number has
+abbrev pub entries_of : ℕ → List (ℤ × ℕ) → ℕ
+entries_of k entries = sum_by (λ entry. cond (entry.1 == k) 1 0) entries
+
+-- each `cost` leaf waits, once, and nothing else does
+pub record AreEntries (task : Task) (cells : List Cell) (boxes : List (List Span))
+    (entries : List (ℤ × ℕ)) : Type 0 where
+  pub sound : All (IsEntry task cells boxes) entries
+  pub complete : (k j : ℕ) → k < length cells → node_at cells k ≡ Cost j
+      → Contains entries (worth_in task (box_at boxes k) j, k)
+  pub once : (k : ℕ) → entries_of k entries ≤ 1
+
+-- ---- worths
+
+-- z is at most the value of the best plan, and at most the worth of each `cost` leaf
+pub record IsFloor (task : Task) (cells : List Cell) (boxes : List (List Span)) (best : Option (List ℕ))
+    (z : ℤ) : Type 0 where
+  pub under_best : (plan : List ℕ) → best ≡ Some plan → z ≤ℤ task.value task.inst plan
+  pub under_costs : (k j : ℕ) → k < length cells → node_at cells k ≡ Cost j → z ≤ℤ worth_in task (box_at boxes k) j
+
+-- ---- the state
+
+-- what holds of a search after so many splits
+pub record IsGrown (task : Task) (cells : List Cell) (entries : List (ℤ × ℕ)) (best : Option (List ℕ))
+    (splits : ℕ) : Type 0 where
+  pub boxes : List (List Span)
+  pub shape : Shape
+  pub are_boxes : AreBoxesOf task.inst cells boxes
+  pub is_shape : IsShapeOf cells shape
+  pub splits_are : forks shape ≡ splits
+  pub settled : (k : ℕ) → k < length cells → IsSettled task best (box_at boxes k) (node_at cells k)
+  pub level : (k i m j : ℕ) → k < length cells → node_at cells k ≡ Split i m → j ≤ length task.lists
+      → IsFloor task cells boxes best (worth_in task (box_at boxes k) j)
+  pub waits : AreEntries task cells boxes entries
+  pub best_is : IsBestOver task.value task.inst task.incumbent best
+
+-- the same of what is kept
+pub record IsGrowth (task : Task) (growth : Growth) : Type 0 where
+  pub state : IsGrown task growth.cells.items growth.waiting (plan_in growth.best) growth.splits
+  pub valued : IsValued task.value task.inst growth.best
+
+-- ---- what is left
+
+-- z is the least worth that waits, and below the value of the best plan, or there is no such plan
+pub record IsLeftWorth (best : Option Best) (entries : List (ℤ × ℕ)) (z : ℤ) : Type 0 where
+  pub number : ℕ
+  pub member : Contains entries (z, number)
+  pub least : All (λ other. z ≤ℤ other.0) entries
+  pub below : IsBelow best z
+
+-- no worth that waits is
+abbrev pub NoneIsLeft : Option Best → List (ℤ × ℕ) → Type 0
+NoneIsLeft best entries = All (λ entry. ¬ IsBelow best entry.0) entries
+
+-- the kept numbers are small
+pub record IsKept (growth : Growth) : Type 0 where
+  pub value : IsSmallValue growth.best
+  pub worths : All (λ entry. unsigned_abs entry.0 < 10 ^ 37) growth.waiting
+
+-- ---- the end
+
+-- the bound where z is the least worth that is left, or where none is
+abbrev pub bound_with : Option ℤ → Option Best → Bound
+bound_with (Some z) best = Least z
+bound_with None None = NoPlan
+bound_with None (Some best) = Least best.value
+
+-- an answer says what is kept
+pub record IsAnswerOf (growth : Growth) (lists : List PriceList) (answer : TreeEnd) : Type 0 where
+  pub version : answer.cert.version ≡ Two
+  pub lists_are : answer.cert.lists ≡ lists
+  pub nodes : (shape : Shape) → IsShapeOf growth.cells.items shape
+      → answer.cert.nodes ≡ map (node_at growth.cells.items) (numbers shape)
+  pub best : answer.best ≡ plan_in growth.best
+  pub left : Option ℤ
+  pub unfinished : answer.unfinished ≡ is_some left
+  pub bound : answer.cert.bound ≡ bound_with left growth.best
+  pub some : IfSome left (IsLeftWorth growth.best growth.waiting)
+  pub none : IfNone left (NoneIsLeft growth.best growth.waiting)

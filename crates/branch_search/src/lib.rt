@@ -1,0 +1,25 @@
+//! The search over a tree of boxes: a certificate of a lower bound, and the best plan that was met on the way.
+//!
+//! The leaf of least worth is split, until none is left whose worth is below the value of the best plan, or the turns
+//! are spent. A box that a `band`, an `excl` or an `empty` leaf refutes is closed by it, and one that is a single plan
+//! is judged. Interventions, resources and exclusions count from 0; periods, starts and price lists count from 1.
+#![tactic(auto)]
+
+mod best;
+mod cell;
+mod finishing;
+mod growth;
+mod nodes;
+mod point;
+mod refuting;
+mod searching;
+mod settling;
+mod splitting;
+mod step;
+mod tree_end;
+mod waiting;
+mod walking;
+mod worths;
+
+pub use searching::search;
+pub use tree_end::TreeEnd;

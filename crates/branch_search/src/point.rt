@@ -1,0 +1,72 @@
+//! Boxes that are a single plan: the plan is judged, and may become the best one.
+ghost use Rattle.std.specs.Prelude.{◌≡◌, map, Some, length, IsTrue, IfOk, OnOk, ◌↔◌};
+ghost use Rattle.lagrange_bound.specs.Boxes.{IsBox};
+ghost use Rattle.branch_tree.specs.Holding.{IsSingle, first_starts};
+ghost use Rattle.branch_search.specs.Searched.{IsPointLeaf};
+ghost use Rattle.branch_search.specs.Tasks.{free_task};
+ghost use Rattle.branch_search.specs.Settled.{IsImprovedIn};
+ghost use Rattle.branch_search.specs.Valued.{plan_in, IsValued};
+
+use crate::best::{Best, is_below};
+use instance_model::{Instance, Starts, plan_of};
+use lagrange_bound::{Goal, Prices, Span};
+use plan_score::broken_rule;
+use std::alloc::{AllocError, Global};
+
+/// Whether each interval is a single start.
+pub(crate) fn is_single(spans: &[Span]) -> bool
+    ensures { IsTrue result ↔ IsSingle spans.now }
+{
+    for span in spans {
+        if span.from != span.to {
+            return false;
+        }
+    }
+    true
+}
+
+/// The first start of each interval.
+fn starts_of(alloc: Global, spans: &[Span]) -> Result<Vec<u32>, AllocError>
+    ensures { IfOk result (λ starts. starts.items ≡ first_starts spans.now) }
+{
+    let mut starts = Vec::new(alloc);
+    for span in spans {
+        starts.push(span.from)?;
+    }
+    Ok(starts)
+}
+
+/// Judges the plan of a box that is a single one, and keeps it where it is feasible and better than the best one.
+pub(crate) fn take_point<G: Goal>(
+    alloc: Global,
+    goal: &G,
+    inst: &Instance,
+    lists: &[Prices],
+    spans: &[Span],
+    best: &mut Option<Best>,
+) -> Result<(), AllocError>
+    requires spans { IsBox inst.now spans.now }
+    requires single { IsSingle spans.now }
+    requires valued { IsValued (G.value_gives goal.now) inst.now best.old }
+    ensures improved { OnOk result (IsImprovedIn
+        (free_task (G.base_gives goal.now) (G.value_gives goal.now) inst.now lists.now) spans.now
+        (plan_in best.old) (plan_in best.new)) }
+    ensures reached { OnOk result
+        (IsPointLeaf (G.value_gives goal.now) inst.now (plan_in best.new) spans.now) }
+    ensures valued { OnOk result (IsValued (G.value_gives goal.now) inst.now best.new) }
+{
+    let _lists = lists;
+    let starts = starts_of(alloc, spans)?;
+    let plan = plan_of(alloc, starts.as_slice())?;
+    if broken_rule(inst, plan.as_slice()).is_some() {
+        return Ok(());
+    }
+    let value = goal.value(alloc, inst, starts.as_slice())?;
+    if is_below(best, value) {
+        *best = Some(Best {
+            starts: Starts::from_vec(starts),
+            value,
+        });
+    }
+    Ok(())
+}
