@@ -95,7 +95,16 @@ pub fn search<G: Goal>(
     let known = lists.as_slice();
     let worths = worths_of(alloc, goal, inst, known)?;
     let mut growth = begin(alloc, goal, inst, known, &worths, incumbent)?;
-    grow(alloc, goal, inst, known, &worths, incumbent, turns, &mut growth)?;
+    grow(
+        alloc,
+        goal,
+        inst,
+        known,
+        &worths,
+        incumbent,
+        turns,
+        &mut growth,
+    )?;
     let answer = finish(alloc, lists, growth)?;
     Ok(answer)
 }

@@ -37,8 +37,12 @@ loop-step-preserved c =
     record {
       count = omega (arith, a, b, c.loop-step.invariant.count);
       listed = λ s h. elim c.match-cell.branch [
-        | in-Split+in_ok-push-3+in_ok-push-4 w ↦ rw (w.stack-is, w.in_ok-push-4.ensures.items,
-            w.in_ok-push-3.ensures.items, c.in_ok-push-2.ensures.items)
+        | in-Split+in_ok-push-3+in_ok-push-4 w ↦ rw (
+          w.stack-is,
+          w.in_ok-push-4.ensures.items,
+          w.in_ok-push-3.ensures.items,
+          c.in_ok-push-2.ensures.items,
+        )
             (split_listed c.args.cells.now s c.loop-step.nodes.items c.pop.new.self.items c.in-Some.k
             w.in-Split.i w.in-Split.last (at_top c.args.cells.now s c.loop-step.nodes.items c.loop-step.stack.items c.pop.new.self.items c.in-Some.k (c.loop-step.invariant.listed s h) c.in-Some.ensures.items) w.in-Split.is).listed
         | in_default-node w ↦ rw (w.stack-is, c.in_ok-push-2.ensures.items)

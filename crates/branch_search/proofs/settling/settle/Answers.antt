@@ -12,9 +12,9 @@ pub returns-in-Some-clause-leaf : goal.returns-in-Some-clause-leaf
 returns-in-Some-clause-leaf g c = record {
   no_split = refuting_leaf c.args.inst.now c.args.spans.now c.in-Some.node c.in-Some.ensures.some;
   settled = refuting_settled (free_task (g.G.Goal.base_gives c.args.goal.now) (g.G.Goal.value_gives c.args.goal.now)
-    c.args.inst.now c.args.lists.now) (plan_in c.args.best.now) c.args.spans.now c.in-Some.node c.in-Some.ensures.some;
+      c.args.inst.now c.args.lists.now) (plan_in c.args.best.now) c.args.spans.now c.in-Some.node c.in-Some.ensures.some;
   worth = refuting_worth (free_task (g.G.Goal.base_gives c.args.goal.now) (g.G.Goal.value_gives c.args.goal.now)
-    c.args.inst.now c.args.lists.now) c.args.spans.now c.in-Some.node c.in-Some.ensures.some;
+      c.args.inst.now c.args.lists.now) c.args.spans.now c.in-Some.node c.in-Some.ensures.some;
   small = tt;
 }
 

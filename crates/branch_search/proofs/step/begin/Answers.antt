@@ -26,17 +26,17 @@ returns-clause-state g c =
     c.new-cells.ensures.items in
     record {
       state = subst (λ (xs : List Cell). IsGrown (task_of (g.G.Goal.base_gives c.args.goal.now) (g.G.Goal.value_gives c.args.goal.now) c.args.inst.now
-    c.args.lists.now (option_map (λ given. given.now) c.args.incumbent)) xs c.await_leaf.new.waiting (plan_in c.settle.new.best) 0) (sym cells)
+          c.args.lists.now (option_map (λ given. given.now) c.args.incumbent)) xs c.await_leaf.new.waiting (plan_in c.settle.new.best) 0) (sym cells)
           (grown_at_first (task_of (g.G.Goal.base_gives c.args.goal.now) (g.G.Goal.value_gives c.args.goal.now) c.args.inst.now
-    c.args.lists.now (option_map (λ given. given.now) c.args.incumbent)) c.in_ok-leaf.leaf (plan_in c.in_ok-best.best) (plan_in c.settle.new.best)
+          c.args.lists.now (option_map (λ given. given.now) c.args.incumbent)) c.in_ok-leaf.leaf (plan_in c.in_ok-best.best) (plan_in c.settle.new.best)
           c.await_leaf.new.waiting c.fits.ensures c.in_ok-best.ensures.plan
           (given_feasible c.args.inst.now c.args.incumbent (plan_in c.in_ok-best.best) c.in_ok-best.ensures.plan
           c.requires.incumbent)
           (subst (λ (b : List Span). IsLeafOf (free_task (g.G.Goal.base_gives c.args.goal.now) (g.G.Goal.value_gives c.args.goal.now) c.args.inst.now
-    c.args.lists.now) (plan_in c.settle.new.best) b c.in_ok-leaf.leaf) e
+          c.args.lists.now) (plan_in c.settle.new.best) b c.in_ok-leaf.leaf) e
           c.in_ok-leaf.ensures.leaf)
           (subst (λ (b : List Span). IsImprovedIn (free_task (g.G.Goal.base_gives c.args.goal.now) (g.G.Goal.value_gives c.args.goal.now) c.args.inst.now
-    c.args.lists.now) b (plan_in c.in_ok-best.best) (plan_in c.settle.new.best)) e
+          c.args.lists.now) b (plan_in c.in_ok-best.best) (plan_in c.settle.new.best)) e
           c.in_ok-leaf.ensures.improved)
           (subst (λ (es : List (ℤ × ℕ)). IsPermutation (with_entry c.in_ok-leaf.leaf.worth 0 es) c.await_leaf.new.waiting)
           c.new-waiting.ensures c.in_ok-await_leaf.ensures));
