@@ -2,10 +2,9 @@
 //! compared with a walk that makes each box afresh.
 
 use crate::Audit;
-use crate::given::{audited, instance, is_proved};
+use crate::given::{audited, is_proved};
 use crate::written::is_rewritten;
 use branch_certificate::Bound;
-use instance_model::Instance;
 use std::alloc::{AllocError, Global};
 use std::process::Abort;
 use std::test::Fail;
@@ -109,32 +108,31 @@ fn due(bound: u64) -> Audit {
     Audit::Proved(Bound::Least(score))
 }
 
-/// What the deep tree comes to for a bound of so many risks.
-fn audit_risks(alloc: Global, inst: &Instance, risks: u64) -> Result<Audit, Fail> {
+/// What the deep tree comes to for a bound of so many risks, on the instance of a text.
+fn audit_risks(alloc: Global, whole: &str, risks: u64) -> Result<Audit, Fail> {
     let bound = format!(in alloc; "{risks}000000000000000000")?;
-    audit_bound(alloc, inst, bound.as_str())
+    audit_word(alloc, whole, bound.as_str())
 }
 
-fn audit_bound(alloc: Global, inst: &Instance, bound: &str) -> Result<Audit, Fail> {
+fn audit_word(alloc: Global, whole: &str, bound: &str) -> Result<Audit, Fail> {
     let text = certificate_text(alloc, bound)?;
-    Ok(audited(alloc, inst, text.as_bytes())?)
+    Ok(audited(alloc, whole, text.as_bytes())??)
 }
 
 fn is_due(rt: &impl Abort, audit: Audit, due: Audit) {
     assert_eq!(rt; audit, due);
 }
 
-fn the_instance(alloc: Global) -> Result<Instance, Fail> {
-    let text = instance_text(alloc)?;
-    Ok(instance(alloc, text.as_str())?)
-}
-
 #[test]
 fn a_deep_tree_is_audited_as_its_boxes_made_afresh(rt: HostRuntime) -> Result<(), Fail> {
-    let inst = the_instance(rt.alloc())?;
+    let whole = instance_text(rt.alloc())?;
     for k in 0..26u64 {
         let risks = 209 + 40 * k;
-        is_due(&rt, audit_risks(rt.alloc(), &inst, risks)?, due(risks));
+        is_due(
+            &rt,
+            audit_risks(rt.alloc(), whole.as_str(), risks)?,
+            due(risks),
+        );
     }
     Ok(())
 }
@@ -144,16 +142,16 @@ const LEAST: &str = "-1000000000000000000000000000000000000";
 
 #[test]
 fn a_deep_tree_proves_the_least_bound(rt: HostRuntime) -> Result<(), Fail> {
-    let inst = the_instance(rt.alloc())?;
-    let bound = -1_000_000_000_000_000_000_000_000_000_000_000_000;
-    is_proved(&rt, audit_bound(rt.alloc(), &inst, LEAST)?, bound);
+    let whole = instance_text(rt.alloc())?;
+    let bound = Bound::Least(-1_000_000_000_000_000_000_000_000_000_000_000_000);
+    is_proved(&rt, audit_word(rt.alloc(), whole.as_str(), LEAST)?, bound);
     Ok(())
 }
 
 #[test]
 fn a_deep_tree_is_read_and_written(rt: HostRuntime) -> Result<(), Fail> {
     let alloc = rt.alloc();
-    let inst = the_instance(alloc)?;
+    let whole = instance_text(alloc)?;
     let text = certificate_text(alloc, LEAST)?;
-    is_rewritten(&rt, alloc, &inst, text.as_str())
+    is_rewritten(&rt, alloc, whole.as_str(), text.as_str())
 }

@@ -4,9 +4,9 @@
 //! costs, it is the sum of the risks times 10^18.
 
 use crate::Audit;
-use crate::given::{APART, FLOOR, SKEWED, audited, fails_at, instance, is_proved};
-use instance_model::Instance;
-use std::alloc::Global;
+use crate::given::{apart, audited, fails_at, floor, is_proved, skewed};
+use branch_certificate::Bound;
+use std::alloc::{AllocError, Global};
 use std::process::Abort;
 use std::test::Fail;
 
@@ -23,7 +23,7 @@ struct Edge {
     none: u64,
 }
 
-/// On `APART`.
+/// On `apart`.
 const APART_EDGES: [Edge; 5] = [
     // Each plan by itself: both start in 1, A alone does, B alone does, both start in 2.
     Edge {
@@ -63,7 +63,7 @@ const APART_EDGES: [Edge; 5] = [
     },
 ];
 
-/// On `FLOOR`.
+/// On `floor`.
 const FLOOR_EDGES: [Edge; 2] = [
     // A price of 0.6 on what lacks in period 1: start 1 costs 3 less 3, start 2
     // nothing, and 3 is added for the limit of 5.
@@ -81,7 +81,7 @@ const FLOOR_EDGES: [Edge; 2] = [
     },
 ];
 
-/// On `SKEWED`.
+/// On `skewed`.
 const SKEWED_EDGES: [Edge; 4] = [
     // Half of the mean of 2, and half of 3 less 2.
     Edge {
@@ -113,39 +113,46 @@ const SKEWED_EDGES: [Edge; 4] = [
     },
 ];
 
-/// What lines come to behind a bound.
-fn audit_number(alloc: Global, inst: &Instance, bound: i128, lines: &str) -> Result<Audit, Fail> {
-    let text = format!(in alloc; "mpcert 2\nbound {bound}\n{lines}")?;
-    Ok(audited(alloc, inst, text.as_bytes())?)
+/// The word for a bound.
+fn word_of(alloc: Global, bound: Bound) -> Result<String, AllocError> {
+    match bound {
+        Bound::NoPlan => String::from_str(alloc, "none"),
+        Bound::Least(score) => format!(in alloc; "{score}"),
+    }
 }
 
-/// What lines come to where the bound is none.
-fn audit_none(alloc: Global, inst: &Instance, lines: &str) -> Result<Audit, Fail> {
-    let text = format!(in alloc; "mpcert 2\nbound none\n{lines}")?;
-    Ok(audited(alloc, inst, text.as_bytes())?)
+/// What lines come to behind a bound.
+pub fn audit_bound(alloc: Global, whole: &str, bound: Bound, lines: &str) -> Result<Audit, Fail> {
+    let word = word_of(alloc, bound)?;
+    let word = word.as_str();
+    let text = format!(in alloc; "mpcert 2\nbound {word}\n{lines}")?;
+    Ok(audited(alloc, whole, text.as_bytes())??)
 }
 
 /// Whether each bound is proved, and one past it and none are refused at their leaves.
 fn are_edges(rt: &impl Abort, alloc: Global, whole: &str, edges: &[Edge]) -> Result<(), Fail> {
-    let inst = instance(alloc, whole)?;
     for edge in edges {
-        is_edge(rt, alloc, &inst, edge)?;
+        is_edge(rt, alloc, whole, edge)?;
     }
     Ok(())
 }
 
-fn is_edge(rt: &impl Abort, alloc: Global, inst: &Instance, edge: &Edge) -> Result<(), Fail> {
-    let bound = edge.bound;
-    is_proved(rt, audit_number(alloc, inst, bound, edge.lines)?, bound);
-    let past = bound.saturating_add(1);
-    fails_at(rt, audit_number(alloc, inst, past, edge.lines)?, edge.past);
-    fails_at(rt, audit_none(alloc, inst, edge.lines)?, edge.none);
+fn is_edge(rt: &impl Abort, alloc: Global, whole: &str, edge: &Edge) -> Result<(), Fail> {
+    let bound = Bound::Least(edge.bound);
+    is_proved(rt, audit_bound(alloc, whole, bound, edge.lines)?, bound);
+    let past = Bound::Least(edge.bound.saturating_add(1));
+    fails_at(rt, audit_bound(alloc, whole, past, edge.lines)?, edge.past);
+    fails_at(
+        rt,
+        audit_bound(alloc, whole, Bound::NoPlan, edge.lines)?,
+        edge.none,
+    );
     Ok(())
 }
 
 #[test]
 fn the_edge_of_a_bound_is_proved_and_no_more(rt: HostRuntime) -> Result<(), Fail> {
-    are_edges(&rt, rt.alloc(), APART, &APART_EDGES)?;
-    are_edges(&rt, rt.alloc(), FLOOR, &FLOOR_EDGES)?;
-    are_edges(&rt, rt.alloc(), SKEWED, &SKEWED_EDGES)
+    are_edges(&rt, rt.alloc(), apart(), &APART_EDGES)?;
+    are_edges(&rt, rt.alloc(), floor(), &FLOOR_EDGES)?;
+    are_edges(&rt, rt.alloc(), skewed(), &SKEWED_EDGES)
 }

@@ -1,9 +1,9 @@
 //! Leaves that hold or don't, each on an instance that is one edit away from a known one.
 
 use crate::Audit;
-use crate::given::{APART, FLOOR, audited, fails_at, instance, is_proved};
+use crate::edges::audit_bound;
+use crate::given::{apart, audited, fails_at, floor, is_proved};
 use branch_certificate::Bound;
-use instance_model::Instance;
 use std::alloc::Global;
 use std::process::Abort;
 use std::test::Fail;
@@ -28,7 +28,7 @@ const ALONE: (&str, &str) = (r#"["A","B","w"]"#, r#"["A","A","w"]"#);
 
 const AS_IS: (&str, &str) = ("T", "T");
 
-/// On `APART`.
+/// On `apart`.
 const APART_LEAVES: [Leaves; 15] = [
     Leaves {
         edit: TOGETHER,
@@ -111,7 +111,7 @@ const APART_LEAVES: [Leaves; 15] = [
     },
 ];
 
-/// On `FLOOR`.
+/// On `floor`.
 const FLOOR_LEAVES: [Leaves; 2] = [
     Leaves {
         edit: AS_IS,
@@ -129,14 +129,13 @@ const FLOOR_LEAVES: [Leaves; 2] = [
 fn audit_edited(alloc: Global, whole: &str, edit: (&str, &str), tree: &str) -> Result<Audit, Fail> {
     let (old, new) = edit;
     let text = whole.replace(alloc, old, new)?;
-    let inst = instance(alloc, text.as_str())?;
-    audit_tree(alloc, &inst, tree)
+    audit_tree(alloc, text.as_str(), tree)
 }
 
 /// What a tree comes to, where the bound is none.
-fn audit_tree(alloc: Global, inst: &Instance, tree: &str) -> Result<Audit, Fail> {
+fn audit_tree(alloc: Global, whole: &str, tree: &str) -> Result<Audit, Fail> {
     let text = format!(in alloc; "mpcert 1\nbound none\nlists 0\ntree\n{tree}")?;
-    Ok(audited(alloc, inst, text.as_bytes())?)
+    Ok(audited(alloc, whole, text.as_bytes())??)
 }
 
 /// Whether the first leaf that doesn't hold is the one that is said.
@@ -154,26 +153,23 @@ fn hold_as_said(rt: &impl Abort, alloc: Global, whole: &str, trees: &[Leaves]) -
 
 #[test]
 fn leaves_hold_exactly_where_no_plan_is_left(rt: HostRuntime) -> Result<(), Fail> {
-    hold_as_said(&rt, rt.alloc(), APART, &APART_LEAVES)?;
-    hold_as_said(&rt, rt.alloc(), FLOOR, &FLOOR_LEAVES)
+    hold_as_said(&rt, rt.alloc(), apart(), &APART_LEAVES)?;
+    hold_as_said(&rt, rt.alloc(), floor(), &FLOOR_LEAVES)
 }
 
-/// What a bound comes to by a price of 2 on an exclusion in period 1.
-fn audit_priced(alloc: Global, inst: &Instance, bound: i128) -> Result<Audit, Fail> {
-    let lines = "lists 1\nprices\nex 1 1 2000000\ntree\ncost 1\n";
-    let text = format!(in alloc; "mpcert 2\nbound {bound}\n{lines}")?;
-    Ok(audited(alloc, inst, text.as_bytes())?)
-}
+/// A price of 2 on an exclusion in period 1.
+const PRICED: &str = "lists 1\nprices\nex 1 1 2000000\ntree\ncost 1\n";
 
 // A costs 4 in either period, B nothing in period 1, and 2 is taken off once.
 #[test]
 fn an_exclusion_of_one_is_priced_twice(rt: HostRuntime) -> Result<(), Fail> {
     let alloc = rt.alloc();
     let (old, new) = ALONE;
-    let text = APART.replace(alloc, old, new)?;
-    let inst = instance(alloc, text.as_str())?;
-    let bound = 2_000_000_000_000_000_000;
-    is_proved(&rt, audit_priced(alloc, &inst, bound)?, bound);
-    fails_at(&rt, audit_priced(alloc, &inst, bound + 1)?, 1);
+    let text = apart().replace(alloc, old, new)?;
+    let whole = text.as_str();
+    let bound = Bound::Least(2_000_000_000_000_000_000);
+    is_proved(&rt, audit_bound(alloc, whole, bound, PRICED)?, bound);
+    let past = Bound::Least(2_000_000_000_000_000_001);
+    fails_at(&rt, audit_bound(alloc, whole, past, PRICED)?, 1);
     Ok(())
 }

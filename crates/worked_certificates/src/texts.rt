@@ -1,15 +1,15 @@
 //! Texts that are cut off or damaged, each told with the first line at fault.
 
 use crate::Audit;
-use crate::given::{APART, audited, fails_at, instance, is_proved};
+use crate::given::{apart, audited, fails_at, is_proved};
 use branch_certificate::{Bound, CertFault};
-use instance_model::Instance;
 use std::alloc::{AllocError, Global};
 use std::process::Abort;
 use std::test::Fail;
 
-/// A certificate with each kind of line but `empty`, accepted on `APART`. It has 17 lines.
-pub const WHOLE: &str = "mpcert 2
+/// A certificate with each kind of line but `empty`, accepted on `apart`. It has 17 lines.
+pub fn whole() -> &'static str {
+    "mpcert 2
 bound -5
 lists 2
 prices
@@ -26,7 +26,8 @@ point
 split 2 1
 cost 2
 band 1 2 over
-";
+"
+}
 
 /// A part of the text, what stands in its place, and the fault then.
 const DAMAGED: [(&str, &str, CertFault); 51] = [
@@ -133,13 +134,12 @@ const EDITED: [(&str, &str, Audit); 5] = [
 /// What a text comes to with a part of it replaced.
 fn audit_edited(
     alloc: Global,
-    inst: &Instance,
     whole: &str,
     old: &str,
     new: &str,
 ) -> Result<Result<Audit, CertFault>, Fail> {
     let text = whole.replacen(alloc, old, new, 1)?;
-    Ok(audited(alloc, inst, text.as_bytes()))
+    Ok(audited(alloc, apart(), text.as_bytes())?)
 }
 
 fn audits(
@@ -148,9 +148,8 @@ fn audits(
     whole: &str,
     edited: &[(&str, &str, Audit)],
 ) -> Result<(), Fail> {
-    let inst = instance(alloc, APART)?;
     for (old, new, want) in edited {
-        let audit = audit_edited(alloc, &inst, whole, old, new)?;
+        let audit = audit_edited(alloc, whole, old, new)?;
         assert_eq!(rt; audit, Ok(*want), "{new}");
     }
     Ok(())
@@ -162,19 +161,17 @@ fn tells(
     whole: &str,
     damaged: &[(&str, &str, CertFault)],
 ) -> Result<(), Fail> {
-    let inst = instance(alloc, APART)?;
     for (old, new, fault) in damaged {
-        let audit = audit_edited(alloc, &inst, whole, old, new)?;
+        let audit = audit_edited(alloc, whole, old, new)?;
         assert_eq!(rt; audit, Err(*fault), "{new}");
     }
     Ok(())
 }
 
 fn tells_each_cut(rt: &impl Abort, alloc: Global, whole: &[u8]) -> Result<(), Fail> {
-    let inst = instance(alloc, APART)?;
     let mut line = 1u64;
     for n in 0..whole.len() {
-        let audit = audited(alloc, &inst, &whole[..n]);
+        let audit = audited(alloc, apart(), &whole[..n])?;
         assert_eq!(rt; audit, Err(CertFault::Cut { n: line }), "{n}");
         if whole[n] == b'\n' {
             line = line.saturating_add(1);
@@ -185,17 +182,17 @@ fn tells_each_cut(rt: &impl Abort, alloc: Global, whole: &[u8]) -> Result<(), Fa
 
 #[test]
 fn a_whole_text_is_audited(rt: HostRuntime) -> Result<(), Fail> {
-    audits(&rt, rt.alloc(), WHOLE, &EDITED)
+    audits(&rt, rt.alloc(), whole(), &EDITED)
 }
 
 #[test]
 fn a_cut_text_is_told_by_its_last_line(rt: HostRuntime) -> Result<(), Fail> {
-    tells_each_cut(&rt, rt.alloc(), WHOLE.as_bytes())
+    tells_each_cut(&rt, rt.alloc(), whole().as_bytes())
 }
 
 #[test]
 fn a_damaged_text_is_told_by_its_first_fault(rt: HostRuntime) -> Result<(), Fail> {
-    tells(&rt, rt.alloc(), WHOLE, &DAMAGED)
+    tells(&rt, rt.alloc(), whole(), &DAMAGED)
 }
 
 /// The text of a certificate of sixteen lists, of which the last one alone has a price, with this leaf.
@@ -209,18 +206,17 @@ fn sixteen(alloc: Global, leaf: &str) -> Result<String, AllocError> {
     Ok(text)
 }
 
-fn audit_sixteen(alloc: Global, inst: &Instance, leaf: &str) -> Result<Audit, Fail> {
+fn audit_sixteen(alloc: Global, leaf: &str) -> Result<Audit, Fail> {
     let text = sixteen(alloc, leaf)?;
-    Ok(audited(alloc, inst, text.as_bytes())?)
+    Ok(audited(alloc, apart(), text.as_bytes())??)
 }
 
 #[test]
 fn the_last_of_sixteen_lists_counts(rt: HostRuntime) -> Result<(), Fail> {
     let alloc = rt.alloc();
-    let inst = instance(alloc, APART)?;
-    let bound = 2_000_000_000_000_000_000;
-    fails_at(&rt, audit_sixteen(alloc, &inst, "cost 15\n")?, 1);
-    is_proved(&rt, audit_sixteen(alloc, &inst, "cost 16\n")?, bound);
+    let bound = Bound::Least(2_000_000_000_000_000_000);
+    fails_at(&rt, audit_sixteen(alloc, "cost 15\n")?, 1);
+    is_proved(&rt, audit_sixteen(alloc, "cost 16\n")?, bound);
     Ok(())
 }
 

@@ -2,8 +2,8 @@
 
 ghost use Rattle.branch_tree.specs.Ranges.{IsInRange};
 
-use crate::given::{APART, instance};
-use crate::texts::WHOLE;
+use crate::given::{apart, instance};
+use crate::texts::whole;
 use branch_certificate::{Certificate, read_certificate, write_certificate};
 use instance_model::Instance;
 use plan_desk::{Desk, DeskCall, Failed, MemDesk};
@@ -19,8 +19,13 @@ fn write_new<D: Desk>(inst: &Instance, cert: &Certificate, desk: &mut D) -> Resu
     write_certificate(inst, cert, desk)
 }
 
-/// Reads a certificate, writes it, and compares the two texts.
-pub fn is_rewritten(
+/// Reads a certificate for the instance of a text, writes it, and compares the two texts.
+pub fn is_rewritten(rt: &impl Abort, alloc: Global, whole: &str, text: &str) -> Result<(), Fail> {
+    let inst = instance(alloc, whole)?;
+    is_rewritten_for(rt, alloc, &inst, text)
+}
+
+fn is_rewritten_for(
     rt: &impl Abort,
     alloc: Global,
     inst: &Instance,
@@ -33,9 +38,8 @@ pub fn is_rewritten(
     Ok(())
 }
 
-/// Certificates with each kind of line, in both versions.
-const TEXTS: [&str; 4] = [
-    WHOLE,
+/// Certificates with each kind of line, in both versions: beside these the whole one.
+const TEXTS: [&str; 3] = [
     "mpcert 1\nbound none\nlists 0\ntree\nempty 2\n",
     "mpcert 1\nbound 0\nlists 1\nprices\nup 1 2 1\nlo 1 1 7\ntail 1 1 1\ntail 2 999 1\ntree\nband 1 2 under\n",
     "mpcert 2\nbound 1000000000000000000000000000000000000\nlists 1\nprices\nex 1 1 1\nex 1 2 1000000000\n\
@@ -43,32 +47,40 @@ const TEXTS: [&str; 4] = [
 ];
 
 fn are_rewritten(rt: &impl Abort, alloc: Global, texts: &[&str]) -> Result<(), Fail> {
-    let inst = instance(alloc, APART)?;
     for text in texts {
-        is_rewritten(rt, alloc, &inst, text)?;
+        is_rewritten(rt, alloc, apart(), text)?;
     }
     Ok(())
 }
 
 #[test]
 fn a_certificate_is_written_as_it_was_read(rt: HostRuntime) -> Result<(), Fail> {
+    is_rewritten(&rt, rt.alloc(), apart(), whole())?;
     are_rewritten(&rt, rt.alloc(), &TEXTS)
 }
 
 // What writing this text answers, where the nth write fails.
 fn write_at(alloc: Global, text: &str, nth: u32) -> Result<Result<(), Failed>, Fail> {
-    let inst = instance(alloc, APART)?;
-    let cert = read_certificate(alloc, &inst, text.as_bytes())?;
+    let inst = instance(alloc, apart())?;
+    write_for(alloc, &inst, text, nth)
+}
+
+fn write_for(
+    alloc: Global,
+    inst: &Instance,
+    text: &str,
+    nth: u32,
+) -> Result<Result<(), Failed>, Fail> {
+    let cert = read_certificate(alloc, inst, text.as_bytes())?;
     let mut desk = MemDesk::make(alloc);
     desk.fail_at(DeskCall::Write, nth)?;
-    Ok(write_new(&inst, &cert, &mut desk))
+    Ok(write_new(inst, &cert, &mut desk))
 }
 
 #[test]
 fn a_failed_write_is_told(rt: HostRuntime) -> Result<(), Fail> {
-    let alloc = rt.alloc();
-    assert_eq!(rt; write_at(alloc, WHOLE, 1)?, Err(Failed));
-    assert_eq!(rt; write_at(alloc, WHOLE, 2)?, Err(Failed));
-    assert_eq!(rt; write_at(alloc, WHOLE, 9)?, Err(Failed));
+    for nth in [1, 2, 9] {
+        assert_eq!(rt; write_at(rt.alloc(), whole(), nth)?, Err(Failed), "{nth}");
+    }
     Ok(())
 }
