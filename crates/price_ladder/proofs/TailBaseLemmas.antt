@@ -1,20 +1,17 @@
 -- Another tail of a period leaves the bases of starts that don't run in it as they are.
-use Rattle.std.proofs.Common.{◌≡◌, ℕ, ◌+◌, ◌-◌, ◌*◌, ◌<◌, ◌≤◌, refl, sym, ◌∙◌, ap, subst, arith, ℤ, pos, ◌+ℤ◌, ◌-ℤ◌, ◌≤ℤ◌}
-use Rattle.std.proofs.Common.{List, get_or, Bool, true, false, cond, Option, ◌≢◌, unsigned_abs, ◌^◌, FitsSigned}
-use Rattle.std.specs.Int.{w128}
-use Rattle.std.proofs.lemmas.Int.{fits_signed_from_abs}
+use Rattle.std.proofs.Common.{◌≡◌, ℕ, ◌+◌, ◌-◌, ◌*◌, ◌<◌, ◌≤◌, refl, ◌∙◌, ap, subst, arith, ℤ, pos, ◌-ℤ◌}
+use Rattle.std.proofs.Common.{List, Bool, true, false, cond, Option, ◌≢◌, unsigned_abs, ◌^◌}
 use Rattle.std.proofs.lemmas.List.{get_or-set_other}
-use Rattle.fixed_num.specs.Sums.{sum_below}
 use Rattle.fixed_num.proofs.Bits.{by_bits}
 use Rattle.fixed_num.proofs.SignedLemmas.{signed_arith, back_from_abs}
 use Rattle.fixed_num.proofs.SumLemmas.{sum_below_same}
-use Rattle.instance_model.specs.Tables.{Tables, in_run, is_allowed}
+use Rattle.instance_model.specs.Tables.{Tables, in_run}
 use Rattle.lagrange_bound.specs.declared.tail.Tail.{Tail}
 use Rattle.lagrange_bound.specs.Prices.{PriceList, tail_of}
 use Rattle.lagrange_bound.specs.Changes.{with_tail}
 use Rattle.lagrange_bound.specs.Bases.{base_of, term_of}
 use Rattle.lagrange_bound.specs.Goals.{risk_base}
-use Rattle.price_ladder.specs.Kept.{kept_at, rebased_of, gap_of}
+use Rattle.price_ladder.specs.Kept.{kept_at, rebased_of}
 
 pub base_idle : (inst : Tables) (old new : PriceList) (t : ℕ) (tail : Option Tail) (i s : ℕ) → 1 ≤ t
     → new ≡ with_tail old t tail → in_run inst i s t ≡ false → risk_base inst new i s ≡ risk_base inst old i s

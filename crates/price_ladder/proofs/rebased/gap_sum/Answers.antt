@@ -1,4 +1,4 @@
-use Rattle.std.proofs.Common.{◌≡◌, ◌+◌, ◌*◌, ◌<◌, ◌≤◌, ◌^◌, sym, subst, arith, ℤ, to_z, unsigned_abs, get_or}
+use Rattle.std.proofs.Common.{◌+◌, ◌*◌, ◌<◌, ◌≤◌, ◌^◌, sym, arith, to_z, unsigned_abs}
 use Rattle.std.specs.Int.{w128}
 use Rattle.fixed_num.proofs.SumLemmas.{sum_below-zero, sum_step, sum_step_small}
 use Rattle.price_ladder.specs.Kept.{gap_of}

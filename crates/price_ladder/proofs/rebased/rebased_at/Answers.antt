@@ -1,4 +1,4 @@
-use Rattle.std.proofs.Common.{◌≡◌, ◌∙◌, arith, ℤ}
+use Rattle.std.proofs.Common.{◌∙◌, arith}
 use Rattle.fixed_num.proofs.SignedLemmas.{back_from_abs}
 use Rattle.price_ladder.specs.Kept.{rebased_of}
 use Rattle.price_ladder.proofs.KeptLemmas.{place_row, at_place}
