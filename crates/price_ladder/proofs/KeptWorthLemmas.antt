@@ -11,7 +11,7 @@ use Rattle.fixed_num.specs.Sums.{sum_below}
 use Rattle.fixed_num.proofs.Bits.{by_bits}
 use Rattle.fixed_num.proofs.SignedLemmas.{signed_arith, back_from_abs}
 use Rattle.fixed_num.proofs.SumLemmas.{sum_below_same, sum_below_mono, sum_below-add, sum_below-scale, *ℤ-+ℤ, abs-sum}
-use Rattle.instance_model.specs.Tables.{Tables, is_allowed}
+use Rattle.instance_model.specs.Tables.{Tables, is_allowed, in_run}
 use Rattle.instance_model.specs.Plans.{AreAllowedStarts}
 use Rattle.instance_model.specs.Fitting.{IsFitting}
 use Rattle.instance_model.proofs.EntryLemmas.{is_allowed_facts}
@@ -34,8 +34,9 @@ use Rattle.price_ladder.specs.Tried.{NoneReaches}
 use Rattle.price_ladder.specs.Weights.{price_at, weight_of, fixed_weight}
 use Rattle.price_ladder.specs.declared.kept.Beside.{Beside}
 use Rattle.price_ladder.specs.Kept.{kept_at, AreValues, AreSmall, AreSmallBases, more_of, shifted_of, AreLeast}
-use Rattle.price_ladder.specs.Kept.{sum_over, slope_of}
+use Rattle.price_ladder.specs.Kept.{sum_over, slope_of, rebased_of, gap_of}
 use Rattle.price_ladder.specs.Beside.{IsSettled, IsBeside}
+use Rattle.price_ladder.proofs.TailBaseLemmas.{base_idle}
 use Rattle.price_ladder.proofs.ChangeLemmas.{price_changed, fixed_changed}
 use Rattle.price_ladder.proofs.GainLemmas.{zero_price, zero_fixed}
 use Rattle.price_ladder.proofs.KeptLemmas.{entry_within}
@@ -58,6 +59,12 @@ sum_over-more inst f g times choice =
     sum_below-add (length inst.names) (λ i. f i (get_or choice i 0)) (λ i. times *ℤ g i (get_or choice i 0))
     ∙ ap (λ (z : ℤ). sum_below (length inst.names) (λ i. f i (get_or choice i 0)) +ℤ z)
     (sum_below-scale (length inst.names) times (λ i. g i (get_or choice i 0)))
+
+sum_over-both : (inst : Tables) (f g : ℕ → ℕ → ℤ) (choice : List ℕ)
+    → sum_over inst (λ i s. f i s +ℤ g i s) choice ≡ sum_over inst f choice +ℤ sum_over inst g choice
+unfolding sum_over
+sum_over-both inst f g choice =
+    sum_below-add (length inst.names) (λ i. f i (get_or choice i 0)) (λ i. g i (get_or choice i 0))
 
 -- ---- the allowed starts
 
@@ -382,3 +389,72 @@ pub AreSmall-weaker : (inst : Tables) (a b : ℕ) (entries : List ℤ) → a ≤
     → AreSmall inst b entries
 AreSmall-weaker inst a b entries le h =
     record { each = h.each; at = λ i s l m. omega (arith, le, h.at i s l m) }
+
+-- ---- what is kept after another tail, where the bases of starts that don't run in its period stay
+
+rebased_is : (inst : Tables) (old new : PriceList) (t : ℕ) (tail : Option Tail) (bases : List ℤ) (i s : ℕ) → 1 ≤ t
+    → new ≡ with_tail old t tail → AreValues inst (risk_base inst old) bases → i < length inst.names
+    → IsTrue (is_allowed inst i s) → rebased_of inst new t bases i s ≡ risk_base inst new i s
+unfolding rebased_of
+rebased_is inst old new t tail bases i s one e v l a = at (in_run inst i s t) refl
+  where
+    at : (b : Bool) → in_run inst i s t ≡ b
+        → cond b (risk_base inst new i s) (kept_at inst bases i s) ≡ risk_base inst new i s
+    at true r = refl
+    at false r = v.at i s l a ∙ sym (base_idle inst old new t tail i s one e r)
+
+pub rebased_values : (inst : Tables) (old new : PriceList) (t : ℕ) (tail : Option Tail) (bases more : List ℤ) → 1 ≤ t
+    → new ≡ with_tail old t tail → AreValues inst (risk_base inst old) bases
+    → AreValues inst (rebased_of inst new t bases) more → AreValues inst (risk_base inst new) more
+rebased_values inst old new t tail bases more one e v m = record {
+  each = m.each;
+  at = λ i s l a. m.at i s l a ∙ rebased_is inst old new t tail bases i s one e v l a;
+}
+
+-- the price of a start by a list with another tail
+tail_price : (inst : Tables) (old new : PriceList) (t : ℕ) (tail : Option Tail) (i s : ℕ) → new ≡ with_tail old t tail
+    → price_at inst new i s ≡ price_at inst old i s +ℤ (risk_base inst new i s -ℤ risk_base inst old i s)
+unfolding price_of band_part
+tail_price inst old new t tail i s e =
+    ap (λ (p : PriceList). (risk_base inst new i s +ℤ band_part inst p i s)
+    +ℤ pos (1_000_000_000_000 * ex_part inst p.ex i s)) e
+    ∙ sum (risk_base inst old i s) (risk_base inst new i s) (band_part inst old i s) _
+  where
+    sum : (a b x y : ℤ) → (b +ℤ x) +ℤ y ≡ ((a +ℤ x) +ℤ y) +ℤ (b -ℤ a)
+    sum a b x y = omega (arith, signed_arith)
+
+-- the worth by another tail from above
+pub tail_bounded : (inst : Tables) (old new : PriceList) (t : ℕ) (tail : Option Tail) (bases : List ℤ)
+    (choice : List ℕ) (worth : ℤ) → 1 ≤ t → new ≡ with_tail old t tail → AreValues inst (risk_base inst old) bases
+    → AreAllowedStarts inst choice → worth ≡ sum_over inst (price_at inst old) choice +ℤ fixed_part inst old
+    → root_worth inst new ≤ℤ (worth +ℤ sum_over inst (gap_of inst new t bases) choice)
+tail_bounded inst old new t tail bases choice worth one e v a is =
+    let p : sum_over inst (price_at inst new) choice
+    ≡ sum_over inst (price_at inst old) choice +ℤ sum_over inst (gap_of inst new t bases) choice =
+    sum_over_same inst (price_at inst new) (λ i s. price_at inst old i s +ℤ gap_of inst new t bases i s) choice a
+    (λ i s l b. tail_price inst old new t tail i s e ∙ ap (λ (z : ℤ). price_at inst old i s +ℤ z)
+    (gap (risk_base inst old i s) (risk_base inst new i s) _ _ (rebased_is inst old new t tail bases i s one e v l b)
+    (v.at i s l b))) ∙ sum_over-both inst (price_at inst old) (gap_of inst new t bases) choice in
+    subst (λ (z : ℤ). root_worth inst new ≤ℤ z)
+    (together _ _ _ _ _ _ p (tail_fixed inst old new t tail e) is) (worth_below inst new choice a)
+  where
+    gap : (a b x y : ℤ) → x ≡ b → y ≡ a → b -ℤ a ≡ x -ℤ y
+    gap a b x y p q = rw (p, q) refl
+
+    together : (x y z f g w : ℤ) → x ≡ y +ℤ z → f ≡ g → w ≡ y +ℤ g → x +ℤ f ≡ w +ℤ z
+    together x y z f g w p q r = omega (arith, signed_arith, p, q, r)
+
+-- the sum of a worth and a gap, as the code adds it up
+pub record IsRaisedBy (a g : ℤ) (r : ℤ) : Type 0 where
+  pub value : r ≡ a +ℤ g
+  pub small : unsigned_abs r < 2 * 10 ^ 37
+
+pub raised_is : (a g : ℤ) → unsigned_abs a < 10 ^ 37 → unsigned_abs g ≤ 1024 * 2 * 10 ^ 30
+    → IsRaisedBy a g (by_bits a +ℤ by_bits g)
+raised_is a g h k =
+    let u : by_bits a ≡ a = back_from_abs a (omega (arith, h)) in
+    let v : by_bits g ≡ g = back_from_abs g (omega (arith, k)) in
+    record { value = rw (u, v) refl; small = rw (u, v) (omega (arith, abs-sum a g, h, k)) }
+
+pub falls_below : (w x r t : ℤ) → w ≤ℤ x → r ≡ x → r <ℤ t → w <ℤ t
+falls_below w x r t h e l = omega (arith, signed_arith, h, e, l)

@@ -13,4 +13,5 @@ pub mod WeightLemmas
 pub mod ChangeLemmas
 pub mod ChoiceLemmas
 pub mod KeptLemmas
+pub mod TailBaseLemmas
 pub mod KeptWorthLemmas

@@ -1,8 +1,8 @@
 -- What is kept beside a price list. Cited by private functions only: no part of any promise.
 use Rattle.std.specs.Prelude.{◌≡◌, ℕ, ◌+◌, ◌-◌, ◌*◌, ◌<◌, ◌^◌, ℤ, pos, ◌+ℤ◌, ◌-ℤ◌, ◌*ℤ◌, ◌≤ℤ◌, List, length, IsTrue, slice_index}
-use Rattle.std.specs.Prelude.{slice_index_or, unsigned_abs}
+use Rattle.std.specs.Prelude.{slice_index_or, unsigned_abs, if◌then◌else◌}
 use Rattle.fixed_num.specs.Sums.{sum_below}
-use Rattle.instance_model.specs.Tables.{Tables, is_allowed}
+use Rattle.instance_model.specs.Tables.{Tables, is_allowed, in_run}
 use Rattle.instance_model.specs.Plans.{AreAllowedStarts}
 use Rattle.lagrange_bound.specs.Prices.{PriceList}
 use Rattle.lagrange_bound.specs.Goals.{risk_base}
@@ -39,6 +39,14 @@ more_of inst place times entries i s = kept_at inst entries i s +ℤ times *ℤ 
 abbrev pub shifted_of : Tables → List ℤ → List ℤ → List ℤ → ℕ → ℕ → ℤ
 shifted_of inst before after entries i s =
     kept_at inst entries i s +ℤ (kept_at inst after i s -ℤ kept_at inst before i s)
+
+-- the base of a start that runs in period t, or the kept one
+unfoldable pub rebased_of : Tables → PriceList → ℕ → List ℤ → ℕ → ℕ → ℤ
+rebased_of inst prices t bases i s = if in_run inst i s t then risk_base inst prices i s else kept_at inst bases i s
+
+-- how far that is above the kept one
+abbrev pub gap_of : Tables → PriceList → ℕ → List ℤ → ℕ → ℕ → ℤ
+gap_of inst prices t bases i s = rebased_of inst prices t bases i s -ℤ kept_at inst bases i s
 
 -- each is an allowed start whose kept number is least
 pub record AreLeast (inst : Tables) (entries : List ℤ) (choice : List ℕ) : Type 0 where

@@ -26,7 +26,7 @@ pub(crate) fn entry(inst: &Instance, entries: &[i128], i: u32, s: u32) -> i128
 }
 
 /// How many numbers are kept.
-fn entry_count(inst: &Instance) -> u32
+pub(crate) fn entry_count(inst: &Instance) -> u32
     ensures value { result ≡ length inst.now.names * inst.now.periods }
     ensures few { result ≤ 524_288 }
 {

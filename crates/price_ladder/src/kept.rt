@@ -17,6 +17,7 @@ use crate::ladder::Ladder;
 use crate::place::{set_value, value_at};
 use crate::plain::is_same;
 use crate::plan_tail::plan_tail;
+use crate::rebased::{all_rebased, gap_sum};
 use crate::weight::fixed_weight;
 use instance_model::Instance;
 use lagrange_bound::{Prices, Tail};
@@ -147,7 +148,18 @@ fn try_switch(
 {
     inst.fits();
     kept.prices.set_tail(inst, t, tail);
-    let bases = all_bases(alloc, inst, &kept.prices)?;
+    let gap = gap_sum(
+        inst,
+        &kept.prices,
+        t,
+        kept.bases.as_slice(),
+        kept.beside.choice.as_slice(),
+    );
+    if kept.beside.worth + gap < target {
+        kept.prices.set_tail(inst, t, before);
+        return Ok(false);
+    }
+    let bases = all_rebased(alloc, inst, &kept.prices, t, kept.bases.as_slice())?;
     let entries = all_shifted(
         alloc,
         inst,

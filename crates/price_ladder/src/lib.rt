@@ -15,6 +15,7 @@ mod least_gain;
 mod place;
 mod plain;
 mod plan_tail;
+mod rebased;
 mod root;
 mod scan;
 mod sizes;
