@@ -8,3 +8,4 @@ pub mod ReadLemmas
 pub mod CertificateLemmas
 pub mod AnswerLemmas
 pub mod TakenLemmas
+pub mod WriteLemmas

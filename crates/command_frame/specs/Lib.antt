@@ -7,3 +7,4 @@ pub mod Bytes
 pub mod Openings
 pub mod Files
 pub mod Refusals
+pub mod Writing

@@ -91,7 +91,8 @@ fn push_least(text: &mut Text, least: i128, cost: i128) -> Result<(), AllocError
     push_cost_line(text, cost)
 }
 
-fn push_bound_line(text: &mut Text, least: i128) -> Result<(), AllocError>
+/// Adds the line of a bound in parts of 10^-18.
+pub fn push_bound_line(text: &mut Text, least: i128) -> Result<(), AllocError>
     ensures { OnOk result (text.new ≡ text.old ++ bound_line least) }
 {
     text.push("bound ")?;
@@ -133,7 +134,8 @@ fn push_score_and_gap(text: &mut Text, score: i128, gap: i128) -> Result<(), All
     push_gap_line(text, gap)
 }
 
-fn push_gap_line(text: &mut Text, gap: i128) -> Result<(), AllocError>
+/// Adds the line that says how far a score is above a bound, in parts of 10^-18.
+pub fn push_gap_line(text: &mut Text, gap: i128) -> Result<(), AllocError>
     ensures { OnOk result (text.new ≡ text.old ++ gap_line gap) }
 {
     text.push("gap ")?;
@@ -141,7 +143,8 @@ fn push_gap_line(text: &mut Text, gap: i128) -> Result<(), AllocError>
     text.push("\n")
 }
 
-fn push_score(text: &mut Text, score: i128) -> Result<(), AllocError>
+/// Adds the line of a score, in parts of 10^-18.
+pub fn push_score(text: &mut Text, score: i128) -> Result<(), AllocError>
     ensures { OnOk result (text.new ≡ text.old ++ score_line score) }
 {
     text.push("score ")?;
@@ -149,7 +152,8 @@ fn push_score(text: &mut Text, score: i128) -> Result<(), AllocError>
     text.push("\n")
 }
 
-fn push_ranges(text: &mut Text, values: &Values) -> Result<(), AllocError>
+/// Adds the lines of the cost, the mean and the excess.
+pub fn push_ranges(text: &mut Text, values: &Values) -> Result<(), AllocError>
     ensures { OnOk result (text.new ≡ text.old ++ ranges_text values.now) }
 {
     push_cost(text, values)?;
@@ -184,7 +188,8 @@ fn push_range(text: &mut Text, word: &str, low: i128, high: i128) -> Result<(), 
     text.push("\n")
 }
 
-fn push_rounded(text: &mut Text, rounded: u64) -> Result<(), AllocError>
+/// Adds the line that says how many numbers of the instance file were changed by rounding.
+pub fn push_rounded(text: &mut Text, rounded: u64) -> Result<(), AllocError>
     ensures { OnOk result (text.new ≡ text.old ++ rounded_line rounded) }
 {
     text.push("rounded ")?;
