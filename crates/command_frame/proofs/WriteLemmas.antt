@@ -1,6 +1,6 @@
 -- Files that an answer writes, from the calls that write them to the end of a run.
 use Rattle.std.proofs.Common.{◌≡◌, ◌≢◌, ℕ, zero, suc, ◌+◌, ◌<◌, ◌≤◌, inl, inr, refl, sym, ◌∙◌, ap, subst, arith, List}
-use Rattle.std.proofs.Common.{[], ◌∷◌, length, take, Option, Some, None, true≢false}
+use Rattle.std.proofs.Common.{[], ◌∷◌, length, take, get_or, Option, Some, None, true≢false}
 use Rattle.std.specs.Prelude.{Result, Ok, Err, IsErr, IfSome, option_map}
 use Rattle.plan_desk.specs.Desk.{Shown, Fault, Output, ShowsSame, none_open, file_open, output_after_write}
 use Rattle.plan_desk.specs.Faults.{Rose, IsFaultOf}
@@ -9,10 +9,9 @@ use Rattle.plan_desk.specs.Calls.{PutsOut, FinishesOut}
 use Rattle.plan_desk.specs.Written.{WritesText}
 use Rattle.plan_desk.specs.FileWrites.{FileWrite, after_file, after_writes, StopsFile, StopsWrites}
 use Rattle.plan_desk.specs.declared.call.DeskCall.{DeskCall}
-use Rattle.plan_desk.specs.declared.call.DeskCall.TheVariants.{PutOut, Write, FinishOut}
+use Rattle.plan_desk.specs.declared.call.DeskCall.TheVariants.{FinishOut}
 use Rattle.plan_desk.specs.declared.call.Failed.{Failed}
-use Rattle.plan_desk.proofs.FileWrites.{same_again, file_alike, file_written, not_opened, not_written, not_ended}
-use Rattle.plan_desk.proofs.FileWrites.{stops_alike}
+use Rattle.plan_desk.proofs.FileWrites.{same_again, file_alike, file_written, not_ended, stops_alike}
 use Rattle.command_frame.specs.Lines.{write_line}
 use Rattle.command_frame.specs.Ending.{Writing, Answer, files_of, writing_at, OrMemory, WriteFails, SaysUnwritten, Ends}
 use Rattle.command_frame.specs.Ending.{Behind}
@@ -45,41 +44,6 @@ renamed : (o : Option Fault) (call : DeskCall) (here told : Option (List ℕ)) (
 renamed o call here told name is own =
     named o call told name (subst (λ (x : Option (List ℕ)). IfSome o (IsFaultOf call x)) is own)
 
--- it was not opened
-pub puts_unopened : {T W : Type 0} {e : Failed} (file : FileWrite) {old new : Shown} (r : Result W Failed) → IsErr r
-    → PutsOut {T = T} file.name old new (Err e) → PutsFile file old new r
-puts_unopened file (Ok x) is puts = absurd (true≢false (sym is))
-puts_unopened file (Err f) is puts = record {
-  ok = tt;
-  err = record {
-    call = PutOut;
-    stops = not_opened file puts;
-    fails = record { rose = puts.faults.rose; own = puts.faults.own };
-  };
-  same = tt;
-  later = puts.faults.later;
-}
-
--- it was not written whole
-pub puts_unwritten : {T U W : Type 0} {x : T} {e : Failed} (file : FileWrite) {old opened new : Shown}
-    (r : Result W Failed) → IsErr r → PutsOut file.name old opened (Ok x)
-    → WritesText {T = U} file.bytes opened new (Err e) → PutsFile file old new r
-puts_unwritten file (Ok y) is puts writes = absurd (true≢false (sym is))
-puts_unwritten file {old = old} {opened = opened} {new = new} (Err f) is puts writes = record {
-  ok = tt;
-  err = record {
-    call = Write;
-    stops = not_written file puts writes;
-    fails = record {
-      rose = rose_before old.faults opened.faults new.faults puts.faults.later writes.faults.rose;
-      own = renamed new.last Write opened.output.name old.output.name file.name
-          (ap (λ (o : Output). o.name) puts.ok.output) writes.faults.own;
-    };
-  };
-  same = tt;
-  later = omega (arith, puts.faults.later, writes.faults.later);
-}
-
 -- it was written whole, and ended or not
 pub puts_written : {T U V : Type 0} {x : T} {y : U} (file : FileWrite) {old opened written new : Shown}
     (r : Result V Failed) → PutsOut file.name old opened (Ok x) → WritesText file.bytes opened written (Ok y)
@@ -109,10 +73,11 @@ puts_written file {old = old} {opened = opened} {written = written} {new = new} 
 
 -- ---- several files
 
-writes_alike : {a b : Shown} (files : List FileWrite) → ShowsSame a b
+writes_alike : (files : List FileWrite) (a b : Shown) → ShowsSame a b
     → ShowsSame (after_writes files a) (after_writes files b)
-writes_alike [] same = same
-writes_alike (file ∷ files) same = writes_alike files (file_alike file same)
+writes_alike [] a b same = same
+writes_alike (file ∷ files) a b same =
+    writes_alike files (after_file file a) (after_file file b) (file_alike file same)
 
 -- none is left
 pub puts_none : {T : Type 0} (x : T) (s : Shown) → PutsFiles [] s s (Ok x)
@@ -123,9 +88,9 @@ puts_none x s = record {
 }
 
 -- the first one stopped
-pub puts_first : {T U : Type 0} {e : Failed} (w : Writing) (rest : List Writing) (old new : Shown)
+pub puts_first : (U : Type 0) {T E : Type 0} {e : E} (w : Writing) (rest : List Writing) (old new : Shown)
     → PutsFile {T = T} w.file old new (Err e) → PutsFiles {T = U} (w ∷ rest) old new (Err w.word)
-puts_first w rest old new puts = record {
+puts_first U w rest old new puts = record {
   n = 0;
   call = puts.err.call;
   stops = record { within = omega arith; stops = puts.err.stops };
@@ -138,7 +103,7 @@ puts_first w rest old new puts = record {
 pub puts_more : {T U E : Type 0} {x : T} (w : Writing) (rest : List Writing) (old mid new : Shown) (r : Result U ℕ)
     → PutsFile {E = E} w.file old mid (Ok x) → PutsFiles rest mid new r → PutsFiles (w ∷ rest) old new r
 puts_more w rest old mid new (Ok y) first next = record {
-  shows = same_again next.shows (writes_alike (files_of rest) first.ok);
+  shows = same_again next.shows (writes_alike (files_of rest) mid (after_file w.file old) first.ok);
   same = next.same ∙ first.same;
   later = omega (arith, first.later, next.later);
 }
@@ -147,8 +112,8 @@ puts_more w rest old mid new (Err word) first next = record {
   call = next.call;
   stops = record {
     within = omega (arith, next.stops.within);
-    stops = stops_alike (writing_file next.n) next.call new (writes_alike (take next.n (files_of rest)) first.ok)
-        next.stops.stops;
+    stops = stops_alike (get_or (files_of rest) next.n (record { name = []; bytes = [] })) next.call new
+        (writes_alike (take next.n (files_of rest)) mid (after_file w.file old) first.ok) next.stops.stops;
   };
   fails = record {
     rose = rose_before old.faults mid.faults new.faults first.later next.fails.rose;
@@ -157,9 +122,6 @@ puts_more w rest old mid new (Err word) first next = record {
   word_is = next.word_is;
   later = omega (arith, first.later, next.later);
 }
-  where
-    writing_file : ℕ → FileWrite
-    writing_file n = ?
 
 -- ---- the end of a run
 

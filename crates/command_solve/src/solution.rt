@@ -1,5 +1,5 @@
 //! What is answered to an instance.
-ghost use Rattle.std.specs.Prelude.{◌≡◌, ◌≤◌, ◌<◌, ◌^◌, length, map, Some, IfOk, IfSome, unsigned_abs};
+ghost use Rattle.std.specs.Prelude.{◌≡◌, ◌≤◌, ◌^◌, ℕ, IfOk, unsigned_abs};
 ghost use Rattle.branch_tree.specs.Ranges.{IsBoundInRange};
 ghost use Rattle.branch_search.specs.Best.{IsFeasiblePlan};
 ghost use Rattle.instance_model.specs.Keys.{IsOpening};
@@ -40,7 +40,7 @@ pub(crate) fn solution_of<R: Row>(
 {
     match opening_of(alloc, inst)? {
         Opening::From(opening) => solution_from::<R>(alloc, inst, opening.as_slice(), turns),
-        Opening::Without { i } => startless(alloc, inst, i, turns),
+        Opening::Without { i } => startless(alloc, inst, i),
     }
 }
 
@@ -120,11 +120,10 @@ fn report_plan(
 }
 
 // The solution where this intervention is the first without an allowed start.
-fn startless(alloc: Global, inst: &Instance, i: u32, turns: u32) -> Result<Solution, AllocError>
+fn startless(alloc: Global, inst: &Instance, i: u32) -> Result<Solution, AllocError>
     requires { IsWithoutStart inst.now i }
-    ensures { IfOk result (IsSolution inst.now turns) }
+    ensures { IfOk result (λ solution. (turns : ℕ) → IsSolution inst.now turns solution) }
 {
-    let _turns = turns;
     inst.fits();
     valid_is_accepted(inst);
     let certificate = empty_certificate(alloc, i)?;
