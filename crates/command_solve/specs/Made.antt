@@ -23,6 +23,7 @@ use Rattle.command_frame.specs.declared.report.Report.{Report}
 use Rattle.command_frame.specs.Reports.{score_line, bound_line, gap_line, ranges_text}
 use Rattle.command_frame.specs.Ending.{Writing, Answer}
 use Rattle.command_evaluate.specs.Evaluating.{EnclosesEveryReading}
+use Rattle.command_check.specs.Checking.{IsAccepted}
 use Rattle.command_solve.specs.declared.opening.Opening.{Opening}
 use Rattle.command_solve.specs.declared.opening.Opening.TheVariants.{From, Without}
 use Rattle.command_solve.specs.declared.making.Descended.{Descended}
@@ -65,9 +66,14 @@ pub record IsMade (inst : Tables) (turns : ℕ) (changes : List Change) (answer 
   pub cert : IsShortValid inst answer.cert
   pub changes_are : AreWritable inst changes
 
--- such certificates are those that `check` accepts
-abbrev pub ShortValidIsCheckable : Tables → Type 0
-ShortValidIsCheckable inst = (cert : Certificate) → IsShortValid inst cert → IsCheckable standard_limits inst cert
+-- `check` without a plan accepts a certificate and its text
+pub record IsAcceptable (inst : Tables) (cert : Certificate) : Type 0 where
+  pub checkable : IsCheckable standard_limits inst cert
+  pub accepted : IsAccepted inst None cert
+
+-- it does so for each of those
+abbrev pub ShortValidIsAcceptable : Tables → Type 0
+ShortValidIsAcceptable inst = (cert : Certificate) → IsShortValid inst cert → IsAcceptable inst cert
 
 -- ---- the report
 
