@@ -11,6 +11,7 @@ pub mod ClimbLemmas
 pub mod ListLemmas
 pub mod StateLemmas
 pub mod SettleLemmas
+pub mod RangeLemmas
 pub mod HeapLemmas
 pub mod VolumeLemmas
 pub mod RefutingLemmas

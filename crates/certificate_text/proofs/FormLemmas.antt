@@ -37,7 +37,7 @@ use Rattle.certificate_text.proofs.TellLemmas.{each_append}
 
 module _ (inst : Tables) where
   -- lines of limits are such, where each line of a price in range is
-  limits_such : (P : CertificateLine → Type 0) (form : ℕ → ℕ → ℕ → CertificateLine)
+  pub limits_such : (P : CertificateLine → Type 0) (form : ℕ → ℕ → ℕ → CertificateLine)
       → ((c t v : ℕ) → IsLimitPrice inst c t v → P (form c t v)) → (k : ℕ) (vs : List ℕ)
       → k + length vs ≤ length inst.resource_names * inst.periods → AllByRecursion (λ v. v ≤ 1_000_000_000) vs
       → AllByRecursion P (limit_lines form inst.periods k vs)
@@ -71,7 +71,7 @@ module _ (inst : Tables) where
       at true e w = w
       at false e w = (such (k / inst.periods + 1) (k % inst.periods + 1) v (price (some_of v e)), w)
 
-  tails_such : (P : CertificateLine → Type 0)
+  pub tails_such : (P : CertificateLine → Type 0)
       → ((t : ℕ) (tail : Tail) → 1 ≤ t → t ≤ inst.periods → IsTail inst t tail → P (tail_line t tail))
       → (t : ℕ) (tails : List (Option Tail)) → 1 ≤ t → t + length tails ≤ inst.periods + 1
       → ((i : ℕ) (tail : Tail) → i < length tails → get_or tails i None ≡ Some tail → IsTail inst (t + i) tail)
@@ -88,7 +88,7 @@ module _ (inst : Tables) where
       let own = let f : t + 0 ≡ t = omega arith in subst (λ u. IsTail inst u tail) f (each 0 tail (omega arith) refl) in
       (such t tail from (omega (arith, few)) own, rest)
 
-  ex_such : (P : CertificateLine → Type 0) → ((x : ExPrice) → IsExPrice inst x → P (ex_line x)) → (xs : List ExPrice)
+  pub ex_such : (P : CertificateLine → Type 0) → ((x : ExPrice) → IsExPrice inst x → P (ex_line x)) → (xs : List ExPrice)
       → AllByRecursion (IsExPrice inst) xs → AllByRecursion P (map ex_line xs)
   ex_such P such [] each = tt
   ex_such P such (x ∷ xs) each = (such x each.0, ex_such P such xs each.1)
@@ -103,7 +103,7 @@ ascend_pairs : (a : ℕ) (ks : List ℕ) → AscendAbove a ks → AllPairs (λ k
 ascend_pairs a [] h = λ i j d l m. absurd (omega (arith, m))
 ascend_pairs a (k ∷ ks) h = AllPairs-cons (λ k l. k < l) k ks (ascend_all k ks h.1) (ascend_pairs k ks h.1)
 
-scenarios_small : (inst : Tables) (t : ℕ) → IsFitting inst → 1 ≤ t → t ≤ inst.periods → scenarios_of inst t ≤ 1024
+pub scenarios_small : (inst : Tables) (t : ℕ) → IsFitting inst → 1 ≤ t → t ≤ inst.periods → scenarios_of inst t ≤ 1024
 unfolding scenarios_of
 scenarios_small inst t fits from to = let each = fits.scenarios_each in
     let w = fits.scenarios_few (t - 1) 0 (omega (arith, each)) in w.1
@@ -134,6 +134,13 @@ module _ (inst : Tables) (fits : IsFitting inst) where
   ex_form : (x : ExPrice) → IsExPrice inst x → IsLine (ex_line x)
   ex_form x h = (omega (arith, few_exclusions, h.number), omega (arith, few_periods, h.to), omega (arith, h.small))
 
+  pub tail_fits : (p : PriceList) → IsPriceList inst p → (i : ℕ) (tail : Tail) → i < length p.tails
+      → get_or p.tails i None ≡ Some tail → IsTail inst (1 + i) tail
+  tail_fits p ok i tail h e =
+      let each = ok.tails_each in
+      let f : 1 + i - 1 ≡ i = omega arith in
+      ok.tails (1 + i) (omega arith) (omega (arith, h, each)) tail (ap (λ k. get_or p.tails k None) f ∙ e)
+
   entries_form : (p : PriceList) → IsPriceList inst p → AllByRecursion IsLine (entry_lines inst p)
   entries_form p ok =
       let each = ok.tails_each in
@@ -145,15 +152,8 @@ module _ (inst : Tables) (fits : IsFitting inst) where
       (limits_such inst IsLine line.Lo limit_numbers 0 p.lo (omega (arith, ok.lo_each))
       (recursion_from_All (λ v. v ≤ 1_000_000_000) p.lo ok.lo_small))
       (each_append IsLine (tail_lines 1 p.tails) (map ex_line p.ex)
-      (tails_such inst IsLine tail_form 1 p.tails (omega arith) (omega (arith, each)) tail_fits)
+      (tails_such inst IsLine tail_form 1 p.tails (omega arith) (omega (arith, each)) (tail_fits p ok))
       (ex_such inst IsLine ex_form p.ex ok.ex)))
-    where
-      tail_fits : (i : ℕ) (tail : Tail) → i < length p.tails → get_or p.tails i None ≡ Some tail
-          → IsTail inst (1 + i) tail
-      tail_fits i tail h e =
-          let each = ok.tails_each in
-          let f : 1 + i - 1 ≡ i = omega arith in
-          ok.tails (1 + i) (omega arith) (omega (arith, h, each)) tail (ap (λ k. get_or p.tails k None) f ∙ e)
 
   lists_form : (ps : List PriceList) → AllByRecursion (IsPriceList inst) ps
       → AllByRecursion IsLine (flat_map (list_lines inst) ps)
@@ -165,9 +165,9 @@ module _ (inst : Tables) (fits : IsFitting inst) where
 
   -- ---- nodes
   -- a box of as many intervals as there are interventions, none of which ends past the last period
-  record IsSmall (box : List Span) : Type 0 where
-    each : length box ≡ length inst.names
-    to : (i : ℕ) → (span_of box i).to ≤ 512
+  pub record IsSmall (box : List Span) : Type 0 where
+    pub each : length box ≡ length inst.names
+    pub to : (i : ℕ) → (span_of box i).to ≤ 512
 
   set_small : (box : List Span) (i : ℕ) (span : Span) → IsSmall box → i < length box → span.to ≤ 512
       → IsSmall (set box i span)
@@ -183,7 +183,7 @@ module _ (inst : Tables) (fits : IsFitting inst) where
               get_or-set_other box i j span (record { from = 0; to = 0 }) n in
               subst (λ (s : Span). s.to ≤ 512) (sym f) (small.to j)
 
-  root_small : IsSmall (root_box inst)
+  pub root_small : IsSmall (root_box inst)
   root_small = record {
     each = length-map-range_with_len (λ i. record { from = 1; to = tmax inst i }) 0 (length inst.names);
     to = ends;
@@ -217,24 +217,26 @@ module _ (inst : Tables) (fits : IsFitting inst) where
   leaf_form m (node.Excl e) few h = omega (arith, few_exclusions, h)
   leaf_form m (node.Empty i) few h = omega (arith, few_names, h)
 
-  tree_form : (m : ℕ) (t : Tree) (box : List Span) → m ≤ 16 → IsSmall box → IsTreeInRange inst m box t
-      → AllByRecursion IsLine (map node_line (pre_order t))
-  tree_form m (leaf n) box few small h = (leaf_form m n few h, tt)
-  tree_form m (split i last l r) box few small h =
+  -- the lines of a tree are such, where those of each leaf and of each split in range are
+  pub tree_such : (P : CertificateLine → Type 0) (m : ℕ) → ((n : Node) → IsLeafInRange inst m n → P (node_line n))
+      → ((i last : ℕ) → i < length inst.names → last < 512 → P (line.Split (i + 1) last)) → (t : Tree)
+      (box : List Span) → IsSmall box → IsTreeInRange inst m box t → AllByRecursion P (map node_line (pre_order t))
+  tree_such P m such splits (leaf n) box small h = (such n h, tt)
+  tree_such P m such splits (split i last l r) box small h =
       let each = small.each in
       let number = h.0.number in
       let end = small.to i in
       let last_small : last < 512 = let a = h.0.to in omega (arith, a, end) in
-      let left = tree_form m l (below box i last) few
+      let left = tree_such P m such splits l (below box i last)
       (set_small box i (record { from = (span_of box i).from; to = last }) small number (omega (arith, last_small)))
       h.1 in
-      let right = tree_form m r (above box i last) few
+      let right = tree_such P m such splits r (above box i last)
       (set_small box i (record { from = last + 1; to = (span_of box i).to }) small number end) h.2 in (
-        (omega (arith, few_names, each, number), omega (arith, last_small)),
+        splits i last (omega (arith, each, number)) last_small,
         subst
-            (λ (ls : List CertificateLine). AllByRecursion IsLine ls)
+            (λ (ls : List CertificateLine). AllByRecursion P ls)
             (sym (map-append node_line (pre_order l) (pre_order r)))
-            (each_append IsLine (map node_line (pre_order l)) (map node_line (pre_order r)) left right),
+            (each_append P (map node_line (pre_order l)) (map node_line (pre_order r)) left right),
       )
 
 bound_form : (b : Bound) → IsBoundInRange b → IsLine (line.Bound b)
@@ -246,7 +248,9 @@ lines_have_forms inst cert fits ok =
     let few : length cert.lists ≤ 16 = ok.few in
     let t : Tree = ok.tree.0 in
     let tree = subst (λ (ns : List Node). AllByRecursion IsLine (map node_line ns)) ok.tree.1.order
-    (tree_form inst fits (length cert.lists) t (root_box inst) few (root_small inst fits) ok.tree.1.in_range) in
+    (tree_such inst fits IsLine (length cert.lists) (λ n h. leaf_form inst fits (length cert.lists) n few h)
+    (λ i last h l. (omega (arith, few_names inst fits, h), omega (arith, l))) t (root_box inst) (root_small inst fits)
+    ok.tree.1.in_range) in
     All-from_recursion IsLine (certificate_lines inst cert) (
       tt,
       (

@@ -8,5 +8,6 @@ pub mod CutLemmas
 pub mod TellLemmas
 pub mod LeadLemmas
 pub mod FormLemmas
+pub mod LengthLemmas
 pub mod WriteLemmas
 pub mod LedLemmas

@@ -1,5 +1,6 @@
 -- Laws of the text.
-use Rattle.std.specs.Prelude.{◌≡◌, ℕ, ◌+◌, ◌≤◌, List, [], ◌∷◌, ◌++◌, length, All, Some}
+use Rattle.std.specs.Prelude.{◌≡◌, ℕ, ◌+◌, ◌*◌, ◌^◌, ◌≤◌, List, [], ◌∷◌, ◌++◌, length, All, Some}
+use Rattle.std.specs.List.{sum_by}
 use Rattle.instance_model.specs.Tables.{Tables}
 use Rattle.instance_model.specs.Fitting.{IsFitting}
 use Rattle.lagrange_bound.specs.declared.tail.Tail.{Tail}
@@ -88,3 +89,36 @@ ExGrows =
     (inst : Tables) (old new : PriceList) (last : EntryKey) (e t v : ℕ) → IsPriceList inst old → IsPriceList inst new
     → IsUpTo inst old last → IsExSet old new e t v → 1 ≤ v → KeyBelow last (ex_key (e + 1) t)
     → Grows inst old new (line.Ex (e + 1) t v) (ex_key (e + 1) t)
+
+-- ---- lengths
+
+-- how many bytes these have at most: the lines beside lists and nodes, a price list beside its prices of exclusions,
+-- one of those prices, and a node
+abbrev pub frame_bytes : ℕ
+frame_bytes = 68
+
+abbrev pub list_bytes : ℕ
+list_bytes = 3_316_743
+
+abbrev pub ex_bytes : ℕ
+ex_bytes = 24
+
+abbrev pub node_bytes : ℕ
+node_bytes = 18
+
+-- how many prices of exclusions a certificate has
+abbrev pub ex_count : Certificate → ℕ
+ex_count cert = sum_by (λ prices. length prices.ex) cert.lists
+
+-- the text of a certificate in range is no longer than these add up to
+abbrev pub TextsAreShort : Type 0
+TextsAreShort = (inst : Tables) (cert : Certificate) → IsFitting inst → IsInRange inst cert
+    → length (certificate_text inst cert)
+    ≤ frame_bytes + list_bytes * length cert.lists + ex_bytes * ex_count cert + node_bytes * length cert.nodes
+
+-- with at most one list, of at most 400 prices of exclusions, and at most 2,000,001 nodes it is within the limit of
+-- certificate files
+abbrev pub TextsFitFiles : Type 0
+TextsFitFiles = (inst : Tables) (cert : Certificate) → IsFitting inst → IsInRange inst cert → length cert.lists ≤ 1
+    → All (λ prices. length prices.ex ≤ 400) cert.lists → length cert.nodes ≤ 2_000_001
+    → length (certificate_text inst cert) ≤ 2 ^ 28

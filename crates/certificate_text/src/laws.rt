@@ -1,7 +1,7 @@
 //! Laws of the text.
 ghost use Rattle.certificate_text.specs.Laws.{TextsLead, LeadToCertificates, LinesHaveForms, LinesTell, TextsTell};
 ghost use Rattle.certificate_text.specs.Laws.{TextsAreCutOneWay, TextsAreSpelledOneWay, ZeroHasNone, ZeroIsUpTo};
-ghost use Rattle.certificate_text.specs.Laws.{UpGrows, LoGrows, TailGrows, ExGrows};
+ghost use Rattle.certificate_text.specs.Laws.{UpGrows, LoGrows, TailGrows, ExGrows, TextsAreShort, TextsFitFiles};
 
 use certificate_lines::lines_are_spelled_one_way;
 
@@ -44,4 +44,11 @@ pub fn entries_grow()
 pub fn zeros_have_no_entry()
     ensures none { ZeroHasNone }
     ensures up_to { ZeroIsUpTo }
+{}
+
+/// The text of a certificate in range is no longer than its numbers of lists, of prices of exclusions and of nodes
+/// allow.
+pub fn texts_are_short()
+    ensures short { TextsAreShort }
+    ensures fit { TextsFitFiles }
 {}

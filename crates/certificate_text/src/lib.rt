@@ -10,7 +10,7 @@ mod put;
 mod write;
 
 pub use laws::{
-    entries_grow, lead_to_certificates, lines_are_cut_one_way, texts_lead, texts_tell,
-    zeros_have_no_entry,
+    entries_grow, lead_to_certificates, lines_are_cut_one_way, texts_are_short, texts_lead,
+    texts_tell, zeros_have_no_entry,
 };
 pub use write::write_certificate;

@@ -1,25 +1,21 @@
 -- Terms and bases as the code has them.
-use Rattle.std.proofs.Common.{◌≡◌, ℕ, zero, suc, ◌+◌, ◌-◌, ◌*◌, ◌<◌, ◌≤◌, refl, sym, ◌∙◌, ap, arith, ℤ, pos, negsuc}
+use Rattle.std.proofs.Common.{◌≡◌, ℕ, zero, suc, ◌+◌, ◌-◌, ◌*◌, ◌<◌, ◌≤◌, refl, sym, ◌∙◌, ap, arith, ℤ, pos}
 use Rattle.std.proofs.Common.{◌+ℤ◌, ◌-ℤ◌, ◌*ℤ◌, true, false, cond, List, [], ◌∷◌, ◌++◌, length, get_or, map, fold, take}
 use Rattle.std.proofs.Common.{unsigned_abs, to_z, FitsSigned, Option, Some, None, option_map, Bor}
 use Rattle.std.specs.Int.{int_min, w128}
 use Rattle.std.proofs.lemmas.Int.{to_z_pos, fits_signed_from_abs}
 use Rattle.std.proofs.lemmas.List.{map-append, take_more}
 use Rattle.std.proofs.lemmas.List.Sums.{fold-append}
-use borrow.Author.Differences.{up, down}
-use Rattle.fixed_num.specs.Floors.{floor_of, floor_quotient}
+use borrow.Author.Differences.{up}
+use Rattle.fixed_num.specs.Floors.{floor_quotient}
 use Rattle.fixed_num.specs.Sums.{sum_below}
 use Rattle.fixed_num.proofs.Bits.{by_bits}
-use Rattle.fixed_num.proofs.SignedLemmas.{back_from_abs, abs-product, signed_arith, int_div_euclid-parts}
-use Rattle.fixed_num.proofs.SignedLemmas.{at_most_from_scaled}
-use Rattle.fixed_num.proofs.SumLemmas.{abs-sum, sum_below-none, sum_below_same, sum_below-suc, sum_below-within}
+use Rattle.fixed_num.proofs.SignedLemmas.{back_from_abs, abs-product, signed_arith}
+use Rattle.fixed_num.proofs.SumLemmas.{abs-sum, sum_below-none, sum_below_same, sum_below-suc}
 use Rattle.instance_model.specs.Tables.{Tables, scenarios_of, in_run, risk_of}
-use Rattle.instance_model.specs.Fitting.{IsFitting}
-use Rattle.instance_model.proofs.FitLemmas.{scenarios_of_small, risk_of_small}
 use Rattle.plan_score.proofs.EnclosureLemmas.{floor_is}
 use Rattle.lagrange_bound.specs.declared.tail.Tail.{Tail}
 use Rattle.lagrange_bound.specs.Least.{least_over, AscendAbove}
-use Rattle.lagrange_bound.specs.TailLemmas.{least_over_reached}
 use Rattle.lagrange_bound.specs.Bases.{tail_part, weighed, term_of}
 
 -- ---- the least over places, as far as a loop has come
@@ -145,73 +141,6 @@ term_is inst tail i s t a n sum part fraction q ea en few es ss ep sp ef sf eq =
     let bp = back_from_abs part (omega (arith, sp)) in
     let ef' : fraction ≡ (pos (1000 * a) *ℤ sum) +ℤ (pos (1_000_000 - a) *ℤ part) = rw (bs, bp) at ef in
     floor_is q fraction (1000 * n) (omega (arith, few)) (omega (arith, sf)) eq ∙ rw (ef', ea, en, es, ep) refl
-
--- a quotient rounded down is as small as a whole number that is not below it, up to its sign
-floor_within : (z : ℤ) (k b : ℕ) → 0 < k → unsigned_abs z ≤ k * b → unsigned_abs (floor_of z k) ≤ b
-floor_within z k b some h =
-    let f = floor_of z k in
-    let p = int_div_euclid-parts z k some in
-    let s = sides z (k * b) h in
-    size f b (at_most_from_scaled (up f) (b + down f) k (omega (arith, p, s)))
-    (at_most_from_scaled (down f) (b + up f) k (omega (arith, p, s)))
-  where
-    sides : (z : ℤ) (m : ℕ) → unsigned_abs z ≤ m → (up z ≤ m) × (down z ≤ m)
-    sides (pos n) m h = (omega (arith, h), omega arith)
-    sides (negsuc n) m h = (omega arith, omega (arith, h))
-
-    size : (z : ℤ) (b : ℕ) → up z ≤ b + down z → down z ≤ b + up z → unsigned_abs z ≤ b
-    size (pos n) b h k = omega (arith, h, k)
-    size (negsuc n) b h k = omega (arith, h, k)
-
-least_over_small : (f : ℕ → ℤ) (m : ℕ) (ks : List ℕ) → ((k : ℕ) → unsigned_abs (f k) ≤ m)
-    → unsigned_abs (least_over f ks) ≤ m
-unfolding least_over
-least_over_small f m [] h = omega arith
-least_over_small f m (k ∷ ks) h = let w = least_over_reached f (k ∷ ks) (omega arith) in rw w.2 (h w.0)
-
--- m bounds each number: n * m bounds the sum of n, and 2000 times that a tail's part
-tail_part_small : (n m : ℕ) (f : ℕ → ℤ) (tail : Option Tail) → ((k : ℕ) → unsigned_abs (f k) ≤ m)
-    → ((x : Tail) → tail ≡ Some x → x.weight ≤ 1000) → unsigned_abs (tail_part n f tail) ≤ 1000 * (2 * (n * m))
-unfolding tail_part
-tail_part_small n m f None h w = omega arith
-tail_part_small n m f (Some tail) h w =
-    let s = sum_below-within n m (λ k. f (k + 1)) (λ k l. h (k + 1)) in
-    let p = abs-product (pos n) (least_over f tail.places) n m (omega arith) (least_over_small f m tail.places h) in
-    abs-product (pos tail.weight) (pos n *ℤ least_over f tail.places -ℤ sum_below n (λ k. f (k + 1))) 1000 (2 * (n * m))
-    (w tail refl) (less (pos n *ℤ least_over f tail.places) (sum_below n (λ k. f (k + 1))) (n * m) p s)
-  where
-    less : (a b : ℤ) (m : ℕ) → unsigned_abs a ≤ m → unsigned_abs b ≤ m → unsigned_abs (a -ℤ b) ≤ 2 * m
-    less a b m h k = omega (arith, signed_arith, h, k)
-
-weighed_small : (alpha n m : ℕ) (f : ℕ → ℤ) (tail : Option Tail) → alpha ≤ 1_000_000
-    → ((k : ℕ) → unsigned_abs (f k) ≤ m) → ((x : Tail) → tail ≡ Some x → x.weight ≤ 1000)
-    → unsigned_abs (weighed alpha n f tail) ≤ 3_000_000_000 * (n * m)
-unfolding weighed
-weighed_small alpha n m f tail ha h w =
-    let s = sum_below-within n m (λ k. f (k + 1)) (λ k l. h (k + 1)) in
-    let p = tail_part_small n m f tail h w in
-    let x = abs-product (pos (1000 * alpha)) (sum_below n (λ k. f (k + 1))) 1_000_000_000 (n * m)
-    (omega (arith, ha)) s in
-    let y =
-    abs-product (pos (1_000_000 - alpha)) (tail_part n f tail) 1_000_000 (1000 * (2 * (n * m))) (omega arith) p in
-    let t =
-    abs-sum (pos (1000 * alpha) *ℤ sum_below n (λ k. f (k + 1))) (pos (1_000_000 - alpha) *ℤ tail_part n f tail) in
-    omega (arith, x, y, t)
-
-pub term_of_small : (inst : Tables) (tail : Option Tail) (i s t : ℕ) → IsFitting inst → 1 ≤ t → t ≤ inst.periods
-    → ((x : Tail) → tail ≡ Some x → x.weight ≤ 1000)
-    → unsigned_abs (term_of inst tail i s t) ≤ 300_000_000_000_000_000_000_000_000
-unfolding term_of
-term_of_small inst tail i s t fit one few w =
-    let n = scenarios_of inst t in
-    let some = scenarios_of_small inst t fit one few in
-    let z = weighed_small inst.alpha n 100_000_000_000_000_000_000 (risk_of inst i s t) tail fit.alpha
-    (λ k. weaken (unsigned_abs (risk_of inst i s t k)) (risk_of_small inst i s t k fit)) w in
-    floor_within (weighed inst.alpha n (risk_of inst i s t) tail) (1000 * n) 300_000_000_000_000_000_000_000_000
-    (omega (arith, some)) (omega (arith, z))
-  where
-    weaken : (n : ℕ) → n < 100_000_000_000_000_000_000 → n ≤ 100_000_000_000_000_000_000
-    weaken n h = omega (arith, h)
 
 -- ---- bases
 

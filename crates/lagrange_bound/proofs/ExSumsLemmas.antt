@@ -1,6 +1,6 @@
 -- Sums of the prices of exclusions, by intervention and period, and up to a period.
 use Rattle.std.proofs.Common.{◌≡◌, ℕ, zero, suc, ◌+◌, ◌-◌, ◌*◌, ◌<◌, ◌≤◌, refl, sym, ◌∙◌, ap, subst, arith, List, []}
-use Rattle.std.proofs.Common.{◌∷◌, ◌++◌, length, get_or, set, take, drop, replicate, sum_by, Bool, true, false, cond}
+use Rattle.std.proofs.Common.{◌∷◌, ◌++◌, length, get_or, set, take, replicate, sum_by, Bool, true, false, cond}
 use Rattle.std.proofs.Common.{eqb, leb, ltb, ◌&&◌, ◌≢◌}
 use Rattle.std.specs.List.{AllByRecursion}
 use Rattle.std.proofs.lemmas.Bool.Decides.{nat_tests}

@@ -6,6 +6,7 @@ pub mod ExCountLemmas
 pub mod ExLemmas
 pub mod DualityLemmas
 pub mod WorthLemmas
+pub mod SizeOfWorthLemmas
 pub mod BaseLemmas
 pub mod LeastLemmas
 pub mod LimitLemmas

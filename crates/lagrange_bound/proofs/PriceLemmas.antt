@@ -1,14 +1,16 @@
 -- Price lists that are changed in one place stay in range.
-use Rattle.std.proofs.Common.{◌≡◌, ℕ, ◌-◌, ◌*◌, ◌<◌, ◌≤◌, refl, sym, ◌∙◌, subst, arith, List, [], length, get_or, set}
-use Rattle.std.proofs.Common.{replicate, Option, Some, None, Bool, true, false, eqb, ◌≢◌}
+use Rattle.std.proofs.Common.{◌≡◌, ℕ, zero, suc, ◌-◌, ◌*◌, ◌<◌, ◌≤◌, refl, sym, ◌∙◌, subst, arith, List, [], length}
+use Rattle.std.proofs.Common.{get_or, set, sum, replicate, Option, Some, None, Bool, true, false, eqb, ◌≢◌}
 use Rattle.std.proofs.lemmas.Bool.Decides.{nat_tests}
 use Rattle.std.proofs.lemmas.List.{length-replicate, get_or-replicate, get_or-set_same, get_or-set_other}
 use Rattle.std.proofs.Math.ListN.{length-set}
+use Rattle.std.proofs.lemmas.List.Sums.{sum_by-cons}
 use Rattle.std.proofs.lemmas.List.Elements.{All-set, All-replicate}
 use Rattle.instance_model.specs.Tables.{Tables}
 use Rattle.lagrange_bound.specs.declared.tail.Tail.{Tail}
 use Rattle.lagrange_bound.specs.declared.ex_price.ExPrice.{ExPrice}
 use Rattle.lagrange_bound.specs.Prices.{PriceList, IsPriceList, IsTail, zero_list}
+use Rattle.lagrange_bound.specs.Worth.{ex_total, price_total}
 
 abbrev pub IsSmall : ℕ → Type 0
 IsSmall v = v ≤ 1_000_000_000
@@ -30,6 +32,15 @@ zero_in_range inst =
     no_tail : (t : ℕ) → t - 1 < inst.periods → (tail : Tail)
         → get_or (replicate inst.periods None) (t - 1) None ≡ Some tail → ⊥
     no_tail t l tail e = let none = get_or-replicate {A = Option Tail} inst.periods (t - 1) None None l in cc (none, e)
+
+sum-zeros : (n : ℕ) → sum (replicate n 0) ≡ 0
+sum-zeros zero = refl
+sum-zeros (suc n) = omega (arith, sum_by-cons (λ x. x) 0 (replicate n 0), sum-zeros n)
+
+-- the numbers of the list of zeros come to nothing
+pub zero_total : (inst : Tables) → price_total (zero_list inst) ≡ 0
+unfolding price_total zero_list ex_total
+zero_total inst = omega (arith, sum-zeros (length inst.resource_names * inst.periods))
 
 pub zero_list_is : (inst : Tables) (up lo : List ℕ) (tails : List (Option Tail)) (ex : List ExPrice)
     → up ≡ replicate (length inst.resource_names * inst.periods) 0

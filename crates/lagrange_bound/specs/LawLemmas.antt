@@ -1,5 +1,5 @@
--- The law of the score: the bases of a plan's starts add up to at most its score. It stands here, with the lemmas that
--- it rests on, since what an impl gives as a law may not come from proofs/.
+-- The laws of the score: the bases of a plan's starts add up to at most its score, and both are small. They stand here,
+-- with the lemmas that they rest on, since what an impl gives as a law may not come from proofs/.
 use Rattle.std.proofs.Common.{◌≡◌, ℕ, ◌+◌, ◌*◌, ◌<◌, ◌≤◌, refl, sym, ◌∙◌, ap, subst, arith, ℤ, pos, ◌*ℤ◌, ◌≤ℤ◌, Bool}
 use Rattle.std.proofs.Common.{true, false, cond, List, length, map, get_or, Option, Some, None}
 use Rattle.std.proofs.lemmas.List.Elements.{All-contains}
@@ -14,11 +14,13 @@ use Rattle.instance_model.specs.Plans.{start_of, risk_at, scenario_sum, scenario
 use Rattle.instance_model.specs.Values.{numerator_of, sum_of_floors, score_of}
 use Rattle.instance_model.proofs.FitLemmas.{scenarios_of_small, rank_of_from}
 use Rattle.instance_model.proofs.BoardLemmas.{start_of-starts}
+use Rattle.instance_model.proofs.ScoreSizeLemmas.{score_of_small}
 use Rattle.lagrange_bound.specs.declared.tail.Tail.{Tail}
 use Rattle.lagrange_bound.specs.Prices.{tail_of}
 use Rattle.lagrange_bound.specs.Bases.{weighed, term_of, base_of}
-use Rattle.lagrange_bound.specs.Goals.{BasesBoundValue, risk_base, risk_value}
+use Rattle.lagrange_bound.specs.Goals.{BasesBoundValue, BasesAreSmall, ValuesAreSmall, risk_base, risk_value}
 use Rattle.lagrange_bound.specs.TermLemmas.{IsTailOf, floor_of_scaled, weighed-sum, weighed-le, weighed_of_none}
+use Rattle.lagrange_bound.specs.SizeLemmas.{base_of_small}
 
 -- the base of an intervention in a plan: 0 where it has no start
 base_at : Tables → (ℕ → Option Tail) → ℕ → Option ℕ → ℤ
@@ -128,3 +130,12 @@ risk_law inst prices starts fit r a =
     (λ i. base_at inst (tail_of prices) i (start_of (map Some starts) i))
     (λ i l. base_same inst (tail_of prices) starts i (omega (arith, l, a.each))) in
     subst (λ (z : ℤ). z ≤ℤ risk_value inst starts) (sym same) law
+
+-- its bases are small
+pub risk_bases_small : BasesAreSmall risk_base
+risk_bases_small inst prices i s fit r l a =
+    base_of_small inst (tail_of prices) i s fit (λ t one few x e. (r.tails t one few x e).weight)
+
+-- and so is the score
+pub risk_values_small : ValuesAreSmall risk_value
+risk_values_small inst starts fit a = omega (arith, score_of_small inst (map Some starts) fit)

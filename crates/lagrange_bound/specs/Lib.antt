@@ -10,6 +10,7 @@ pub mod Worth
 pub mod Tabulated
 pub mod TailLemmas
 pub mod TermLemmas
+pub mod SizeLemmas
 pub mod LawLemmas
 pub mod Lesser
 pub mod Small

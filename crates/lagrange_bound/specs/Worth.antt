@@ -1,6 +1,6 @@
 -- The price of a start and the worth of a box, for bases by intervention and start.
-use Rattle.std.specs.Prelude.{ℕ, ◌+◌, ◌*◌, ℤ, pos, ◌+ℤ◌, ◌-ℤ◌, ◌*ℤ◌, ◌≤ℤ◌, List, [], ◌∷◌, length, Some, ◌==◌}
-use Rattle.std.specs.Prelude.{if◌then◌else◌}
+use Rattle.std.specs.Prelude.{ℕ, ◌+◌, ◌*◌, ◌^◌, ◌≤◌, ℤ, pos, ◌+ℤ◌, ◌-ℤ◌, ◌*ℤ◌, ◌≤ℤ◌, List, [], ◌∷◌, length, Some, ◌==◌}
+use Rattle.std.specs.Prelude.{if◌then◌else◌, sum, unsigned_abs}
 use Rattle.fixed_num.specs.Sums.{sum_below}
 use Rattle.instance_model.specs.declared.parts.Exclusion.{Exclusion}
 use Rattle.instance_model.specs.Tables.{Tables, in_run, upper_of, lower_of, exclusion_of}
@@ -11,7 +11,7 @@ use Rattle.lagrange_bound.specs.declared.span.Span.{Span}
 use Rattle.lagrange_bound.specs.Least.{least_over}
 use Rattle.lagrange_bound.specs.Prices.{PriceList, IsPriceList, up_of, lo_of}
 use Rattle.lagrange_bound.specs.Goals.{Bases, PlanValue}
-use Rattle.lagrange_bound.specs.Boxes.{span_of, starts_in, IsPlanIn}
+use Rattle.lagrange_bound.specs.Boxes.{span_of, starts_in, HasStarts, IsPlanIn}
 
 -- how often an exclusion names an intervention
 abbrev pub times_named : Exclusion → ℕ → ℕ
@@ -30,6 +30,10 @@ ex_part inst (x ∷ xs) i s = ex_share inst x i s + ex_part inst xs i s
 unfoldable pub ex_total : List ExPrice → ℕ
 ex_total [] = 0
 ex_total (x ∷ xs) = x.value + ex_total xs
+
+-- the sum of all numbers of a list
+unfoldable pub price_total : PriceList → ℕ
+price_total prices = sum prices.up + sum prices.lo + ex_total prices.ex
 
 -- what the prices on the limits of resource c in period t add at a start
 abbrev pub band_share : Tables → PriceList → ℕ → ℕ → ℕ → ℕ → ℤ
@@ -68,3 +72,11 @@ abbrev pub WorthBoundsPlans : Bases → PlanValue → Type 0
 WorthBoundsPlans base value =
     (inst : Tables) (prices : PriceList) (box : List Span) (starts : List ℕ) → IsFitting inst → IsPriceList inst prices
     → IsPlanIn inst box starts → worth_of (base inst prices) inst prices box ≤ℤ value inst starts
+
+-- where the numbers of a list come to at most 4 * 10^10, a box with an allowed start in each interval is worth at most
+-- 10^36 in absolute value
+abbrev pub WorthsAreSmall : Bases → Type 0
+WorthsAreSmall base =
+    (inst : Tables) (prices : PriceList) (box : List Span) → IsFitting inst → IsPriceList inst prices
+    → price_total prices ≤ 40_000_000_000 → HasStarts inst box
+    → unsigned_abs (worth_of (base inst prices) inst prices box) ≤ 10 ^ 36

@@ -3,7 +3,7 @@ ghost use Rattle.std.specs.Prelude.{◌≡◌, ◌<◌, ◌^◌, length, IfOk, I
 ghost use Rattle.instance_model.specs.Tables.{is_allowed};
 ghost use Rattle.instance_model.specs.Plans.{AreAllowedStarts};
 ghost use Rattle.lagrange_bound.specs.Prices.{IsPriceList};
-ghost use Rattle.lagrange_bound.specs.Goals.{Bases, PlanValue, BasesBoundValue};
+ghost use Rattle.lagrange_bound.specs.Goals.{Bases, PlanValue, BasesBoundValue, BasesAreSmall, ValuesAreSmall};
 
 use crate::Prices;
 use instance_model::Instance;
@@ -34,4 +34,10 @@ pub trait Goal {
 
     /// Whatever the prices are, the bases of a plan's starts add up to at most its value.
     ghost law: { (goal : Self) → BasesBoundValue (base_gives goal) (value_gives goal) };
+
+    /// Whatever the prices are, the bases of allowed starts are below 10^30 in absolute value.
+    ghost small_bases: { (goal : Self) → BasesAreSmall (base_gives goal) };
+
+    /// The values of plans of allowed starts are below 10^36 in absolute value.
+    ghost small_values: { (goal : Self) → ValuesAreSmall (value_gives goal) };
 }

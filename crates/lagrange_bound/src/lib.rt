@@ -26,7 +26,7 @@ mod term;
 
 pub use ex_price::ExPrice;
 pub use goal::Goal;
-pub use laws::worth_bounds_plans;
+pub use laws::{worth_bounds_plans, worths_are_small};
 pub use places::Places;
 pub use prices::Prices;
 pub use pricing::price;

@@ -1,6 +1,7 @@
 //! Scenarios of a period: contracts see the list.
 ghost use Rattle.std.specs.Prelude.{◌≡◌};
 
+use std::alloc::AllocError;
 use std::marker::Model;
 
 /// Scenarios of a period, counted from 1.
@@ -15,6 +16,16 @@ impl Model for Places {
     ghost Value = { List ℕ };
 
     ghost view = { λ p. p.items.items };
+}
+
+impl Clone for Places {
+    ghost is_clone = { λ places copy. copy ≡ places };
+
+    fn clone(&self) -> Result<Places, AllocError> {
+        Ok(Places {
+            items: self.items.clone()?,
+        })
+    }
 }
 
 impl Places {

@@ -31,6 +31,19 @@ impl Model for Prices {
     ghost view = { λ p. record { up = p.up.items; lo = p.lo.items; tails = p.tails.items; ex = p.ex.items } };
 }
 
+impl Clone for Prices {
+    ghost is_clone = { λ prices copy. copy ≡ prices };
+
+    fn clone(&self) -> Result<Prices, AllocError> {
+        Ok(Prices {
+            up: self.up.clone()?,
+            lo: self.lo.clone()?,
+            tails: self.tails.clone()?,
+            ex: self.ex.clone()?,
+        })
+    }
+}
+
 impl Prices {
     /// The list of zeros, without tails.
     pub fn zero(alloc: Global, inst: &Instance) -> Result<Prices, AllocError>

@@ -19,13 +19,17 @@ pub struct RiskGoal;
 
 impl Goal for RiskGoal {
     ghost use Rattle.lagrange_bound.specs.Goals.{risk_base, risk_value};
-    ghost use Rattle.lagrange_bound.specs.LawLemmas.{risk_law};
+    ghost use Rattle.lagrange_bound.specs.LawLemmas.{risk_law, risk_bases_small, risk_values_small};
 
     ghost base_gives = { λ goal. risk_base };
 
     ghost value_gives = { λ goal. risk_value };
 
     ghost law = { λ goal. risk_law };
+
+    ghost small_bases = { λ goal. risk_bases_small };
+
+    ghost small_values = { λ goal. risk_values_small };
 
     fn base(&self, inst: &Instance, prices: &Prices, i: u32, s: u32) -> i128 {
         base_on::<Brand>(inst, prices, i, s, Blank::new(1))

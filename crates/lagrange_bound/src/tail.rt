@@ -1,5 +1,8 @@
 //! The scenarios that a price list weighs in a period, as plain data.
+ghost use Rattle.std.specs.Prelude.{◌≡◌};
+
 use crate::Places;
+use std::alloc::AllocError;
 
 /// A weight in thousandths, and at least as many scenarios of a period as the quantile leaves at or above it.
 #[derive(Drop)]
@@ -8,4 +11,15 @@ pub struct Tail {
     pub weight: u32,
     /// Strictly ascending.
     pub places: Places,
+}
+
+impl Clone for Tail {
+    ghost is_clone = { λ tail copy. copy ≡ tail };
+
+    fn clone(&self) -> Result<Tail, AllocError> {
+        Ok(Tail {
+            weight: self.weight,
+            places: self.places.clone()?,
+        })
+    }
 }

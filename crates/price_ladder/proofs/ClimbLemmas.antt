@@ -1,17 +1,16 @@
 -- A ladder from the list of zeros: what holds after some steps, and that it ends with a raised list.
-use Rattle.std.proofs.Common.{◌≡◌, ℕ, zero, suc, ◌+◌, ◌*◌, ◌≤◌, inl, inr, refl, sym, ◌∙◌, ap, subst, arith, ◌<◌, ◌^◌}
-use Rattle.std.proofs.Common.{unsigned_abs, ℤ, ◌+ℤ◌, ◌<ℤ◌, ◌≤ℤ◌, false, true, List, length, replicate, sum}
-use Rattle.std.proofs.lemmas.List.Sums.{sum_by-cons}
+use Rattle.std.proofs.Common.{◌≡◌, ℕ, ◌+◌, ◌*◌, ◌≤◌, inl, inr, refl, sym, ◌∙◌, ap, subst, arith, ◌<◌, ◌^◌}
+use Rattle.std.proofs.Common.{unsigned_abs, ℤ, ◌+ℤ◌, ◌<ℤ◌, ◌≤ℤ◌, false, true, List, length}
 use Rattle.fixed_num.proofs.Bits.{by_bits}
 use Rattle.fixed_num.proofs.SignedLemmas.{signed_arith, back_from_abs}
 use Rattle.fixed_num.proofs.SumLemmas.{abs-sum}
 use Rattle.instance_model.specs.Tables.{Tables}
 use Rattle.lagrange_bound.specs.Prices.{PriceList, IsPriceList, zero_list}
 use Rattle.lagrange_bound.specs.Boxes.{HasStarts}
-use Rattle.lagrange_bound.specs.Worth.{ex_total}
+use Rattle.lagrange_bound.specs.Worth.{price_total}
 use Rattle.branch_tree.specs.Trees.{root_box}
 use Rattle.price_ladder.specs.Steps.{IsLadderStep}
-use Rattle.price_ladder.specs.Raised.{root_worth, least_total, least_gain, IsRaised, price_total}
+use Rattle.price_ladder.specs.Raised.{root_worth, least_total, least_gain, IsRaised}
 use Rattle.price_ladder.specs.Tried.{IsTried}
 use Rattle.price_ladder.proofs.StepLemmas.{ladder_step_small}
 use Rattle.price_ladder.proofs.GainLemmas.{IsGained, IsGained-none, IsGained-more, IsGained-least, enough_after}
@@ -68,14 +67,6 @@ pub climbed_least : (inst : Tables) (first : PriceList) (k : ℕ) (prices : Pric
 climbed_least inst first k prices h c = IsGained-least inst k (root_worth inst prices) h c.gained
 
 -- ---- the list of zeros
-
-sum-zeros : (n : ℕ) → sum (replicate n 0) ≡ 0
-sum-zeros zero = refl
-sum-zeros (suc n) = omega (arith, sum_by-cons (λ x. x) 0 (replicate n 0), sum-zeros n)
-
-pub zero_total : (inst : Tables) → price_total (zero_list inst) ≡ 0
-unfolding price_total zero_list ex_total
-zero_total inst = omega (arith, sum-zeros (length inst.resource_names * inst.periods))
 
 pub zero_few : (inst : Tables) → length (zero_list inst).ex ≡ 0
 unfolding zero_list

@@ -11,12 +11,11 @@ use Rattle.lagrange_bound.specs.declared.tail.Tail.{Tail}
 use Rattle.lagrange_bound.specs.declared.ex_price.ExPrice.{ExPrice}
 use Rattle.lagrange_bound.specs.Prices.{PriceList, IsPriceList, up_of, lo_of, tail_of, ex_of}
 use Rattle.lagrange_bound.specs.Changes.{with_up, with_lo, with_tail, IsExSet, IsBandPlace}
-use Rattle.lagrange_bound.specs.Worth.{ex_total}
+use Rattle.lagrange_bound.specs.Worth.{ex_total, price_total}
 use Rattle.lagrange_bound.proofs.LimitLemmas.{ex_total-sum_by}
 use Rattle.price_ladder.specs.declared.place.Place.{Place}
 use Rattle.price_ladder.specs.declared.place.Place.TheVariants.{Upper, Lower, Excluded}
 use Rattle.price_ladder.specs.Places.{IsPlace, value_at, IsWithValue}
-use Rattle.price_ladder.specs.Raised.{price_total}
 use Rattle.price_ladder.proofs.ExMaps.{ArePositive, Rising-from, ArePositive-from, same_prices, sum-changed}
 
 -- ---- one place of the prices of exclusions

@@ -3,10 +3,10 @@ use Rattle.std.proofs.Common.{◌≡◌, ℕ, ◌+◌, ◌^◌, ◌≤◌, ◌�
 use Rattle.std.proofs.Math.Nat.{pow-le-pow_right}
 use Rattle.instance_model.specs.Tables.{Tables}
 use Rattle.lagrange_bound.specs.Prices.{PriceList, IsPriceList}
+use Rattle.lagrange_bound.specs.Worth.{price_total}
 use Rattle.price_ladder.specs.Places.{value_at}
 use Rattle.price_ladder.specs.Tails.{plan_tail}
 use Rattle.price_ladder.specs.Steps.{IsPriceStep, IsTailStep, IsLadderStep, of_number, of_tail}
-use Rattle.price_ladder.specs.Raised.{price_total}
 use Rattle.price_ladder.proofs.PlaceLemmas.{IsMoved, value_moved, tail_moved}
 
 -- a step adds at most 10^8 to the sum, and at most one price of an exclusion that isn't 0

@@ -1,5 +1,5 @@
 -- Raised price lists: those that no ladder step makes much better, or that are good enough.
-use Rattle.std.specs.Prelude.{ℕ, ◌+◌, ℤ, pos, ◌+ℤ◌, ◌-ℤ◌, ◌*ℤ◌, ◌<ℤ◌, ◌⊎◌, List, length, sum}
+use Rattle.std.specs.Prelude.{ℕ, ℤ, pos, ◌+ℤ◌, ◌-ℤ◌, ◌*ℤ◌, ◌<ℤ◌, ◌⊎◌, List, length}
 use Rattle.fixed_num.specs.Floors.{floor_of}
 use Rattle.fixed_num.specs.Sums.{sum_below}
 use Rattle.instance_model.specs.Tables.{Tables}
@@ -7,7 +7,7 @@ use Rattle.lagrange_bound.specs.Least.{least_over}
 use Rattle.lagrange_bound.specs.Prices.{PriceList, IsPriceList, zero_list}
 use Rattle.lagrange_bound.specs.Goals.{risk_base}
 use Rattle.lagrange_bound.specs.Boxes.{span_of, starts_in}
-use Rattle.lagrange_bound.specs.Worth.{worth_of, ex_total}
+use Rattle.lagrange_bound.specs.Worth.{worth_of}
 use Rattle.branch_tree.specs.Trees.{root_box}
 use Rattle.branch_tree.specs.Loads.{greatest_over}
 use Rattle.price_ladder.specs.Steps.{IsLadderStep}
@@ -48,7 +48,3 @@ pub record NoStepReaches (inst : Tables) (starts : List ℕ) (prices : PriceList
 abbrev pub IsRaised : Tables → List ℕ → PriceList → Type 0
 IsRaised inst starts prices = NoStepReaches inst starts prices (root_worth inst prices +ℤ least_gain inst)
     ⊎ (enough_worth inst <ℤ root_worth inst prices)
-
--- the sum of all numbers of a list
-unfoldable pub price_total : PriceList → ℕ
-price_total prices = sum prices.up + sum prices.lo + ex_total prices.ex

@@ -2,7 +2,8 @@
 ghost use Rattle.std.specs.Prelude.{◌≡◌, ◌≤◌, ◌+◌, ◌≤ℤ◌, length, OnOk};
 ghost use Rattle.instance_model.specs.Plans.{AreAllowedStarts};
 ghost use Rattle.lagrange_bound.specs.Prices.{IsPriceList};
-ghost use Rattle.price_ladder.specs.Raised.{root_worth, least_total, price_total, IsRaised};
+ghost use Rattle.lagrange_bound.specs.Worth.{price_total};
+ghost use Rattle.price_ladder.specs.Raised.{root_worth, least_total, IsRaised};
 
 use crate::ladder::Ladder;
 use crate::least_gain::least_gain;

@@ -3,8 +3,9 @@ ghost use Rattle.std.specs.Prelude.{◌≡◌, ◌*◌, ◌<◌, ◌≤◌, ◌�
 ghost use Rattle.instance_model.specs.Plans.{AreAllowedStarts};
 ghost use Rattle.lagrange_bound.specs.Prices.{PriceList, IsPriceList, IsTail, tail_of, zero_list};
 ghost use Rattle.lagrange_bound.specs.Changes.{with_tail};
+ghost use Rattle.lagrange_bound.specs.Worth.{price_total};
 ghost use Rattle.price_ladder.specs.Places.{IsPlace, IsWithValue};
-ghost use Rattle.price_ladder.specs.Raised.{root_worth, least_total, price_total, IsRaised};
+ghost use Rattle.price_ladder.specs.Raised.{root_worth, least_total, IsRaised};
 ghost use Rattle.price_ladder.specs.Tried.{IsTried};
 ghost use Rattle.price_ladder.specs.Kept.{AreSmall};
 ghost use Rattle.price_ladder.specs.Beside.{IsSettled, IsBeside, IsWhole};

@@ -4,8 +4,9 @@ ghost use Rattle.instance_model.specs.Plans.{AreAllowedStarts};
 ghost use Rattle.lagrange_bound.specs.Prices.{IsPriceList, IsTail, tail_of, zero_list};
 ghost use Rattle.lagrange_bound.specs.Changes.{with_tail};
 ghost use Rattle.lagrange_bound.specs.Boxes.{HasStarts};
+ghost use Rattle.lagrange_bound.specs.Worth.{price_total};
 ghost use Rattle.branch_tree.specs.Trees.{root_box};
-ghost use Rattle.price_ladder.specs.Raised.{root_worth, least_total, price_total, IsRaised};
+ghost use Rattle.price_ladder.specs.Raised.{root_worth, least_total, IsRaised};
 ghost use Rattle.price_ladder.specs.Tried.{IsTried};
 
 use crate::Place;

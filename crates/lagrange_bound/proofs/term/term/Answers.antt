@@ -2,7 +2,8 @@ use Rattle.std.proofs.Common.{◌≡◌, ◌∙◌, ◌≤◌, subst, arith, uns
 use Rattle.fixed_num.proofs.SignedLemmas.{back_from_abs}
 use Rattle.lagrange_bound.specs.declared.tail.Tail.{Tail}
 use Rattle.lagrange_bound.specs.Bases.{term_of}
-use Rattle.lagrange_bound.proofs.BaseLemmas.{seen, seen_some, term_is, term_of_small}
+use Rattle.lagrange_bound.specs.SizeLemmas.{term_of_small}
+use Rattle.lagrange_bound.proofs.BaseLemmas.{seen, seen_some, term_is}
 use Rattle.lagrange_bound.proofs.term.term.Goals as goal
 
 pub returns : goal.returns

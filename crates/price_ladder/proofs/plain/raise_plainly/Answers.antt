@@ -1,8 +1,10 @@
 use Rattle.std.proofs.Common.{sym, ap, subst, arith, ◌≤ℤ◌, length}
 use Rattle.lagrange_bound.specs.Prices.{PriceList}
-use Rattle.price_ladder.specs.Raised.{root_worth, least_total, price_total}
+use Rattle.lagrange_bound.specs.Worth.{price_total}
+use Rattle.lagrange_bound.proofs.PriceLemmas.{zero_total}
+use Rattle.price_ladder.specs.Raised.{root_worth, least_total}
 use Rattle.price_ladder.proofs.GainLemmas.{root_worth-zero}
-use Rattle.price_ladder.proofs.ClimbLemmas.{zero_least, zero_total, zero_few}
+use Rattle.price_ladder.proofs.ClimbLemmas.{zero_least, zero_few}
 use Rattle.price_ladder.proofs.plain.raise_plainly.Goals as goal
 
 pub climb-requires-clause-above : goal.climb-requires-clause-above
