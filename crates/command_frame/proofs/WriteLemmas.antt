@@ -21,7 +21,8 @@ use Rattle.command_frame.specs.Ending.Ends.{done, unsaid, unwritten}
 use Rattle.command_frame.specs.Ending.Behind.{of_command, unsaid as behind_unsaid, unwritten as behind_unwritten}
 use Rattle.command_frame.specs.Ending.Behind.{no_memory as behind_memory}
 use Rattle.command_frame.specs.Refusals.{SaysOrFails}
-use Rattle.command_frame.specs.Writing.{StopsPut, PutsFile, HasWritten, StopsWriting, PutsFiles}
+use Rattle.command_frame.specs.Writing.{StopsPut, PutsFile, HasWritten, StopsWriting, PutsFiles, TellsAnswer}
+use Rattle.command_frame.specs.Writing.TellsAnswer.{written as told_written, unwritten as told_unwritten}
 use Rattle.command_frame.proofs.SayLemmas.{rose_before, says_before}
 use Rattle.command_frame.proofs.FileLemmas.{Goes}
 use Rattle.command_frame.proofs.EndLemmas.{Stays, unsaid_fails}
@@ -142,7 +143,7 @@ module _ (Answers : Shown → Answer → Type 0) (old mid : Shown) (a : Answer) 
   stay s stays wrote = answers a (stays (record { later = wrote.later; same = wrote.same }) a is)
 
   -- the files were written, and then the text was said, or saying it failed
-  pub written_ends : (wrote new : Shown) (status : ℕ) → Stays Answers mid wrote → Stays Answers mid new
+  written_ends : (wrote new : Shown) (status : ℕ) → Stays Answers mid wrote → Stays Answers mid new
       → HasWritten a.writes mid wrote → KeepsFiles wrote new → SaysOrFails a.status a.text wrote new status
       → Ends (λ at. OrMemory (Answers at)) old new status
   written_ends wrote new status stays_wrote stays files keeps (inl all) =
@@ -185,7 +186,7 @@ module _ (Answers : Shown → Answer → Type 0) (old mid : Shown) (a : Answer) 
   always_8 stopped new word status (inr some) = some.status_is
 
   -- the writing of a file stopped, and then its line was said, or saying it failed
-  pub unwritten_ends : (stopped new : Shown) (word status : ℕ) → StopsWriting a.writes mid stopped word
+  unwritten_ends : (stopped new : Shown) (word status : ℕ) → StopsWriting a.writes mid stopped word
       → KeepsFiles stopped new → SaysOrFails 8 (write_line word) stopped new status
       → Ends (λ at. OrMemory (Answers at)) old new status
   unwritten_ends stopped new word status stops keeps says =
@@ -209,6 +210,17 @@ module _ (Answers : Shown → Answer → Type 0) (old mid : Shown) (a : Answer) 
         said_later = keeps.later;
         output_is = keeps.output;
       }))
+
+  -- an answer was told
+  pub told_ends : (new : Shown) (status : ℕ) → ((at : Shown) → Stays Answers mid at) → TellsAnswer a mid new status
+      → Ends (λ at. OrMemory (Answers at)) old new status
+  told_ends new status stays (told_written wrote files keeps says) =
+      written_ends wrote new status (stays wrote) (stays new) files keeps says
+  told_ends new status stays (told_unwritten at word stops keeps says) = unwritten_ends at new word status stops keeps says
+
+pub told_later : (a : Answer) (old new : Shown) (status : ℕ) → TellsAnswer a old new status → old.faults ≤ new.faults
+told_later a old new status (told_written wrote files keeps says) = omega (arith, files.later, keeps.later)
+told_later a old new status (told_unwritten at word stops keeps says) = omega (arith, stops.later, keeps.later)
 
 -- what stands behind a status, where files are written
 pub wrote_behind : (Answers : Shown → Answer → Type 0) (OfCommand : ℕ → Type 0) (old new : Shown) (status : ℕ)
