@@ -19,6 +19,7 @@ use Rattle.command_frame.specs.Files.{reading, OnPlan, ReadsInstance, ReadsPlan}
 use Rattle.command_evaluate.specs.Evaluating.{EnclosesEveryReading, Judges, AnswersEvaluate}
 use Rattle.command_evaluate.specs.Evaluating.Judges.{feasible, infeasible}
 use Rattle.command_frame.proofs.FileLemmas.{IsRead}
+use Rattle.command_frame.proofs.ReadLemmas.{after_instance, after_plan}
 use Rattle.command_frame.proofs.RuleNames.{rule_names}
 
 pub evaluate_judges : (source : Source) (name : List ℕ) (old mid new : Shown) (inst : Tables)
