@@ -1,16 +1,2 @@
-pub mod ToldLemmas
-pub mod RuleNames
-pub mod SayLemmas
 pub mod WordLemmas
-pub mod FileLemmas
-pub mod EndLemmas
-pub mod ReadLemmas
-pub mod ReplayLemmas
-pub mod CheckReading
-pub mod CheckLemmas
-pub mod AnswerLemmas
-pub mod CheckAnswers
-pub mod EvaluateRun
-pub mod ReplayRun
-pub mod CheckRun
 pub mod OutcomeLemmas

@@ -3,17 +3,18 @@ use Rattle.std.proofs.Common.{◌≡◌, ℕ, List, Option, Some, None, refl, sy
 use Rattle.plan_desk.specs.Desk.{Shown}
 use Rattle.plan_desk.specs.Contents.{Says, KeepsFiles}
 use Rattle.instance_model.specs.Limits.{standard_limits}
-use Rattle.planner_cli.specs.Words.{Source, Command, evaluate, replay, check, command_of}
-use Rattle.planner_cli.specs.Lines.{words_line}
-use Rattle.planner_cli.specs.Ending.{Answer, reply, Ends}
-use Rattle.planner_cli.specs.Ending.Ends.{done, unsaid}
-use Rattle.planner_cli.specs.Evaluating.{RunsEvaluate}
-use Rattle.planner_cli.specs.Replaying.{RunsReplay}
-use Rattle.planner_cli.specs.Checking.{RunsCheck}
+use Rattle.command_frame.specs.Sources.{Source}
+use Rattle.planner_cli.specs.Words.{Command, evaluate, replay, check, command_of}
+use Rattle.command_frame.specs.Lines.{words_line}
+use Rattle.command_frame.specs.Ending.{Answer, reply, Ends}
+use Rattle.command_frame.specs.Ending.Ends.{done, unsaid, unwritten}
+use Rattle.command_evaluate.specs.Evaluating.{RunsEvaluate}
+use Rattle.command_replay.specs.Replaying.{RunsReplay}
+use Rattle.command_check.specs.Checking.{RunsCheck}
 use Rattle.planner_cli.specs.Outcome.{Asks, DueRefusal, BehindRefusal, RefusesWords, Outcome}
 use Rattle.planner_cli.specs.Outcome.BehindRefusal.{refused as behind_refused, unsaid as behind_unsaid}
-use Rattle.planner_cli.specs.Refusals.{SaysOrFails}
-use Rattle.planner_cli.proofs.EndLemmas.{reads_none, said_ends, ends_quiet, unsaid_fails}
+use Rattle.command_frame.specs.Refusals.{SaysOrFails}
+use Rattle.command_frame.proofs.EndLemmas.{reads_none, said_ends, ends_quiet, unsaid_fails, nothing_unwritten}
 
 -- ---- words that are refused
 
@@ -28,6 +29,8 @@ refusal_behind old new status (done n d) =
     said : (a : Answer) → a ≡ reply 2 words_line → Says a.text old new → Says words_line old new
     said a is says = subst (λ (x : Answer). Says x.text old new) is says
 refusal_behind old new status (unsaid u) = behind_unsaid (unsaid_fails DueRefusal old new u) u
+refusal_behind old new status (unwritten u) =
+    absurd (nothing_unwritten DueRefusal old new (λ at a is. ap (λ (x : Answer). x.writes) is) u)
 
 refuses : (old new : Shown) (status : ℕ) → KeepsFiles old new → SaysOrFails 2 words_line old new status
     → RefusesWords old new status

@@ -4,9 +4,9 @@ use Rattle.std.proofs.Common.{ap, arith, codes}
 use Rattle.std.specs.Prelude.{bytes_eq, ◌&&◌, if◌then◌else◌}
 use Rattle.std.proofs.lemmas.Slice.Eq.{bytes_eq-Decides}
 use Rattle.instance_model.specs.Rules.{or_else}
-use Rattle.planner_cli.specs.Words.{Source, Command, evaluate, replay, check, is_file_word, slack_of, given_plan}
-use Rattle.planner_cli.specs.Words.{evaluation, replaying, checking, evaluate_of, replay_of, check_of, command_of}
-use Rattle.planner_cli.specs.Words.{IsOneCommand}
+use Rattle.command_frame.specs.Sources.{Source}
+use Rattle.planner_cli.specs.Words.{Command, evaluate, replay, check, is_file_word, slack_of, given_plan, evaluation}
+use Rattle.planner_cli.specs.Words.{replaying, checking, evaluate_of, replay_of, check_of, command_of, IsOneCommand}
 
 -- ---- too few words, and too many
 

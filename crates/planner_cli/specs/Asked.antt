@@ -1,12 +1,9 @@
 -- What the code has of the words, as the grammar has it. No part of any promise.
 use Rattle.std.specs.Prelude.{option_copied}
-use Rattle.planner_cli.specs.declared.words.Source.{Source as SourceWords}
 use Rattle.planner_cli.specs.declared.words.Command.{Command as CommandWords}
 use Rattle.planner_cli.specs.declared.words.Command.TheVariants.{Evaluate, Replay, Check}
-use Rattle.planner_cli.specs.Words.{Source, Command, evaluate, replay, check}
-
-abbrev pub source_view : SourceWords → Source
-source_view s = record { instance = s.instance.now; slack = s.slack }
+use Rattle.planner_cli.specs.Words.{Command, evaluate, replay, check}
+use Rattle.command_frame.specs.Sources.{source_view}
 
 abbrev pub command_view : CommandWords → Command
 command_view (Evaluate source plan) = evaluate (source_view source) plan.now

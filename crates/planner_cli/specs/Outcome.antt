@@ -5,12 +5,13 @@ use Rattle.std.specs.Prelude.{◌≡◌, ℕ, ◌≤◌, List, Option, Some, Non
 use Rattle.plan_desk.specs.Desk.{Shown}
 use Rattle.plan_desk.specs.Contents.{Says}
 use Rattle.instance_model.specs.Limits.{standard_limits}
-use Rattle.planner_cli.specs.Words.{Source, Command, evaluate, replay, check, command_of}
-use Rattle.planner_cli.specs.Lines.{words_line}
-use Rattle.planner_cli.specs.Ending.{Answer, reply, IsQuiet, SayFails, IsUnsaid, Ends}
-use Rattle.planner_cli.specs.Evaluating.{RunsEvaluate}
-use Rattle.planner_cli.specs.Replaying.{RunsReplay}
-use Rattle.planner_cli.specs.Checking.{RunsCheck}
+use Rattle.command_frame.specs.Sources.{Source}
+use Rattle.planner_cli.specs.Words.{Command, evaluate, replay, check, command_of}
+use Rattle.command_frame.specs.Lines.{words_line}
+use Rattle.command_frame.specs.Ending.{Answer, reply, IsQuiet, SayFails, IsUnsaid, Ends}
+use Rattle.command_evaluate.specs.Evaluating.{RunsEvaluate}
+use Rattle.command_replay.specs.Replaying.{RunsReplay}
+use Rattle.command_check.specs.Checking.{RunsCheck}
 
 -- the words ask for this command
 abbrev pub Asks : List (List ℕ) → Command → Type 0

@@ -3,11 +3,7 @@ use Rattle.std.specs.Prelude.{◌≡◌, ℕ, ◌-◌, ◌*◌, ◌^◌, List, [
 use Rattle.std.specs.Prelude.{◌&&◌, Bool, Option, Some, None, if◌then◌else◌}
 use Rattle.instance_model.specs.Rules.{or_else}
 use Rattle.instance_shape.specs.Keys.{all_bytes, is_digit, number_of}
-
--- the name of the instance file, word 2, and how far its bands are widened, in 10^-12
-pub record Source : Type 0 where
-  pub instance : List ℕ
-  pub slack : ℕ
+use Rattle.command_frame.specs.Sources.{Source}
 
 -- what a command line asks for, with the names of its files: the plan is word 3, the script or the certificate word 4.
 -- A check may be without a plan.

@@ -3,22 +3,13 @@
 //! `run` is the whole program over any device; `main` runs it over real files and standard output.
 #![tactic(auto)]
 
-mod check;
 #[cfg(test)]
 mod check_tests;
-mod evaluate;
-mod instance_line;
-mod reading;
-mod refusal;
-mod replay;
 #[cfg(test)]
 mod replay_tests;
-mod report;
 mod run;
-mod say;
 #[cfg(test)]
 mod tests;
-mod text;
 mod words;
 
 use plan_desk::RealDesk;

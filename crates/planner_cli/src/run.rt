@@ -2,12 +2,11 @@
 ghost use Rattle.std.specs.Prelude.{map, string_bytes};
 ghost use Rattle.planner_cli.specs.Outcome.{Outcome};
 
-use crate::check::check_files;
-use crate::evaluate::evaluate_files;
-use crate::refusal::WORDS_LINE;
-use crate::replay::replay_files;
-use crate::say::say;
 use crate::words::{Command, command_of};
+use command_check::check_files;
+use command_evaluate::evaluate_files;
+use command_frame::{WORDS_LINE, say};
+use command_replay::replay_files;
 use plan_desk::Desk;
 use quantile_index::{Row, TreeRow};
 use std::alloc::Global;

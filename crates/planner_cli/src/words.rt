@@ -2,20 +2,15 @@
 ghost use Rattle.std.specs.Prelude.{◌≡◌, ◌≤◌, map, string_bytes, option_copied, IfSome, IfNone, Some, None, IsTrue};
 ghost use Rattle.std.specs.Prelude.{false};
 ghost use Rattle.planner_cli.specs.Words.{command_of, evaluate_of, replay_of, check_of, IsOneCommand, evaluation};
-ghost use Rattle.planner_cli.specs.Words.{replaying, checking};
-ghost use Rattle.planner_cli.specs.Words.{given_plan, slack_in, slack_of, slack_count, fraction, are_decimals};
+ghost use Rattle.planner_cli.specs.Words.{replaying, checking, given_plan, slack_in, slack_of, slack_count, fraction};
+ghost use Rattle.planner_cli.specs.Words.{are_decimals};
 ghost use Rattle.instance_model.specs.Rules.{or_else};
 ghost use Rattle.planner_cli.specs.Asked.{command_view};
 
+use command_frame::Source;
+
 /// How many counts of 10^-12 a slack has at most.
 const MOST_SLACK: u64 = 1_000_000_000;
-
-/// The name of the instance file, word 2, and how far its bands are widened, in counts of 10^-12.
-#[derive(Clone, Copy)]
-pub struct Source<'a> {
-    pub instance: &'a str,
-    pub slack: u32,
-}
 
 /// What the words ask for, with the names of its files: the plan is word 3, the script or the certificate word 4.
 #[derive(Clone, Copy)]

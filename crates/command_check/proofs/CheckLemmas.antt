@@ -1,0 +1,163 @@
+-- What a plan that was given comes to, and what is answered on a certificate.
+use Rattle.std.proofs.Common.{◌≡◌, ℕ, ◌<◌, ◌^◌, List, length, Option, Some, None, true, false, ℤ, refl, sym, ◌∙◌, ap}
+use Rattle.std.proofs.Common.{subst}
+use Rattle.std.specs.Prelude.{IfSome, is_some, unsigned_abs}
+use Rattle.instance_model.specs.Tables.{Tables}
+use Rattle.instance_model.specs.Plans.{RunsAreAllowed}
+use Rattle.instance_model.specs.Values.{score_of}
+use Rattle.instance_model.specs.Exact.{CostIsJustAboveScore}
+use Rattle.instance_model.specs.Rules.{first_rule, first_start_rule, IsFeasible}
+use Rattle.instance_model.specs.declared.rule.Rule.{Rule}
+use Rattle.instance_model.proofs.RuleLemmas.{first_start_rule-none, KeepsRules-from, IsFeasible-from}
+use Rattle.instance_model.proofs.FirstLemmas.{or_else-none}
+use Rattle.instance_model.proofs.PlanLemmas.{RunsAreAllowed-from_none}
+use Rattle.plan_score.specs.Values.{values_of}
+use Rattle.plan_score.specs.declared.values.Values.{Values}
+use Rattle.lagrange_bound.specs.Goals.{risk_base, risk_value}
+use Rattle.certificate_lines.specs.declared.line.Bound.{Bound}
+use Rattle.branch_tree.specs.declared.certificate.Certificate.{Certificate}
+use Rattle.branch_tree.specs.Holding.{IsAtLeast}
+use Rattle.branch_tree.specs.Validity.{IsValid, IsFirstFailing, BoundsPlans}
+use Rattle.certificate_check.specs.declared.verdict.CertVerdict.{CertVerdict}
+use Rattle.certificate_check.specs.declared.verdict.CertVerdict.TheVariants.{Valid, LeafFails}
+use Rattle.certificate_check.specs.Verdicts.{IsVerdict}
+use Rattle.command_frame.specs.Lines.{failing_leaf_line}
+use Rattle.command_frame.specs.Reports.{infeasible_report, accepted_text, NamesOf}
+use Rattle.command_frame.specs.Ending.{reply}
+use Rattle.command_check.specs.Checking.{IsKeptPlan, BoundsEveryPlan, IsBroken, Checks}
+use Rattle.command_check.specs.Checking.Checks.{broken_plan, failing_leaf, accepted}
+use Rattle.command_check.specs.declared.check.Given.{Given}
+use Rattle.command_check.specs.declared.check.Given.TheVariants.{Kept, Broken}
+use Rattle.command_check.specs.Standing.{StandsAs, ChecksFor}
+use Rattle.command_frame.proofs.RuleNames.{rule_names}
+use Rattle.command_frame.proofs.OpeningLemmas.{opening_from}
+
+-- ---- a plan that was given
+
+some_breaks : (o : Option Rule) (rule : Rule) → o ≡ Some rule → is_some o ≡ false → ⊥
+some_breaks o rule is none = apart (sym (ap is_some is) ∙ none)
+  where
+    apart : true ≡ false → ⊥
+    apart h = cc
+
+pub broken_stands : (inst : Tables) (plan seen : List (Option ℕ)) (rule : Rule) → seen ≡ plan
+    → first_rule inst seen ≡ Some rule → IsBroken inst (Some plan) rule
+broken_stands inst plan seen rule same first =
+    let here : first_rule inst plan ≡ Some rule = subst
+    (λ (p : List (Option ℕ)). first_rule inst p ≡ Some rule) same first in
+    record {
+      plan = plan;
+      given_is = refl;
+      not_kept = λ keeps. some_breaks (first_rule inst plan) rule here (IsFeasible-from inst plan keeps);
+      first = here;
+    }
+
+pub kept_stands : (inst : Tables) (plan seen other : List (Option ℕ)) (values : Values)
+    → length plan ≡ length inst.names → seen ≡ plan → other ≡ plan → first_rule inst seen ≡ None
+    → values ≡ values_of inst other
+    → unsigned_abs values.score < 10 ^ 36 → StandsAs inst (Some plan) (Kept (Some values.score))
+unfolding values_of
+kept_stands inst plan seen other values each same also none are small = (
+  record {
+    each = each;
+    keeps =
+        KeepsRules-from inst plan (ap is_some (subst (λ (p : List (Option ℕ)). first_rule inst p ≡ None) same none));
+  },
+  ap Some (ap (λ (v : Values). v.score) are ∙ ap (score_of inst) also),
+  small,
+)
+
+pub broken_names : (inst : Tables) (given : Option (List (Option ℕ))) (g : Given) (rule : Rule) → StandsAs inst given g
+    → g ≡ Broken rule → NamesOf inst rule
+broken_names inst given g rule stands is =
+    let b : IsBroken inst given rule = subst (StandsAs inst given) is stands in rule_names inst b.plan rule b.first
+
+pub broken_checks : (inst : Tables) (given : Option (List (Option ℕ))) (cert : Certificate) (g : Given)
+    (rule : Rule) (text : List ℕ)
+    → StandsAs inst given g → g ≡ Broken rule → text ≡ infeasible_report inst rule
+    → Checks inst given cert (reply 1 text)
+broken_checks inst given cert g rule text stands is report =
+    let b : IsBroken inst given rule = subst (StandsAs inst given) is stands in subst
+    (λ (t : List ℕ). Checks inst given cert (reply 1 t)) (sym report) (broken_plan rule b)
+
+pub kept_checks : (inst : Tables) (given : Option (List (Option ℕ))) (cert : Certificate) (g : Given)
+    (score : Option ℤ) (s : ℕ) (t : List ℕ)
+    → StandsAs inst given g → g ≡ Kept score → ChecksFor inst score cert s t → Checks inst given cert (reply s t)
+kept_checks inst given cert g score s t stands is checks =
+    let k : StandsAs inst given (Kept score) = subst (StandsAs inst given) is stands in checks given k.0 k.1
+
+pub kept_small : (inst : Tables) (given : Option (List (Option ℕ))) (g : Given) (score : Option ℤ)
+    → StandsAs inst given g → g ≡ Kept score → IfSome score (λ z. unsigned_abs z < 10 ^ 36)
+kept_small inst given g score stands is =
+    let k : StandsAs inst given (Kept score) = subst (StandsAs inst given) is stands in k.2
+
+-- ---- the bound holds for every plan that keeps the rules
+
+bounds_plan : (inst : Tables) (bound : Bound) (plan : List (Option ℕ)) → BoundsPlans risk_value inst bound
+    → IsKeptPlan inst plan → IsAtLeast bound (score_of inst plan)
+bounds_plan inst bound plan bounds kept =
+    let opens = opening_from inst plan kept.each (first_start_rule-none inst plan kept.keeps.starts) in
+    let feasible = subst (IsFeasible inst) opens.starts (IsFeasible-from inst plan kept.keeps) in
+    subst (λ (p : List (Option ℕ)). IsAtLeast bound (score_of inst p)) (sym opens.starts)
+    (bounds _ opens.allowed.each feasible)
+
+pub bounds_every : (inst : Tables) (bound : Bound) → BoundsPlans risk_value inst bound → BoundsEveryPlan inst bound
+bounds_every inst bound bounds =
+    record {
+      least = λ b is plan kept. subst (λ (x : Bound). IsAtLeast x (score_of inst plan)) is
+          (bounds_plan inst bound plan bounds kept);
+      none = λ is plan kept. subst (λ (x : Bound). IsAtLeast x (score_of inst plan)) is
+          (bounds_plan inst bound plan bounds kept);
+    }
+
+-- ---- what is answered on a certificate
+
+-- the checker's verdict on a certificate
+pub record Verdict (inst : Tables) (cert : Certificate) (verdict : CertVerdict) : Type 0 where
+  pub right : IsVerdict risk_base risk_value inst cert verdict
+  pub only : (other : CertVerdict) → IsVerdict risk_base risk_value inst cert other → other ≡ verdict
+  pub bounds : verdict ≡ Valid → BoundsPlans risk_value inst cert.bound
+
+not_valid : (n : ℕ) → Valid ≡ LeafFails n → ⊥
+not_valid n e = cc
+
+same_leaf : (n m : ℕ) → LeafFails m ≡ LeafFails n → m ≡ n
+same_leaf n m e = cc
+
+pub valid_checks : (inst : Tables) (score : Option ℤ) (cert : Certificate) (verdict : CertVerdict) (text : List ℕ)
+    → verdict ≡ Valid → Verdict inst cert verdict → CostIsJustAboveScore inst
+    → text ≡ accepted_text inst cert.bound score
+    → ChecksFor inst score cert 0 text
+valid_checks inst score cert verdict text is v costs report given keeps same =
+    let right : IsValid risk_base risk_value inst cert = subst (IsVerdict risk_base risk_value inst cert) is v.right in
+    subst (λ (t : List ℕ). Checks inst given cert (reply 0 t)) (sym (report ∙ ap (accepted_text inst cert.bound) same))
+    (accepted (record {
+      valid = right;
+      holds = λ n first. not_valid n (sym (v.only (LeafFails n) first ∙ is));
+      bounds = bounds_every inst cert.bound (v.bounds is);
+      costs = costs;
+      keeps = keeps;
+    }))
+
+pub leaf_checks : (inst : Tables) (score : Option ℤ) (cert : Certificate) (verdict : CertVerdict)
+    (n : ℕ) (text : List ℕ)
+    → verdict ≡ LeafFails n → Verdict inst cert verdict → text ≡ failing_leaf_line n → ChecksFor inst score cert 5 text
+leaf_checks inst score cert verdict n text is v report given keeps same =
+    let right : IsFirstFailing risk_base risk_value inst cert n = subst
+    (IsVerdict risk_base risk_value inst cert) is v.right in
+    subst (λ (t : List ℕ). Checks inst given cert (reply 5 t)) (sym report)
+    (failing_leaf n (record {
+      first = right;
+      only = λ m first. same_leaf n m (v.only (LeafFails m) first ∙ is);
+      invalid = λ valid. not_valid n (v.only Valid valid ∙ is);
+      keeps = keeps;
+    }))
+
+-- the runs of a plan that breaks no rule are allowed
+pub allowed_runs : (inst : Tables) (plan seen other : List (Option ℕ)) → length plan ≡ length inst.names → seen ≡ plan
+    → other ≡ plan → first_rule inst seen ≡ None → RunsAreAllowed inst other
+unfolding first_rule
+allowed_runs inst plan seen other each same also none =
+    let here : first_rule inst plan ≡ None = subst (λ (p : List (Option ℕ)). first_rule inst p ≡ None) same none in
+    subst (RunsAreAllowed inst) (sym also)
+    (RunsAreAllowed-from_none inst plan each (or_else-none (first_start_rule inst plan) _ here).0)

@@ -1,0 +1,4 @@
+pub mod CheckReading
+pub mod CheckLemmas
+pub mod CheckAnswers
+pub mod CheckRun

@@ -1,0 +1,148 @@
+//! The command `check`: all files are read, the plan is judged if one is given, the certificate is checked, and the
+//! report is said.
+ghost use Rattle.std.specs.Prelude.{◌≡◌, ◌<◌, ◌≤◌, ◌^◌, length, option_copied, Some, IfSome, IfOk, IfErr, OnOk};
+ghost use Rattle.std.specs.Prelude.{unsigned_abs};
+ghost use Rattle.instance_model.specs.Limits.{standard_limits};
+ghost use Rattle.branch_tree.specs.Ranges.{IsInRange};
+ghost use Rattle.plan_desk.specs.Contents.{OnlyReads};
+ghost use Rattle.command_frame.specs.Sources.{source_view};
+ghost use Rattle.command_frame.specs.Ending.{reply};
+ghost use Rattle.command_frame.specs.Files.{reading};
+ghost use Rattle.command_check.specs.Checking.{Checks, AnswersCheck, RunsCheck};
+ghost use Rattle.command_frame.specs.Refusals.{KeepsLast, IsDueAs};
+ghost use Rattle.command_check.specs.Standing.{StandsAs, ChecksFor};
+
+use branch_certificate::Certificate;
+use certificate_check::{CertVerdict, check};
+use command_frame::{
+    Refusal, Report, Source, accepted_text, certificate_of, given_plan_of, infeasible_text,
+    instance_of, leaf_text, say_report,
+};
+use instance_model::Instance;
+use plan_desk::Desk;
+use plan_score::{Rule, broken_rule, plan_values};
+use plan_text::Plan;
+use std::alloc::{AllocError, Global};
+
+/// What a plan comes to, if one is given.
+#[derive(Drop)]
+enum Given {
+    /// It keeps the rules; its score, if there is a plan.
+    Kept(Option<i128>),
+    /// The first rule that it breaks.
+    Broken(Rule),
+}
+
+/// Checks a certificate, and says the report.
+pub fn check_files<D: Desk>(
+    alloc: Global,
+    source: &Source<'_>,
+    plan: Option<&str>,
+    certificate: &str,
+    desk: &mut D,
+) -> u8
+    requires small { source.now.slack ≤ 1_000_000_000 }
+    ensures { RunsCheck standard_limits (source_view source.now) (option_copied plan.entry) certificate.now
+        (D.shows desk.old) (D.shows desk.new) result }
+{
+    let report = check_certificate(alloc, source, plan, certificate, desk);
+    say_report(alloc, desk, report)
+}
+
+// Reads the instance, then the plan if one is given, then the certificate, and checks it.
+fn check_certificate<D: Desk>(
+    alloc: Global,
+    source: &Source<'_>,
+    plan: Option<&str>,
+    certificate: &str,
+    desk: &mut D,
+) -> Result<Report, Refusal>
+    requires small { source.now.slack ≤ 1_000_000_000 }
+    ensures ok { IfOk result (λ report. AnswersCheck standard_limits (reading (D.shows desk.old) (D.shows desk.new))
+        source.now.slack source.now.instance.now (option_copied plan.entry) certificate.now
+        (reply report.status report.text)) }
+    ensures err { IfErr result (IsDueAs (AnswersCheck standard_limits (reading (D.shows desk.old) (D.shows desk.new))
+        source.now.slack source.now.instance.now (option_copied plan.entry) certificate.now)) }
+    ensures last { OnOk result ((D.shows desk.new).last ≡ (D.shows desk.old).last) }
+    ensures kept { IfErr result (KeepsLast (D.shows desk.old) (D.shows desk.new)) }
+    ensures only_reads { OnlyReads (D.shows desk.old) (D.shows desk.new) }
+{
+    let inst = instance_of(alloc, 2, source, desk)?;
+    let plan = given_plan_of(alloc, &inst, 3, plan, desk)?;
+    let certificate = certificate_of(alloc, &inst, 4, certificate, desk)?;
+    match report_on(alloc, &inst, &plan, &certificate) {
+        Ok(report) => Ok(report),
+        Err(_) => Err(Refusal::Memory),
+    }
+}
+
+// What is answered on the plan, if one is given, and on the certificate.
+fn report_on(
+    alloc: Global,
+    inst: &Instance,
+    plan: &Option<Plan>,
+    certificate: &Certificate,
+) -> Result<Report, AllocError>
+    requires each { IfSome plan.now (λ p. length p ≡ length inst.now.names) }
+    requires in_range { IsInRange inst.now certificate.now }
+    ensures { IfOk result (λ report. Checks inst.now plan.now certificate.now (reply report.status report.text)) }
+{
+    let given = given_of(alloc, inst, plan)?;
+    match given {
+        Given::Kept(score) => report_kept(alloc, inst, score, certificate),
+        Given::Broken(rule) => Ok(Report {
+            status: 1,
+            text: infeasible_text(alloc, inst, &rule)?,
+        }),
+    }
+}
+
+// What the plan comes to, if one is given.
+fn given_of(alloc: Global, inst: &Instance, plan: &Option<Plan>) -> Result<Given, AllocError>
+    requires each { IfSome plan.now (λ p. length p ≡ length inst.now.names) }
+    ensures { IfOk result (StandsAs inst.now plan.now) }
+{
+    match plan {
+        None => Ok(Given::Kept(None)),
+        Some(plan) => judged(alloc, inst, plan),
+    }
+}
+
+// What a plan comes to.
+fn judged(alloc: Global, inst: &Instance, plan: &Plan) -> Result<Given, AllocError>
+    requires each { length plan.now ≡ length inst.now.names }
+    ensures { IfOk result (StandsAs inst.now (Some plan.now)) }
+{
+    match broken_rule(inst, plan.as_slice()) {
+        Some(rule) => Ok(Given::Broken(rule)),
+        None => {
+            let values = plan_values(alloc, inst, plan.as_slice())?;
+            Ok(Given::Kept(Some(values.score)))
+        }
+    }
+}
+
+// What is answered on the certificate, where a plan that was given keeps the rules and has this score.
+fn report_kept(
+    alloc: Global,
+    inst: &Instance,
+    score: Option<i128>,
+    certificate: &Certificate,
+) -> Result<Report, AllocError>
+    requires score { IfSome score (λ z. unsigned_abs z < 10 ^ 36) }
+    requires in_range { IsInRange inst.now certificate.now }
+    ensures { IfOk result (λ report. ChecksFor inst.now score certificate.now report.status report.text) }
+{
+    inst.cost_is_just_above_score();
+    let verdict = check(alloc, inst, certificate)?;
+    match verdict {
+        CertVerdict::Valid => Ok(Report {
+            status: 0,
+            text: accepted_text(alloc, inst, certificate.bound, score)?,
+        }),
+        CertVerdict::LeafFails { n } => Ok(Report {
+            status: 5,
+            text: leaf_text(alloc, n)?,
+        }),
+    }
+}

@@ -1,0 +1,3 @@
+pub mod EvaluateLemmas
+pub mod EvaluateAnswers
+pub mod EvaluateRun

@@ -1,0 +1,224 @@
+-- How a run comes to its end, and what follows of an end.
+use Rattle.std.proofs.Common.{◌≡◌, ◌≢◌, ℕ, inl, inr, List, [], length, take, refl, sym, ◌∙◌, ap, subst, arith}
+use Rattle.std.specs.Prelude.{Result, Ok, Err, OnOk, IfOk, IfErr}
+use Rattle.plan_desk.specs.Desk.{Shown}
+use Rattle.plan_desk.specs.Faults.{Rose}
+use Rattle.plan_desk.specs.Contents.{Says, OnlyReads, KeepsFiles}
+use Rattle.command_frame.specs.Lines.{memory_line}
+use Rattle.command_frame.specs.Ending.{Writing, Answer, files_of, reply, OrMemory, IsQuiet, SayFails, IsUnsaid}
+use Rattle.command_frame.specs.Ending.{IsUnwritten, Ends, Behind, IsAllowed, IsAnswered, NoFault}
+use Rattle.command_frame.specs.Ending.OrMemory.{answers, no_memory}
+use Rattle.command_frame.specs.Ending.Ends.{done, unsaid, unwritten}
+use Rattle.command_frame.specs.Ending.Behind.{of_command, unsaid as behind_unsaid, unwritten as behind_unwritten}
+use Rattle.command_frame.specs.Ending.Behind.{no_memory as behind_memory}
+use Rattle.command_frame.specs.declared.report.Report.{Report}
+use Rattle.command_frame.specs.declared.refusal.Refusal.{Refusal}
+use Rattle.command_frame.specs.declared.refusal.Refusal.TheVariants as refusal
+use Rattle.command_frame.specs.Refusals.{KeepsLast, status_of, line_of, IsDueAs, SaysOrFails, SaysAnswer, SaysRefused}
+use Rattle.command_frame.specs.Refusals.{SaysReport}
+use Rattle.command_frame.proofs.SayLemmas.{rose_later, rose_before, says_before}
+use Rattle.command_frame.proofs.FileLemmas.{Goes, OrUnread}
+
+-- ---- one call after another
+
+pub reads_none : (old : Shown) → OnlyReads old old
+reads_none old = record { output = refl; said = refl; later = omega arith }
+
+pub reads_more : (old mid new : Shown) → OnlyReads old mid → OnlyReads mid new → OnlyReads old new
+reads_more old mid new first second =
+    record {
+      output = second.output ∙ first.output;
+      said = second.said ∙ first.said;
+      later = omega (arith, first.later, second.later);
+    }
+
+pub reads_keep : (old mid new : Shown) → OnlyReads old mid → KeepsFiles mid new → KeepsFiles old new
+reads_keep old mid new first second =
+    record { output = second.output ∙ first.output; later = omega (arith, first.later, second.later) }
+
+pub keeps_more : (old mid new : Shown) → KeepsFiles old mid → KeepsFiles mid new → KeepsFiles old new
+keeps_more old mid new first second =
+    record { output = second.output ∙ first.output; later = omega (arith, first.later, second.later) }
+
+-- ---- what is due is said
+
+-- files were read, and then what is due was said, or saying it failed
+pub said_ends : (Due : Shown → Answer → Type 0) (old mid new : Shown) (due : ℕ) (text : List ℕ) (status : ℕ)
+    → (Goes mid new → Due mid (reply due text) → Due new (reply due text)) → OnlyReads old mid → KeepsFiles mid new
+    → (due ≢ 7 → mid.last ≡ old.last) → Due mid (reply due text) → SaysOrFails due text mid new status
+    → Ends Due old new status
+said_ends Due old mid new due text status later reads keeps quiet is (inl all) =
+    done status
+    (record {
+      answer = reply due text;
+      due = later (record { later = keeps.later; same = all.same }) is;
+      status_is = all.status_is;
+      writes = keeps.output ∙ reads.output;
+      says = says_before old mid new text reads.said all.says;
+      quiet = λ a b. all.same ∙ quiet (λ e. a (all.status_is ∙ e));
+    })
+said_ends Due old mid new due text status later reads keeps quiet is (inr some) =
+    subst (λ (n : ℕ). Ends Due old new n) (sym some.status_is)
+    (unsaid (record {
+      before = mid;
+      answer = reply due text;
+      due = is;
+      silent = reads.said;
+      later = reads.later;
+      quiet = λ a b. quiet a;
+      writes = keeps.output ∙ reads.output;
+      part = some.part;
+      within = some.within;
+      says = says_before old mid new (take some.part text) reads.said some.says;
+      fails = some.fails;
+    }))
+
+or_memory_later : (A B : Answer → Type 0) (a : Answer) → ((b : Answer) → A b → B b) → OrMemory A a → OrMemory B a
+or_memory_later A B a f (answers b is) = answers b (f b is)
+or_memory_later A B a f no_memory = no_memory
+
+-- what is due stays due while nothing fails last
+abbrev pub Stays : (Shown → Answer → Type 0) → (mid new : Shown) → Type 0
+Stays Answers mid new = Goes mid new → (a : Answer) → Answers mid a → Answers new a
+
+-- memory ran out, where the last fault is what it was
+pub memory_ends : (Answers : Shown → Answer → Type 0) (old mid new : Shown) (status : ℕ) → OnlyReads old mid
+    → KeepsFiles mid new → mid.last ≡ old.last
+    → SaysOrFails 11 memory_line mid new status → Ends (λ at. OrMemory (Answers at)) old new status
+memory_ends Answers old mid new status reads keeps same says =
+    said_ends (λ at. OrMemory (Answers at)) old mid new 11 memory_line status (λ goes is. no_memory) reads keeps
+    (λ a. same) no_memory says
+
+-- an answer of the command
+pub command_ends : (Answers : Shown → Answer → Type 0) (old mid new : Shown) (due : ℕ) (text : List ℕ) (status : ℕ)
+    → Stays Answers mid new
+    → OnlyReads old mid → KeepsFiles mid new → (due ≢ 7 → mid.last ≡ old.last) → Answers mid (reply due text)
+    → SaysOrFails due text mid new status → Ends (λ at. OrMemory (Answers at)) old new status
+command_ends Answers old mid new due text status stays reads keeps quiet is says =
+    said_ends (λ at. OrMemory (Answers at)) old mid new due text status
+    (λ goes due_then. or_memory_later (Answers mid) (Answers new) (reply due text) (stays goes) due_then) reads keeps
+    quiet (answers (reply due text) is) says
+
+-- an answer, or that memory ran out, where the last fault is what it was
+pub answer_ends : (Answers : Shown → Answer → Type 0) (old mid new : Shown) (status : ℕ) → Stays Answers mid new
+    → OnlyReads old mid → KeepsFiles mid new
+    → mid.last ≡ old.last → SaysAnswer (Answers mid) mid new status → Ends (λ at. OrMemory (Answers at)) old new status
+answer_ends Answers old mid new status stays reads keeps same (inl (due, text, is, says)) =
+    command_ends Answers old mid new due text status stays reads keeps (λ a. same) is says
+answer_ends Answers old mid new status stays reads keeps same (inr says) =
+    memory_ends Answers old mid new status reads keeps same says
+
+keeps_last : (old mid : Shown) (r : Refusal) → KeepsLast old mid r → status_of r ≢ 7 → mid.last ≡ old.last
+keeps_last old mid (refusal.Unread word) kept n = absurd (n refl)
+keeps_last old mid refusal.LongInstance kept n = kept
+keeps_last old mid (refusal.Instance fault) kept n = kept
+keeps_last old mid refusal.LongPlan kept n = kept
+keeps_last old mid (refusal.Plan fault) kept n = kept
+keeps_last old mid refusal.LongScript kept n = kept
+keeps_last old mid (refusal.Script fault) kept n = kept
+keeps_last old mid refusal.LongCertificate kept n = kept
+keeps_last old mid (refusal.Certificate fault) kept n = kept
+keeps_last old mid refusal.Memory kept n = kept
+
+-- a refusal that is due was said, or that memory ran out for its line
+pub refusal_ends : (Answers : Shown → Answer → Type 0) (old mid new : Shown) (r : Refusal) (status : ℕ)
+    → Stays Answers mid new → OnlyReads old mid → KeepsFiles mid new
+    → KeepsLast old mid r → IsDueAs (Answers mid) r → SaysRefused r mid new status
+    → Ends (λ at. OrMemory (Answers at)) old new status
+refusal_ends Answers old mid new r status stays reads keeps kept due (inr (other, says)) =
+    memory_ends Answers old mid new status reads keeps (keeps_last old mid r kept other) says
+refusal_ends Answers old mid new r status stays reads keeps kept (inl memory) (inl says) =
+    memory_ends Answers old mid new status reads keeps (subst (KeepsLast old mid) memory kept)
+    (subst (λ (x : Refusal). SaysOrFails (status_of x) (line_of x) mid new status) memory says)
+refusal_ends Answers old mid new r status stays reads keeps kept (inr due) (inl says) =
+    command_ends Answers old mid new (status_of r) (line_of r) status stays reads keeps
+    (keeps_last old mid r kept) due says
+
+-- a report was said, or why there is none
+pub report_ends : (Answers : Shown → Answer → Type 0) (old mid new : Shown)
+    (report : Result Report Refusal) (status : ℕ)
+    → Stays Answers mid new → OnlyReads old mid
+    → KeepsFiles mid new → OnOk report (mid.last ≡ old.last) → IfErr report (KeepsLast old mid)
+    → IfOk report (λ r. Answers mid (reply r.status r.text))
+    → IfErr report (IsDueAs (Answers mid)) → SaysReport report mid new status
+    → Ends (λ at. OrMemory (Answers at)) old new status
+report_ends Answers old mid new (Ok report) status stays reads keeps same kept ok err says =
+    command_ends Answers old mid new report.status report.text status stays reads keeps (λ a. same) ok says
+report_ends Answers old mid new (Err r) status stays reads keeps same kept ok err says =
+    refusal_ends Answers old mid new r status stays reads keeps kept err says
+
+-- ---- what follows of an end
+
+pub ends_quiet : (Due : Shown → Answer → Type 0) (old new : Shown) (status : ℕ) → Ends Due old new status
+    → IsQuiet status old new
+ends_quiet Due old new status (done n d) = d.quiet
+ends_quiet Due old new status (unsaid u) = λ a b. absurd (b refl)
+ends_quiet Due old new status (unwritten u) = λ a b. absurd (b refl)
+
+-- where no answer writes a file, none stopped being written
+pub nothing_unwritten : (Due : Shown → Answer → Type 0) (old new : Shown)
+    → ((at : Shown) (a : Answer) → Due at a → a.writes ≡ [])
+    → IsUnwritten Due old new → ⊥
+nothing_unwritten Due old new none u =
+    let no_file : length (files_of u.answer.writes) ≡ 0 = ap (λ (w : List Writing). length (files_of w))
+    (none u.before u.answer u.due) in
+    omega (arith, u.stops.within, no_file)
+
+unwritten_rose : (Due : Shown → Answer → Type 0) (old new : Shown) → IsUnwritten Due old new
+    → Rose old.faults new.faults
+unwritten_rose Due old new u =
+    rose_before old.faults u.before.faults new.faults u.later
+    (rose_later u.before.faults u.stopped.faults new.faults u.stopped_later u.said_later u.fails.rose)
+
+pub unsaid_fails : (Due : Shown → Answer → Type 0) (old new : Shown) → IsUnsaid Due old new → SayFails old new
+unsaid_fails Due old new u =
+    record { rose = rose_before old.faults u.before.faults new.faults u.later u.fails.rose; own = u.fails.own }
+
+-- the status of an answer that was given, or of want of memory
+pub ends_behind : (Answers : Shown → Answer → Type 0) (OfCommand : ℕ → Type 0) (old new : Shown) (status : ℕ)
+    → ((a : Answer) → Answers new a → Says a.text old new → OfCommand a.status)
+    → Ends (λ at. OrMemory (Answers at)) old new status
+    → Behind OfCommand (λ at. OrMemory (Answers at)) old new status
+ends_behind Answers OfCommand old new status f (done n d) =
+    subst (λ (m : ℕ). Behind OfCommand (λ at. OrMemory (Answers at)) old new m) (sym d.status_is)
+    (at d.answer d.due d.says)
+  where
+    at : (a : Answer) → OrMemory (Answers new) a → Says a.text old new
+        → Behind OfCommand (λ s. OrMemory (Answers s)) old new a.status
+    at a (answers b is) says = of_command b.status (f b is says)
+    at a no_memory says = behind_memory says
+ends_behind Answers OfCommand old new status f (unsaid u) =
+    behind_unsaid (unsaid_fails (λ at. OrMemory (Answers at)) old new u) u
+ends_behind Answers OfCommand old new status f (unwritten u) = behind_unwritten u
+
+pub ends_allowed : (Answers : Shown → Answer → Type 0) (old new : Shown) (status expected : ℕ)
+    → ((a : Answer) → Answers new a → OrUnread expected a)
+    → Ends (λ at. OrMemory (Answers at)) old new status → IsAllowed expected status
+ends_allowed Answers old new status expected f (done n d) =
+    subst (IsAllowed expected) (sym d.status_is) (at d.answer d.due)
+  where
+    or_unread : (a : Answer) → OrUnread expected a → IsAllowed expected a.status
+    or_unread a (inl e) = inr (inl e)
+    or_unread a (inr e) = inl e
+
+    at : (a : Answer) → OrMemory (Answers new) a → IsAllowed expected a.status
+    at a (answers b is) = or_unread b (f b is)
+    at a no_memory = inr (inr (inr (inl refl)))
+ends_allowed Answers old new status expected f (unsaid u) = inr (inr (inl refl))
+ends_allowed Answers old new status expected f (unwritten u) = inr (inr (inl refl))
+
+pub ends_exact : (Answers : Shown → Answer → Type 0) (Exact : Answer → Type 0) (old new : Shown) (status : ℕ)
+    → ((a : Answer) → Answers new a → Exact a)
+    → NoFault old new → Ends (λ at. OrMemory (Answers at)) old new status → IsAnswered Exact old new status
+ends_exact Answers Exact old new status f calm (done n d) =
+    record {
+      answer = d.answer;
+      answers = or_memory_later (Answers new) Exact d.answer f d.due;
+      status_is = d.status_is;
+      writes = d.writes;
+      says = d.says;
+    }
+ends_exact Answers Exact old new status f calm (unsaid u) =
+    absurd (calm (unsaid_fails (λ at. OrMemory (Answers at)) old new u).rose)
+ends_exact Answers Exact old new status f calm (unwritten u) =
+    absurd (calm (unwritten_rose (λ at. OrMemory (Answers at)) old new u))

@@ -1,0 +1,11 @@
+pub mod ToldLemmas
+pub mod RuleNames
+pub mod OpeningLemmas
+pub mod SayLemmas
+pub mod FileLemmas
+pub mod EndLemmas
+pub mod ReadLemmas
+pub mod CertificateLemmas
+pub mod AnswerLemmas
+pub mod TakenLemmas
+pub mod WriteLemmas

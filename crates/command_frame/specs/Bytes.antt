@@ -1,0 +1,149 @@
+-- What the bytes of each kind of file stand for, and which bytes are refused.
+use Rattle.std.specs.Prelude.{◌≡◌, ◌⊎◌, ℕ, pos, ◌<◌, ◌≤◌, List, length, Option}
+use Rattle.instance_model.specs.declared.limits.Limits.{Limits}
+use Rattle.instance_model.specs.Tables.{Tables}
+use Rattle.instance_shape.specs.Defined.{Defines}
+use Rattle.instance_shape.specs.FileFaults.{FileFault, HasFileFault}
+use Rattle.plan_text.specs.Spelling.{IsPlan}
+use Rattle.plan_text.specs.FirstFault.{HasPlanFault}
+use Rattle.plan_text.specs.declared.fault.PlanFault.{PlanFault}
+use Rattle.plan_moves.specs.declared.script_line.ScriptLine.{ScriptLine}
+use Rattle.move_script.specs.Spelling.{IsScript}
+use Rattle.move_script.specs.FirstFault.{HasScriptFault}
+use Rattle.move_script.specs.declared.fault.ScriptFault.{ScriptFault}
+use Rattle.branch_tree.specs.declared.certificate.Certificate.{Certificate}
+use Rattle.branch_certificate.specs.declared.fault.CertFault.{CertFault}
+use Rattle.branch_certificate.specs.Faults.{IsTextOf, HasCertFault}
+use Rattle.command_frame.specs.Ending.{Answer, reply}
+use Rattle.command_frame.specs.Lines.{long_instance_line, instance_fault_line, long_plan_line, plan_fault_line}
+use Rattle.command_frame.specs.Lines.{long_script_line, script_fault_line, long_certificate_line}
+use Rattle.command_frame.specs.Lines.{certificate_fault_line}
+
+-- ---- an instance
+
+-- the bytes, within the limit, stand for this instance, whose bands are widened by so many 10^-12
+pub record Takes (limits : Limits) (slack : ℕ) (bytes : List ℕ) (inst : Tables) : Type 0 where
+  pub within : length bytes ≤ limits.instance_bytes
+  pub defines : Defines limits (pos slack) bytes inst
+
+-- they stand for this instance and for no other
+pub record TakesOne (limits : Limits) (slack : ℕ) (bytes : List ℕ) (inst : Tables) : Type 0 where
+  pub takes : Takes limits slack bytes inst
+  pub only : (other : Tables) → Takes limits slack bytes other → other ≡ inst
+
+-- they are too many
+abbrev pub IsLongInstance : Limits → List ℕ → Type 0
+IsLongInstance limits bytes = limits.instance_bytes < length bytes
+
+-- they, within the limit, have this fault
+pub record IsFaulty (limits : Limits) (bytes : List ℕ) (fault : FileFault) : Type 0 where
+  pub within : length bytes ≤ limits.instance_bytes
+  pub has : HasFileFault limits bytes fault
+
+-- they have this fault and no other
+pub record IsOneFault (limits : Limits) (bytes : List ℕ) (fault : FileFault) : Type 0 where
+  pub faulty : IsFaulty limits bytes fault
+  pub only : (other : FileFault) → IsFaulty limits bytes other → other ≡ fault
+
+-- the bytes of an instance file are refused with this answer
+pub data RefusesInstance (limits : Limits) (bytes : List ℕ) : Answer → Type 0 where
+  long_instance : IsLongInstance limits bytes → RefusesInstance limits bytes (reply 3 long_instance_line)
+  faulty_instance : (fault : FileFault) → IsOneFault limits bytes fault
+      → RefusesInstance limits bytes (reply 3 (instance_fault_line fault))
+
+-- they are too many, or have a fault
+abbrev pub IsRefusedInstance : Limits → List ℕ → Type 0
+IsRefusedInstance limits bytes = IsLongInstance limits bytes ⊎ ((fault : FileFault) × IsFaulty limits bytes fault)
+
+-- ---- a plan of an instance
+
+-- the bytes, within the limit, spell this plan
+pub record Spells (limits : Limits) (inst : Tables) (bytes : List ℕ) (plan : List (Option ℕ)) : Type 0 where
+  pub within : length bytes ≤ limits.plan_bytes
+  pub plan_is : IsPlan inst.names bytes plan
+
+-- they are too many
+abbrev pub IsLongPlan : Limits → List ℕ → Type 0
+IsLongPlan limits bytes = limits.plan_bytes < length bytes
+
+-- they, within the limit, have this first fault
+pub record HasFault (limits : Limits) (inst : Tables) (bytes : List ℕ) (fault : PlanFault) : Type 0 where
+  pub within : length bytes ≤ limits.plan_bytes
+  pub fault_is : HasPlanFault inst.names bytes fault
+
+-- the bytes of a plan file are refused with this answer
+pub data RefusesPlan (limits : Limits) (inst : Tables) (bytes : List ℕ) : Answer → Type 0 where
+  long_plan : IsLongPlan limits bytes → RefusesPlan limits inst bytes (reply 4 long_plan_line)
+  faulty_plan : (fault : PlanFault) → HasFault limits inst bytes fault
+      → RefusesPlan limits inst bytes (reply 4 (plan_fault_line fault))
+
+-- they are too many, or have a fault
+abbrev pub IsRefusedPlan : Limits → Tables → List ℕ → Type 0
+IsRefusedPlan limits inst bytes = IsLongPlan limits bytes ⊎ ((fault : PlanFault) × HasFault limits inst bytes fault)
+
+-- ---- a script of an instance
+
+-- the bytes, within the limit, spell this script
+pub record SpellsScript (limits : Limits) (inst : Tables) (bytes : List ℕ) (script : List ScriptLine) : Type 0 where
+  pub within : length bytes ≤ limits.script_bytes
+  pub script_is : IsScript inst.names bytes script
+
+-- they are too many
+abbrev pub IsLongScript : Limits → List ℕ → Type 0
+IsLongScript limits bytes = limits.script_bytes < length bytes
+
+-- they, within the limit, have this first fault
+pub record HasFaultyLine (limits : Limits) (inst : Tables) (bytes : List ℕ) (fault : ScriptFault) : Type 0 where
+  pub within : length bytes ≤ limits.script_bytes
+  pub fault_is : HasScriptFault inst.names bytes fault
+
+-- the bytes of a script file are refused with this answer
+pub data RefusesScript (limits : Limits) (inst : Tables) (bytes : List ℕ) : Answer → Type 0 where
+  long_script : IsLongScript limits bytes → RefusesScript limits inst bytes (reply 6 long_script_line)
+  faulty_script : (fault : ScriptFault) → HasFaultyLine limits inst bytes fault
+      → RefusesScript limits inst bytes (reply 6 (script_fault_line fault))
+
+-- they are too many, or have a fault
+abbrev pub IsRefusedScript : Limits → Tables → List ℕ → Type 0
+IsRefusedScript limits inst bytes =
+    IsLongScript limits bytes ⊎ ((fault : ScriptFault) × HasFaultyLine limits inst bytes fault)
+
+-- ---- a certificate of an instance
+
+-- the bytes, within the limit, are the text of this certificate
+pub record SpellsCertificate (limits : Limits) (inst : Tables) (bytes : List ℕ) (cert : Certificate) : Type 0 where
+  pub within : length bytes ≤ limits.certificate_bytes
+  pub text_of : IsTextOf inst bytes cert
+
+-- they are too many
+abbrev pub IsLongCertificate : Limits → List ℕ → Type 0
+IsLongCertificate limits bytes = limits.certificate_bytes < length bytes
+
+-- they, within the limit, have this fault, which is that of their first faulty line
+pub record HasFaultyText (limits : Limits) (inst : Tables) (bytes : List ℕ) (fault : CertFault) : Type 0 where
+  pub within : length bytes ≤ limits.certificate_bytes
+  pub fault_is : HasCertFault inst bytes fault
+
+-- they are the text of this certificate and of no other, and have no fault
+pub record SpellsOne (limits : Limits) (inst : Tables) (bytes : List ℕ) (cert : Certificate) : Type 0 where
+  pub spells : SpellsCertificate limits inst bytes cert
+  pub only : (other : Certificate) → IsTextOf inst bytes other → other ≡ cert
+  pub sound : (fault : CertFault) → HasCertFault inst bytes fault → ⊥
+
+-- they have this fault and no other, and are the text of no certificate
+pub record HasOneFault (limits : Limits) (inst : Tables) (bytes : List ℕ) (fault : CertFault) : Type 0 where
+  pub has : HasFaultyText limits inst bytes fault
+  pub only : (other : CertFault) → HasCertFault inst bytes other → other ≡ fault
+  pub unspelled : (cert : Certificate) → IsTextOf inst bytes cert → ⊥
+
+-- the bytes of a certificate file are refused with this answer
+pub data RefusesCertificate (limits : Limits) (inst : Tables) (bytes : List ℕ) : Answer → Type 0 where
+  long_certificate : IsLongCertificate limits bytes
+      → RefusesCertificate limits inst bytes (reply 5 long_certificate_line)
+  faulty_certificate : (fault : CertFault) → HasOneFault limits inst bytes fault
+      → RefusesCertificate limits inst bytes (reply 5 (certificate_fault_line fault))
+
+-- they are too many, or have a fault
+abbrev pub IsRefusedCertificate : Limits → Tables → List ℕ → Type 0
+IsRefusedCertificate limits inst bytes =
+    IsLongCertificate limits bytes ⊎ ((fault : CertFault) × HasFaultyText limits inst bytes fault)

@@ -1,0 +1,153 @@
+-- How a run ends: what is due is written and said, or writing or saying it fails.
+--
+-- `old` and `new` are what the desk shows before and after a run.
+use Rattle.std.specs.Prelude.{◌≡◌, ◌≢◌, ◌⊎◌, ℕ, ◌<◌, ◌≤◌, List, [], ◌∷◌, length, take, map, slice_index_or, Some}
+use Rattle.std.specs.Prelude.{IfSome}
+use Rattle.plan_desk.specs.Desk.{Shown}
+use Rattle.plan_desk.specs.Faults.{Rose, IsFaultOf}
+use Rattle.plan_desk.specs.Contents.{Says}
+use Rattle.plan_desk.specs.FileWrites.{FileWrite, after_writes, StopsWrites}
+use Rattle.plan_desk.specs.declared.call.DeskCall.{DeskCall}
+use Rattle.plan_desk.specs.declared.call.DeskCall.TheVariants.{Say}
+use Rattle.command_frame.specs.Lines.{memory_line, write_line}
+
+-- ---- answers
+
+-- a file to be written, and the word of the command line that names it
+pub record Writing : Type 0 where
+  pub word : ℕ
+  pub file : FileWrite
+
+-- an answer: the status, the text that is said, and the files that are written before that, one after another
+pub record Answer : Type 0 where
+  pub status : ℕ
+  pub text : List ℕ
+  pub writes : List Writing
+
+-- the files, without their words
+abbrev pub files_of : List Writing → List FileWrite
+files_of writes = map (λ w. w.file) writes
+
+-- file n, counted from 0
+abbrev pub writing_at : List Writing → ℕ → Writing
+writing_at writes n = slice_index_or writes n (record { word = 0; file = record { name = []; bytes = [] } })
+
+-- an answer that writes no file
+abbrev pub reply : ℕ → List ℕ → Answer
+reply status text = record { status = status; text = text; writes = [] }
+
+-- there is at most one answer
+abbrev pub IsOneAnswer : (Answer → Type 0) → Type 0
+IsOneAnswer Answers = (a b : Answer) → Answers a → Answers b → a ≡ b
+
+-- an answer of a command, or want of memory, which may come in its place; then no file is written
+pub data OrMemory (Answers : Answer → Type 0) : Answer → Type 0 where
+  answers : (a : Answer) → Answers a → OrMemory Answers a
+  no_memory : OrMemory Answers (reply 11 memory_line)
+
+-- ---- the end of a run
+
+-- The last fault is what it was, but where a file could not be read (7), or where one could not be written or what was
+-- due could not be said (8). So want of memory (11) is never told in the place of a call that failed.
+abbrev pub IsQuiet : ℕ → (old new : Shown) → Type 0
+IsQuiet status old new = status ≢ 7 → status ≢ 8 → new.last ≡ old.last
+
+-- faults rose, and the last fault, where told, is a `say`
+pub record SayFails (old new : Shown) : Type 0 where
+  pub rose : Rose old.faults new.faults
+  pub own : IfSome new.last (IsFaultOf Say (Some []))
+
+-- An answer was due, its files were written, and its text was said. `Due` says what is due after what the desk shows.
+pub record IsDone (Due : Shown → Answer → Type 0) (old new : Shown) (status : ℕ) : Type 0 where
+  pub answer : Answer
+  pub due : Due new answer
+  pub status_is : status ≡ answer.status
+  pub writes : new.output ≡ (after_writes (files_of answer.writes) old).output
+  pub says : Says answer.text old new
+  pub quiet : IsQuiet status old new
+
+-- An answer was due, its files were written, and saying its text failed after a first part of it was said but not all.
+-- Nothing was said before or after that. `before` is what the desk may have shown as the saying began.
+pub record IsUnsaid (Due : Shown → Answer → Type 0) (old new : Shown) : Type 0 where
+  pub before : Shown
+  pub answer : Answer
+  pub due : Due before answer
+  pub silent : before.said ≡ old.said
+  pub later : old.faults ≤ before.faults
+  pub quiet : IsQuiet answer.status old before
+  pub writes : new.output ≡ (after_writes (files_of answer.writes) old).output
+  pub part : ℕ
+  pub within : part < length answer.text
+  pub says : Says (take part answer.text) old new
+  pub fails : SayFails before new
+
+-- faults rose, and the last fault, where told, is of this call at the file of this name
+pub record WriteFails (call : DeskCall) (name : List ℕ) (old new : Shown) : Type 0 where
+  pub rose : Rose old.faults new.faults
+  pub own : IfSome new.last (IsFaultOf call (Some name))
+
+-- the line of a file that could not be written was said, or saying it failed after a first part of it
+pub data SaysUnwritten (word : ℕ) (stopped new : Shown) : Type 0 where
+  said : Says (write_line word) stopped new → new.last ≡ stopped.last → SaysUnwritten word stopped new
+  unsaid : (part : ℕ) → part < length (write_line word) → Says (take part (write_line word)) stopped new
+      → SayFails stopped new → SaysUnwritten word stopped new
+
+-- An answer was due, its first n files were written whole, and the writing of the next one stopped at a call that
+-- failed; the files behind it are untouched. Nothing was said but the line of that file, or a first part of it. The
+-- desk may have shown `before` as the writing began, and `stopped` as it stopped.
+--
+-- No answer that writes no file is such: there is no file to stop at, as `StopsWrites [] n` holds of no n. So a command
+-- whose answers write none ends in one of the other two ways.
+pub record IsUnwritten (Due : Shown → Answer → Type 0) (old new : Shown) : Type 0 where
+  pub before : Shown
+  pub answer : Answer
+  pub due : Due before answer
+  pub silent : before.said ≡ old.said
+  pub output : before.output ≡ old.output
+  pub later : old.faults ≤ before.faults
+  pub quiet : IsQuiet answer.status old before
+  pub n : ℕ
+  pub call : DeskCall
+  pub stopped : Shown
+  pub stops : StopsWrites (files_of answer.writes) n call before stopped
+  pub fails : WriteFails call (writing_at answer.writes n).file.name before stopped
+  pub stopped_later : before.faults ≤ stopped.faults
+  pub says : SaysUnwritten (writing_at answer.writes n).word stopped new
+  pub said_later : stopped.faults ≤ new.faults
+  pub output_is : new.output ≡ stopped.output
+
+-- how a run ends
+pub data Ends (Due : Shown → Answer → Type 0) (old new : Shown) : ℕ → Type 0 where
+  done : (status : ℕ) → IsDone Due old new status → Ends Due old new status
+  unsaid : IsUnsaid Due old new → Ends Due old new 8
+  unwritten : IsUnwritten Due old new → Ends Due old new 8
+
+-- ---- what a run of any command promises
+
+-- what stands behind a status: what the command says of it, and behind 8 and 11 the same for all commands
+pub data Behind (OfCommand : ℕ → Type 0) (Due : Shown → Answer → Type 0) (old new : Shown) : ℕ → Type 0 where
+  of_command : (status : ℕ) → OfCommand status → Behind OfCommand Due old new status
+  unsaid : SayFails old new → IsUnsaid Due old new → Behind OfCommand Due old new 8
+  unwritten : IsUnwritten Due old new → Behind OfCommand Due old new 8
+  no_memory : Says memory_line old new → Behind OfCommand Due old new 11
+
+-- the status is one of these
+abbrev pub IsOneOf : List ℕ → ℕ → Type 0
+IsOneOf [] status = ⊥
+IsOneOf (x ∷ xs) status = (status ≡ x) ⊎ IsOneOf xs status
+
+-- the status is the one that is expected; 7, 8 and 11 may always come
+abbrev pub IsAllowed : (expected status : ℕ) → Type 0
+IsAllowed expected status = IsOneOf (expected ∷ 7 ∷ 8 ∷ 11 ∷ []) status
+
+-- the status is that of an answer, or of want of memory, its files were written, and its text was said
+pub record IsAnswered (Answers : Answer → Type 0) (old new : Shown) (status : ℕ) : Type 0 where
+  pub answer : Answer
+  pub answers : OrMemory Answers answer
+  pub status_is : status ≡ answer.status
+  pub writes : new.output ≡ (after_writes (files_of answer.writes) old).output
+  pub says : Says answer.text old new
+
+-- no fault rose, and the count does not stand at its last value
+abbrev pub NoFault : (old new : Shown) → Type 0
+NoFault old new = Rose old.faults new.faults → ⊥

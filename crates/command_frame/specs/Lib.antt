@@ -1,0 +1,10 @@
+-- What the contracts of all commands share.
+pub mod Sources
+pub mod Lines
+pub mod Reports
+pub mod Ending
+pub mod Bytes
+pub mod Openings
+pub mod Files
+pub mod Refusals
+pub mod Writing

@@ -1,0 +1,148 @@
+-- The status and the line of a refusal, and how what is due is said. No part of any promise.
+use Rattle.std.specs.Prelude.{◌≡◌, ◌≢◌, ◌⊎◌, ℕ, ◌<◌, ⊤, List, [], length, take, Option, Some, None, Result, Ok, Err}
+use Rattle.plan_desk.specs.Desk.{Shown, ShowsSame, after_take_in}
+use Rattle.plan_desk.specs.Contents.{WhereToldHolds, Says}
+use Rattle.instance_model.specs.Limits.{standard_limits}
+use Rattle.instance_model.specs.Tables.{Tables}
+use Rattle.instance_shape.specs.FileFaults.{FileFault}
+use Rattle.instance_read.specs.Faults.{fault_of}
+use Rattle.command_frame.specs.declared.refusal.Refusal.{Refusal}
+use Rattle.command_frame.specs.declared.refusal.Refusal.TheVariants.{Unread, LongInstance, Instance, LongPlan, Plan}
+use Rattle.command_frame.specs.declared.refusal.Refusal.TheVariants.{LongScript, Script, LongCertificate, Certificate}
+use Rattle.command_frame.specs.declared.refusal.Refusal.TheVariants.{Memory}
+use Rattle.command_frame.specs.declared.report.Report.{Report}
+use Rattle.command_frame.specs.Lines.{memory_line, read_line, long_instance_line, instance_fault_line, long_plan_line}
+use Rattle.command_frame.specs.Lines.{plan_fault_line, long_script_line, script_fault_line, long_certificate_line}
+use Rattle.command_frame.specs.Lines.{certificate_fault_line}
+use Rattle.command_frame.specs.Ending.{Answer, reply, SayFails}
+use Rattle.command_frame.specs.Bytes.{IsLongInstance, IsOneFault, IsLongPlan, HasFault, IsLongScript, HasFaultyLine}
+use Rattle.command_frame.specs.Bytes.{IsLongCertificate, HasOneFault}
+use Rattle.command_frame.specs.Files.{ReadFails, ReadsSuch}
+
+-- ---- refusals
+
+abbrev pub status_of : Refusal → ℕ
+status_of LongInstance = 3
+status_of (Instance fault) = 3
+status_of LongPlan = 4
+status_of (Plan fault) = 4
+status_of LongScript = 6
+status_of (Script fault) = 6
+status_of LongCertificate = 5
+status_of (Certificate fault) = 5
+status_of (Unread word) = 7
+status_of Memory = 11
+
+-- the line of a fault of an instance file; where there is none, memory ran out
+abbrev pub line_or_memory : Option FileFault → List ℕ
+line_or_memory None = memory_line
+line_or_memory (Some fault) = instance_fault_line fault
+
+abbrev pub line_of : Refusal → List ℕ
+line_of LongInstance = long_instance_line
+line_of (Instance fault) = line_or_memory (fault_of fault)
+line_of LongPlan = long_plan_line
+line_of (Plan fault) = plan_fault_line fault
+line_of LongScript = long_script_line
+line_of (Script fault) = script_fault_line fault
+line_of LongCertificate = long_certificate_line
+line_of (Certificate fault) = certificate_fault_line fault
+line_of (Unread word) = read_line word
+line_of Memory = memory_line
+
+-- the last fault is what it was, but where a file could not be read
+abbrev pub KeepsLast : (old new : Shown) → Refusal → Type 0
+KeepsLast old new (Unread word) = ⊤
+KeepsLast old new _ = new.last ≡ old.last
+
+-- why the bytes of the file of this name, which is this word of the command line, are not read: a desk failed, there
+-- are more than `most`, or memory ran out
+pub data IsReadCause (name : List ℕ) (word most : ℕ) (long : Refusal) (old new : Shown) : Refusal → Type 0 where
+  unread : ReadFails name old new → IsReadCause name word most long old new (Unread word)
+  too_long : WhereToldHolds old name (λ held. most < length held) → IsReadCause name word most long old new long
+  no_memory : IsReadCause name word most long old new Memory
+
+-- why the instance file of this name, which is this word, is refused
+abbrev pub IsInstanceCause : ℕ → List ℕ → (old new : Shown) → Refusal → Type 0
+IsInstanceCause at name old new (Unread word) = (word ≡ at) × ReadFails name old new
+IsInstanceCause at name old new LongInstance = WhereToldHolds old name (IsLongInstance standard_limits)
+IsInstanceCause at name old new (Instance fault) = (told : FileFault) × (fault_of fault ≡ Some told)
+    × ReadsSuch name old (λ bytes. IsOneFault standard_limits bytes told)
+IsInstanceCause at name old new Memory = ⊤
+IsInstanceCause at name old new _ = ⊥
+
+-- why the plan file of this name, which is this word, is refused for an instance
+abbrev pub IsPlanCause : ℕ → List ℕ → Tables → (old new : Shown) → Refusal → Type 0
+IsPlanCause at name inst old new (Unread word) = (word ≡ at) × ReadFails name old new
+IsPlanCause at name inst old new LongPlan = WhereToldHolds old name (IsLongPlan standard_limits)
+IsPlanCause at name inst old new (Plan fault) = ReadsSuch name old (λ bytes. HasFault standard_limits inst bytes fault)
+IsPlanCause at name inst old new Memory = ⊤
+IsPlanCause at name inst old new _ = ⊥
+
+-- why the script file of this name, which is this word, is refused for an instance
+abbrev pub IsScriptCause : ℕ → List ℕ → Tables → (old new : Shown) → Refusal → Type 0
+IsScriptCause at name inst old new (Unread word) = (word ≡ at) × ReadFails name old new
+IsScriptCause at name inst old new LongScript = WhereToldHolds old name (IsLongScript standard_limits)
+IsScriptCause at name inst old new (Script fault) =
+    ReadsSuch name old (λ bytes. HasFaultyLine standard_limits inst bytes fault)
+IsScriptCause at name inst old new Memory = ⊤
+IsScriptCause at name inst old new _ = ⊥
+
+-- why the certificate file of this name, which is this word, is refused for an instance
+abbrev pub IsCertificateCause : ℕ → List ℕ → Tables → (old new : Shown) → Refusal → Type 0
+IsCertificateCause at name inst old new (Unread word) = (word ≡ at) × ReadFails name old new
+IsCertificateCause at name inst old new LongCertificate = WhereToldHolds old name (IsLongCertificate standard_limits)
+IsCertificateCause at name inst old new (Certificate fault) =
+    ReadsSuch name old (λ bytes. HasOneFault standard_limits inst bytes fault)
+IsCertificateCause at name inst old new Memory = ⊤
+IsCertificateCause at name inst old new _ = ⊥
+
+-- why the plan file of a check is refused, if a plan is given
+abbrev pub IsGivenCause : ℕ → Option (List ℕ) → Tables → (old new : Shown) → Refusal → Type 0
+IsGivenCause at None inst old new refusal = ⊥
+IsGivenCause at (Some name) inst old new refusal = IsPlanCause at name inst old new refusal
+
+-- what is shown after the plan file was read, if a plan is given
+abbrev pub AfterGiven : Option (List ℕ) → (old new : Shown) → Type 0
+AfterGiven None old new = new ≡ old
+AfterGiven (Some name) old new = ShowsSame new (after_take_in name [] old)
+
+-- a refusal is due, or memory ran out
+abbrev pub IsDueAs : (Answer → Type 0) → Refusal → Type 0
+IsDueAs Answers refusal = (refusal ≡ Memory) ⊎ Answers (reply (status_of refusal) (line_of refusal))
+
+-- ---- what is due is said
+
+-- the text was said, and the status is the one that is due with it
+pub record SaysAll (due : ℕ) (text : List ℕ) (old new : Shown) (status : ℕ) : Type 0 where
+  pub status_is : status ≡ due
+  pub says : Says text old new
+  pub same : new.last ≡ old.last
+
+-- saying the text failed after a first part of it, which is not all
+pub record SaysSome (text : List ℕ) (old new : Shown) (status : ℕ) : Type 0 where
+  pub status_is : status ≡ 8
+  pub part : ℕ
+  pub within : part < length text
+  pub says : Says (take part text) old new
+  pub fails : SayFails old new
+
+abbrev pub SaysOrFails : ℕ → List ℕ → (old new : Shown) → ℕ → Type 0
+SaysOrFails due text old new status = SaysAll due text old new status ⊎ SaysSome text old new status
+
+-- an answer that writes no file was said, or that memory ran out, or saying it failed
+abbrev pub SaysAnswer : (Answer → Type 0) → (old new : Shown) → ℕ → Type 0
+SaysAnswer Answers old new status =
+    ((due : ℕ) × (text : List ℕ) × Answers (reply due text) × SaysOrFails due text old new status)
+    ⊎ SaysOrFails 11 memory_line old new status
+
+-- the line of a refusal was said, or that memory ran out for that line, or saying it failed; that a file could not be
+-- read is said without memory
+abbrev pub SaysRefused : Refusal → (old new : Shown) → ℕ → Type 0
+SaysRefused refusal old new status = SaysOrFails (status_of refusal) (line_of refusal) old new status
+    ⊎ ((status_of refusal ≢ 7) × SaysOrFails 11 memory_line old new status)
+
+-- a report was said, or why there is none
+abbrev pub SaysReport : Result Report Refusal → (old new : Shown) → ℕ → Type 0
+SaysReport (Ok report) old new status = SaysOrFails report.status report.text old new status
+SaysReport (Err refusal) old new status = SaysRefused refusal old new status

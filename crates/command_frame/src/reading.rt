@@ -1,0 +1,201 @@
+//! The files of a command are read. None is changed, and nothing is said.
+ghost use Rattle.std.specs.Prelude.{◌≡◌, ◌≤◌, [], length, pos, All, option_copied, IfSome, IfOk, IfErr, OnOk};
+ghost use Rattle.instance_model.specs.Limits.{standard_limits};
+ghost use Rattle.plan_desk.specs.Desk.{ShowsSame, after_take_in};
+ghost use Rattle.plan_moves.specs.Scripts.{NamesKnown};
+ghost use Rattle.branch_tree.specs.Ranges.{IsInRange};
+ghost use Rattle.plan_desk.specs.Contents.{OnlyReads};
+ghost use Rattle.command_frame.specs.Sources.{source_view};
+ghost use Rattle.command_frame.specs.Files.{ReadsBytes, ReadsInstance, ReadsPlan, ReadsScript, ReadsGiven};
+ghost use Rattle.command_frame.specs.Files.{ReadsCertificate};
+ghost use Rattle.command_frame.specs.Refusals.{KeepsLast, IsReadCause, IsInstanceCause, IsPlanCause, IsScriptCause};
+ghost use Rattle.command_frame.specs.Refusals.{IsGivenCause, IsCertificateCause, AfterGiven};
+
+use crate::refusal::Refusal;
+use crate::source::Source;
+use branch_certificate::{CertFault, Certificate, read_certificate};
+use fixed_num::Fixed;
+use instance_model::{Instance, Limits};
+use instance_read::{StreamFault, read_instance_from};
+use move_script::{Script, ScriptFault, read_script};
+use plan_desk::{Bytes, Desk, ReadFault, read_all};
+use plan_text::{Plan, PlanFault, read_plan};
+use std::alloc::Global;
+
+/// How many bytes a plan file may have.
+const PLAN_BYTES: u64 = 1 << 24;
+
+/// How many bytes a script file may have.
+const SCRIPT_BYTES: u64 = 1 << 29;
+
+/// How many bytes a certificate file may have.
+const CERTIFICATE_BYTES: u64 = 1 << 28;
+
+/// The instance of a command, its bands widened by the slack. Its file is this word.
+pub fn instance_of<D: Desk>(
+    alloc: Global,
+    word: u64,
+    source: &Source<'_>,
+    desk: &mut D,
+) -> Result<Instance, Refusal>
+    requires small { source.now.slack ≤ 1_000_000_000 }
+    ensures ok { IfOk result (ReadsInstance standard_limits (source_view source.now) (D.shows desk.old)) }
+    ensures err { IfErr result (IsInstanceCause word source.now.instance.now (D.shows desk.old) (D.shows desk.new)) }
+    ensures read { OnOk result
+        (ShowsSame (D.shows desk.new) (after_take_in source.now.instance.now [] (D.shows desk.old))) }
+    ensures last { OnOk result ((D.shows desk.new).last ≡ (D.shows desk.old).last) }
+    ensures kept { IfErr result (KeepsLast (D.shows desk.old) (D.shows desk.new)) }
+    ensures only_reads { OnlyReads (D.shows desk.old) (D.shows desk.new) }
+{
+    let limits = Limits::standard();
+    match read_instance_from(
+        alloc,
+        &limits,
+        widening(source.slack),
+        desk,
+        source.instance,
+    ) {
+        Ok(inst) => Ok(inst),
+        Err(StreamFault::Failed) => Err(Refusal::Unread { word }),
+        Err(StreamFault::TooLong) => Err(Refusal::LongInstance),
+        Err(StreamFault::Text(fault)) => Err(Refusal::Instance(fault)),
+        Err(StreamFault::Memory) => Err(Refusal::Memory),
+    }
+}
+
+// So many counts of 10^-12.
+fn widening(count: u32) -> Fixed
+    requires small { count ≤ 1_000_000_000 }
+    ensures { result ≡ pos count }
+{
+    match Fixed::from_count(i128::from(count)) {
+        Ok(slack) => slack,
+        Err(_) => unreachable!(),
+    }
+}
+
+// The bytes of the file of this name, which is this word of the command line. `long` refuses it where it has more than
+// `most`.
+fn bytes_of<D: Desk>(
+    alloc: Global,
+    name: &str,
+    word: u64,
+    most: u64,
+    long: Refusal,
+    desk: &mut D,
+) -> Result<Bytes, Refusal>
+    ensures bytes { IfOk result (ReadsBytes name.now (D.shows desk.old)) }
+    ensures within { IfOk result (λ bytes. length bytes ≤ most) }
+    ensures err { IfErr result (IsReadCause name.now word most long (D.shows desk.old) (D.shows desk.new)) }
+    ensures read { OnOk result (ShowsSame (D.shows desk.new) (after_take_in name.now [] (D.shows desk.old))) }
+    ensures last { OnOk result ((D.shows desk.new).last ≡ (D.shows desk.old).last) }
+    ensures kept { IfErr result (KeepsLast (D.shows desk.old) (D.shows desk.new)) }
+    ensures only_reads { OnlyReads (D.shows desk.old) (D.shows desk.new) }
+{
+    match read_all(alloc, desk, name, most) {
+        Ok(bytes) => Ok(bytes),
+        Err(ReadFault::Failed) => Err(Refusal::Unread { word }),
+        Err(ReadFault::TooLong) => Err(long),
+        Err(ReadFault::Memory) => Err(Refusal::Memory),
+    }
+}
+
+/// The plan of the file of this name, which is this word.
+pub fn plan_of<D: Desk>(
+    alloc: Global,
+    inst: &Instance,
+    word: u64,
+    name: &str,
+    desk: &mut D,
+) -> Result<Plan, Refusal>
+    ensures ok { IfOk result (ReadsPlan standard_limits name.now inst.now (D.shows desk.old)) }
+    ensures each { IfOk result (λ plan. length plan ≡ length inst.now.names) }
+    ensures err { IfErr result (IsPlanCause word name.now inst.now (D.shows desk.old) (D.shows desk.new)) }
+    ensures read { OnOk result (ShowsSame (D.shows desk.new) (after_take_in name.now [] (D.shows desk.old))) }
+    ensures last { OnOk result ((D.shows desk.new).last ≡ (D.shows desk.old).last) }
+    ensures kept { IfErr result (KeepsLast (D.shows desk.old) (D.shows desk.new)) }
+    ensures only_reads { OnlyReads (D.shows desk.old) (D.shows desk.new) }
+{
+    let bytes = bytes_of(alloc, name, word, PLAN_BYTES, Refusal::LongPlan, desk)?;
+    match read_plan(alloc, inst, bytes.as_slice()) {
+        Ok(plan) => Ok(plan),
+        Err(PlanFault::Memory) => Err(Refusal::Memory),
+        Err(fault) => Err(Refusal::Plan(fault)),
+    }
+}
+
+/// The script of the file of this name, which is this word.
+pub fn script_of<D: Desk>(
+    alloc: Global,
+    inst: &Instance,
+    word: u64,
+    name: &str,
+    desk: &mut D,
+) -> Result<Script, Refusal>
+    ensures ok { IfOk result (ReadsScript standard_limits name.now inst.now (D.shows desk.old)) }
+    ensures known { IfOk result (All (NamesKnown inst.now)) }
+    ensures err { IfErr result (IsScriptCause word name.now inst.now (D.shows desk.old) (D.shows desk.new)) }
+    ensures last { OnOk result ((D.shows desk.new).last ≡ (D.shows desk.old).last) }
+    ensures kept { IfErr result (KeepsLast (D.shows desk.old) (D.shows desk.new)) }
+    ensures only_reads { OnlyReads (D.shows desk.old) (D.shows desk.new) }
+{
+    let bytes = bytes_of(alloc, name, word, SCRIPT_BYTES, Refusal::LongScript, desk)?;
+    match read_script(alloc, inst, bytes.as_slice()) {
+        Ok(script) => Ok(script),
+        Err(ScriptFault::Memory) => Err(Refusal::Memory),
+        Err(fault) => Err(Refusal::Script(fault)),
+    }
+}
+
+/// The plan of the file of this name, which is this word, if one is given.
+pub fn given_plan_of<D: Desk>(
+    alloc: Global,
+    inst: &Instance,
+    word: u64,
+    name: Option<&str>,
+    desk: &mut D,
+) -> Result<Option<Plan>, Refusal>
+    ensures ok { IfOk result (ReadsGiven standard_limits (option_copied name.entry) inst.now (D.shows desk.old)) }
+    ensures each { IfOk result (λ given. IfSome given (λ plan. length plan ≡ length inst.now.names)) }
+    ensures err { IfErr result
+        (IsGivenCause word (option_copied name.entry) inst.now (D.shows desk.old) (D.shows desk.new)) }
+    ensures read { OnOk result (AfterGiven (option_copied name.entry) (D.shows desk.old) (D.shows desk.new)) }
+    ensures last { OnOk result ((D.shows desk.new).last ≡ (D.shows desk.old).last) }
+    ensures kept { IfErr result (KeepsLast (D.shows desk.old) (D.shows desk.new)) }
+    ensures only_reads { OnlyReads (D.shows desk.old) (D.shows desk.new) }
+{
+    match name {
+        None => Ok(None),
+        Some(name) => Ok(Some(plan_of(alloc, inst, word, name, desk)?)),
+    }
+}
+
+/// The certificate of the file of this name, which is this word.
+pub fn certificate_of<D: Desk>(
+    alloc: Global,
+    inst: &Instance,
+    word: u64,
+    name: &str,
+    desk: &mut D,
+) -> Result<Certificate, Refusal>
+    ensures ok { IfOk result (ReadsCertificate standard_limits name.now inst.now (D.shows desk.old)) }
+    ensures in_range { IfOk result (IsInRange inst.now) }
+    ensures err { IfErr result (IsCertificateCause word name.now inst.now (D.shows desk.old) (D.shows desk.new)) }
+    ensures last { OnOk result ((D.shows desk.new).last ≡ (D.shows desk.old).last) }
+    ensures kept { IfErr result (KeepsLast (D.shows desk.old) (D.shows desk.new)) }
+    ensures only_reads { OnlyReads (D.shows desk.old) (D.shows desk.new) }
+{
+    let bytes = bytes_of(
+        alloc,
+        name,
+        word,
+        CERTIFICATE_BYTES,
+        Refusal::LongCertificate,
+        desk,
+    )?;
+    match read_certificate(alloc, inst, bytes.as_slice()) {
+        Ok(certificate) => Ok(certificate),
+        Err(CertFault::Memory) => Err(Refusal::Memory),
+        Err(fault) => Err(Refusal::Certificate(fault)),
+    }
+}

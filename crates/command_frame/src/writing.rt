@@ -1,0 +1,68 @@
+//! The files that commands write: each is opened, written whole and ended.
+ghost use Rattle.std.specs.Prelude.{◌≡◌, ◌<◌, ◌^◌, length, All};
+ghost use Rattle.plan_moves.specs.Scripts.{NamesKnown, line_of};
+ghost use Rattle.plan_text.specs.Spelling.{plan_text};
+ghost use Rattle.move_script.specs.Spelling.{HasSmallStart, moves_text};
+ghost use Rattle.branch_tree.specs.Ranges.{IsInRange};
+ghost use Rattle.certificate_text.specs.Text.{certificate_text};
+ghost use Rattle.command_frame.specs.Writing.{PutsFile};
+
+use branch_certificate::{Certificate, write_certificate};
+use instance_model::Instance;
+use move_script::write_moves;
+use plan_desk::{Desk, Failed};
+use plan_moves::Moves;
+use plan_text::write_plan;
+
+/// The line of a file that could not be written, before the number of its word.
+pub const WRITE_WORDS: &str = "refused write ";
+
+/// Writes a certificate as the file of this name. Takes no memory.
+pub fn put_certificate<D: Desk>(
+    inst: &Instance,
+    certificate: &Certificate,
+    name: &str,
+    desk: &mut D,
+) -> Result<(), Failed>
+    requires in_range { IsInRange inst.now certificate.now }
+    ensures { PutsFile (record { name = name.now; bytes = certificate_text inst.now certificate.now })
+        (D.shows desk.old) (D.shows desk.new) result }
+{
+    desk.put_out(name)?;
+    write_certificate(inst, certificate, desk)?;
+    desk.finish_out()
+}
+
+/// Writes changes as the script file of this name. Takes no memory.
+pub fn put_moves<D: Desk>(
+    inst: &Instance,
+    moves: &Moves,
+    name: &str,
+    desk: &mut D,
+) -> Result<(), Failed>
+    requires known { All (λ change. NamesKnown inst.now (line_of change)) moves.now }
+    requires small { All HasSmallStart moves.now }
+    ensures { PutsFile (record { name = name.now; bytes = moves_text inst.now.names moves.now })
+        (D.shows desk.old) (D.shows desk.new) result }
+{
+    desk.put_out(name)?;
+    write_moves(inst, moves, desk)?;
+    desk.finish_out()
+}
+
+/// Writes one start for each intervention as the plan file of this name. Takes no memory.
+pub fn put_plan<D: Desk>(
+    inst: &Instance,
+    starts: &[u32],
+    name: &str,
+    desk: &mut D,
+) -> Result<(), Failed>
+    requires each { length starts.now ≡ length inst.now.names }
+    requires small { All (λ start. start < 10 ^ 9) starts.now }
+    ensures { PutsFile (record { name = name.now; bytes = plan_text inst.now.names starts.now })
+        (D.shows desk.old) (D.shows desk.new) result }
+{
+    desk.put_out(name)?;
+    write_plan(inst, starts, desk)?;
+    desk.finish_out()
+}

@@ -1,0 +1,4 @@
+pub mod ReplayReading
+pub mod ReplayLemmas
+pub mod ReplayAnswers
+pub mod ReplayRun

@@ -1,0 +1,15 @@
+//! The command `solve`: a plan, a certificate and a trail are made of an instance, written, and reported.
+//!
+//! `RunsSolve` states what a run promises, by what the desk shows before and after it.
+#![tactic(auto)]
+
+mod checking;
+mod making;
+mod opening;
+mod report;
+mod solution;
+mod solve;
+#[cfg(test)]
+mod tests;
+
+pub use solve::{SolveFiles, solve_files};

@@ -1,0 +1,104 @@
+//! What a descent, a price list and a search make of an instance.
+ghost use Rattle.std.specs.Prelude.{◌≡◌, ◌≤◌, IfOk};
+ghost use Rattle.instance_model.specs.Keys.{IsOpening};
+ghost use Rattle.plan_moves.specs.KeptPlans.{present};
+ghost use Rattle.command_solve.specs.Made.{IsDescended, IsMade};
+
+use branch_search::{TreeEnd, search};
+use instance_model::{Instance, Starts};
+use lagrange_bound::RiskGoal;
+use local_search::descend;
+use plan_moves::{Kept, Moves};
+use price_ladder::raise_prices;
+use quantile_index::Row;
+use std::alloc::{AllocError, Global};
+
+/// What a descent from an opening plan came to.
+#[derive(Drop)]
+struct Descended {
+    moves: Moves,
+    /// The plan at which it ended.
+    starts: Starts,
+    /// Whether that plan keeps the rules.
+    feasible: bool,
+}
+
+/// The changes of a descent, and the answer of a search from its end.
+#[derive(Drop)]
+pub(crate) struct Made {
+    pub moves: Moves,
+    pub answer: TreeEnd,
+}
+
+/// Descends from the opening plan, raises prices for the end, and searches with them.
+pub(crate) fn make<R: Row>(
+    alloc: Global,
+    inst: &Instance,
+    opening: &[u32],
+    turns: u32,
+) -> Result<Made, AllocError>
+    requires opening { IsOpening inst.now opening.now }
+    requires turns { turns ≤ 1_000_000 }
+    ensures { IfOk result (IsMade inst.now turns) }
+{
+    inst.fits();
+    let descended = descend_from::<R>(alloc, inst, opening, turns)?;
+    let prices = raise_prices(alloc, inst, descended.starts.as_slice())?;
+    let answer = search(
+        alloc,
+        &RiskGoal,
+        inst,
+        Some(prices),
+        given(&descended),
+        turns,
+    )?;
+    Ok(Made {
+        moves: descended.moves,
+        answer,
+    })
+}
+
+/// The end of a descent, where it keeps the rules.
+fn given(descended: &Descended) -> Option<&[u32]> {
+    if descended.feasible {
+        Some(descended.starts.as_slice())
+    } else {
+        None
+    }
+}
+
+/// Descends from the opening plan. What is kept for the descent is let go at its end.
+fn descend_from<R: Row>(
+    alloc: Global,
+    inst: &Instance,
+    opening: &[u32],
+    turns: u32,
+) -> Result<Descended, AllocError>
+    requires opening { IsOpening inst.now opening.now }
+    ensures { IfOk result (IsDescended inst.now turns opening.now) }
+{
+    let mut kept = Kept::<R>::make(alloc, inst, opening)?;
+    let descent = descend(alloc, &mut kept, turns)?;
+    let starts = present_starts(alloc, inst, &kept)?;
+    Ok(Descended {
+        moves: descent.moves,
+        starts,
+        feasible: kept.key().violation == 0,
+    })
+}
+
+/// The starts of the present plan.
+fn present_starts<R: Row>(
+    alloc: Global,
+    inst: &Instance,
+    kept: &Kept<'_, R>,
+) -> Result<Starts, AllocError>
+    requires { kept.now.instance ≡ inst.now }
+    ensures { IfOk result (λ starts. starts ≡ present kept.now.plans) }
+{
+    let mut starts = Vec::new(alloc);
+    for i in 0..inst.interventions() {
+        starts.push(kept.start_of(i))?;
+    }
+    Ok(Starts::from_vec(starts))
+}

@@ -1,8 +1,0 @@
-use Rattle.std.proofs.Common.{append_assoc, rules}
-use Rattle.std.proofs.lemmas.Result.{IfOk-equal}
-use Rattle.planner_cli.specs.Reports.{fixed_line}
-use Rattle.planner_cli.proofs.report.push_fixed_line.Goals as goal
-
-pub returns : goal.returns
-unfolding fixed_line
-returns c = search (rules, IfOk-equal, append_assoc)
