@@ -122,7 +122,8 @@ fn row_of(
     })
 }
 
-/// The lists that the plain ladder and the fast one raise for a plan of these starts, where they are allowed.
+/// The lists that the plain ladder and the fast one raise for a plan of these starts, where they are allowed; the latter
+/// is read off a clone.
 fn rows_of(
     alloc: Global,
     inst: &Instance,
@@ -133,9 +134,10 @@ fn rows_of(
     }
     let plain = raise_plainly(alloc, inst, starts)?;
     let fast = raise_prices(alloc, inst, starts)?;
+    let copy = fast.clone()?;
     Ok(Some((
         row_of(alloc, inst, &plain, starts)?,
-        row_of(alloc, inst, &fast, starts)?,
+        row_of(alloc, inst, &copy, starts)?,
     )))
 }
 
