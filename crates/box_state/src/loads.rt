@@ -6,6 +6,7 @@ ghost use Rattle.duration_calendar.specs.Calendar.{IsAllowedIn};
 ghost use Rattle.lagrange_bound.specs.Boxes.{span_of, HasStarts};
 ghost use Rattle.certificate_lines.specs.declared.line.Side.{Side};
 ghost use Rattle.branch_tree.specs.Holding.{IsOffLimit};
+ghost use Rattle.branch_tree.specs.Loads.{least_load, greatest_load};
 ghost use Rattle.box_state.specs.KeptLoads.{IsOver, no_load};
 ghost use Rattle.box_state.specs.Bands.{IsHoldingBand, NoBandHolds, IsPart};
 ghost use Rattle.box_state.specs.Offs.{IsOff};
@@ -143,9 +144,7 @@ impl BoxLoads {
         ensures spans { IfOk result (λ loads. loads.spans ≡ spans.now) }
     {
         let mut loads = BoxLoads::empty(alloc, inst)?;
-        for i in 0..inst.interventions() {
-            loads.set_span(inst, i, spans[i as usize]);
-        }
+        loads.set_spans(inst, spans);
         Ok(loads)
     }
 
@@ -172,7 +171,7 @@ impl BoxLoads {
     }
 
     /// Changes the interval of intervention `i`. Walks over its load cells at the allowed starts of
-    /// the interval as it was, and of the new one. Takes no memory.
+    /// the interval as it was, and of the new one, where these differ. Takes no memory.
     pub fn set_span(&mut self, inst: &Instance, i: u32, span: Span)
         requires over { IsOver inst.now self.old }
         requires number { i < length inst.now.names }
@@ -180,6 +179,9 @@ impl BoxLoads {
         ensures over { IsOver inst.now self.new }
         ensures spans { self.new.spans ≡ slice_set self.old.spans i span }
     {
+        if self.spans[i as usize] == span {
+            return;
+        }
         change_loads(
             self.loads.as_mut_slice(),
             self.before.as_mut_slice(),
@@ -190,6 +192,41 @@ impl BoxLoads {
             span,
         );
         self.spans[i as usize] = span;
+    }
+
+    /// Makes the box another one. Walks over the load cells of the intervals that differ. Takes no memory.
+    pub fn set_spans(&mut self, inst: &Instance, spans: &[Span])
+        requires over { IsOver inst.now self.old }
+        requires each { length spans.now ≡ length inst.now.names }
+        requires ends { (i : ℕ) → i < length inst.now.names → (span_of spans.now i).to ≤ tmax inst.now i }
+        ensures over { IsOver inst.now self.new }
+        ensures spans { self.new.spans ≡ spans.now }
+    {
+        for i in 0..inst.interventions() {
+            self.set_span(inst, i, spans[i as usize]);
+        }
+    }
+
+    /// The least load of resource `c` in period `t` over the box.
+    pub fn least_load(&self, inst: &Instance, c: u32, t: u32) -> i128
+        requires over { IsOver inst.now self.now }
+        requires resource { c < length inst.now.resource_names }
+        requires from { 1 ≤ t }
+        requires to { t ≤ inst.now.periods }
+        ensures { result ≡ least_load inst.now self.now.spans c t }
+    {
+        self.loads[place_at(inst, c, t)].least.number()
+    }
+
+    /// The greatest load of resource `c` in period `t` over the box.
+    pub fn greatest_load(&self, inst: &Instance, c: u32, t: u32) -> i128
+        requires over { IsOver inst.now self.now }
+        requires resource { c < length inst.now.resource_names }
+        requires from { 1 ≤ t }
+        requires to { t ≤ inst.now.periods }
+        ensures { result ≡ greatest_load inst.now self.now.spans c t }
+    {
+        self.loads[place_at(inst, c, t)].greatest.number()
     }
 
     /// The limit of resource `c` in period `t` that all loads of the box leave.

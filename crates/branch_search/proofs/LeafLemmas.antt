@@ -184,3 +184,13 @@ parts_settled task box i m old mid new left right s hl il hr ir = record {
       (improved_in_part task (below box i m) box old mid (below_is_part box i m s) il)
       (improved_in_part task (above box i m) box mid new (above_is_part box i m s) ir);
 }
+
+-- a plan of the box that was judged before
+pub parts_after : (task : Task) (box : List Span) (i m : ℕ) (old mid new : Option (List ℕ)) (left right : Settled)
+    → IsImprovedIn task box old mid → ArePartsOf task box i m mid new left right
+    → ArePartsOf task box i m old new left right
+parts_after task box i m old mid new left right first parts = record {
+  left_is = parts.left_is;
+  right_is = parts.right_is;
+  improved = improved_twice task box old mid new first parts.improved;
+}

@@ -16,6 +16,7 @@ use Rattle.lagrange_bound.specs.Boxes.{span_of, IsBox, HasStarts, IsPlanIn}
 use Rattle.lagrange_bound.specs.Tabulated.{PriceRows, IsPricedBox}
 use Rattle.branch_tree.specs.declared.node.Node.TheVariants.{Cost}
 use Rattle.branch_tree.specs.Holding.{IsSingle, first_starts, list_at}
+use Rattle.branch_tree.specs.Trees.{AreStartsIn}
 use Rattle.branch_tree.proofs.Refuting.{feasible_allowed, length-first_starts}
 use Rattle.branch_search.specs.declared.settling.Settled.{Settled}
 use Rattle.branch_search.specs.declared.worths.Worths.{Worths}
@@ -94,34 +95,38 @@ pub allowed_of_feasible : (inst : Tables) (starts : List ℕ) → length starts 
 allowed_of_feasible inst starts each f =
     record { each = each; allowed = λ i l. feasible_allowed inst starts each f i (omega (arith, l, each)) }
 
--- no broken rule was found of the plan of a single box
-pub point_feasible : (inst : Tables) (box : List Span) (starts : List ℕ) (plan : List (Option ℕ)) (rule : Option Rule)
-    (b : Bool) → starts ≡ first_starts box → plan ≡ map Some starts → rule ≡ first_rule inst plan → b ≡ is_some rule
-    → b ≡ false → IsFeasible inst (map Some (first_starts box))
-point_feasible inst box starts plan rule b e f r s n =
-    subst (λ (xs : List ℕ). IsFeasible inst (map Some xs)) e
-    (subst (IsFeasible inst) f (ap is_some (sym r) ∙ sym s ∙ n))
+-- no broken rule was found of a plan
+pub plan_feasible : (inst : Tables) (starts : List ℕ) (plan : List (Option ℕ)) (rule : Option Rule) (b : Bool)
+    → plan ≡ map Some starts → rule ≡ first_rule inst plan → b ≡ is_some rule → b ≡ false
+    → IsFeasible inst (map Some starts)
+plan_feasible inst starts plan rule b f r s n = subst (IsFeasible inst) f (ap is_some (sym r) ∙ sym s ∙ n)
 
-pub point_broken : (inst : Tables) (box : List Span) (starts : List ℕ) (plan : List (Option ℕ)) (rule : Option Rule)
-    (b : Bool) → starts ≡ first_starts box → plan ≡ map Some starts → rule ≡ first_rule inst plan → b ≡ is_some rule
-    → b ≡ true → IsFeasible inst (map Some (first_starts box)) → ⊥
-point_broken inst box starts plan rule b e f r s n h = true≢false (sym n ∙ s
-    ∙ ap is_some r ∙ subst (λ (p : List (Option ℕ)). is_some (first_rule inst p) ≡ false) (sym f)
-    (subst (λ (xs : List ℕ). IsFeasible inst (map Some xs)) (sym e) h))
+pub plan_broken : (inst : Tables) (starts : List ℕ) (plan : List (Option ℕ)) (rule : Option Rule) (b : Bool)
+    → plan ≡ map Some starts → rule ≡ first_rule inst plan → b ≡ is_some rule → b ≡ true
+    → IsFeasible inst (map Some starts) → ⊥
+plan_broken inst starts plan rule b f r s n h = true≢false (sym n ∙ s
+    ∙ ap is_some r ∙ subst (λ (p : List (Option ℕ)). is_some (first_rule inst p) ≡ false) (sym f) h)
 
 first_start_is : (box : List Span) (i : ℕ) → i < length box → get_or (first_starts box) i 0 ≡ (span_of box i).from
 first_start_is [] i l = absurd (omega (arith, l))
 first_start_is (x ∷ xs) zero l = refl
 first_start_is (x ∷ xs) (suc i) l = first_start_is xs i (omega (arith, l))
 
-pub point_plan : (inst : Tables) (box : List Span) → IsBox inst box → IsSingle box
-    → IsFeasible inst (map Some (first_starts box)) → IsPlanIn inst box (first_starts box)
-point_plan inst box b s f = record {
-  each = length-first_starts box ∙ b.each;
+pub first_starts_in : (inst : Tables) (box : List Span) → IsBox inst box → IsSingle box
+    → AreStartsIn box (first_starts box)
+first_starts_in inst box b s = record {
+  each = length-first_starts box;
+  from = λ i l. let e = first_start_is box i l in omega (arith, e);
+  to = λ i l. let e = first_start_is box i l in let o = s i l in omega (arith, e, o);
+}
+
+pub plan_within : (inst : Tables) (box : List Span) (starts : List ℕ) → IsBox inst box → AreStartsIn box starts
+    → IsFeasible inst (map Some starts) → IsPlanIn inst box starts
+plan_within inst box starts b w f = record {
+  each = w.each ∙ b.each;
   feasible = f;
-  from = λ i l. let e = first_start_is box i (omega (arith, l, b.each)) in omega (arith, e);
-  to = λ i l. let e = first_start_is box i (omega (arith, l, b.each)) in
-      let o = s i (omega (arith, l, b.each)) in omega (arith, e, o);
+  from = λ i l. w.from i (omega (arith, l, b.each));
+  to = λ i l. w.to i (omega (arith, l, b.each));
 }
 
 -- ---- tables that were made

@@ -27,7 +27,9 @@ use Rattle.branch_search.specs.declared.tree_end.TreeEnd.{TreeEnd}
 use Rattle.branch_search.specs.Best.{IsShort}
 use Rattle.branch_search.specs.Searched.{lists_of, IsSearched}
 use Rattle.branch_search.specs.Tasks.{Task, freed}
-use Rattle.branch_search.specs.Growing.{box_at, node_at, split_cells}
+use Rattle.branch_search.specs.Boxes.{IsUnrefuted}
+use Rattle.branch_search.specs.Hands.{IsHand}
+use Rattle.branch_search.specs.Growing.{box_at, node_at, split_cells, AreBoxesOf}
 use Rattle.branch_search.specs.Settled.{ArePartsOf}
 use Rattle.branch_search.specs.Valued.{plan_in, IsSmallValue, IsBelow, IsValued}
 use Rattle.branch_search.specs.Entries.{with_entry}
@@ -89,6 +91,38 @@ popped_several task growth g rest y n spans p e s =
     (waits_at task (plan_in growth.best) (box_at g.state.boxes n) (node_at growth.cells.items n) x.list x.node (g.state.settled n x.within)).several
     (subst IsSingle e s)
 
+pub popped_unrefuted : (task : Task) (growth : Growth) (g : IsGrowth task growth) (rest : List (ℤ × ℕ)) (y : ℤ) (n : ℕ)
+    (spans : List Span) → IsPermutation growth.waiting ((y, n) ∷ rest) → spans ≡ box_at g.state.boxes n
+    → IsUnrefuted task.inst spans
+popped_unrefuted task growth g rest y n spans p e =
+    let x = popped_entry task growth g rest y n p in
+    subst (IsUnrefuted task.inst) (sym e) (waits_at task (plan_in growth.best) (box_at g.state.boxes n)
+    (node_at growth.cells.items n) x.list x.node (g.state.settled n x.within)).unrefuted
+
+-- the box of the entry that was taken out, as it was made afresh
+pub record IsPopped (inst : Tables) (boxes : List (List Span)) (count n : ℕ) (spans : List Span) : Type 0 where
+  pub known : n < count
+  pub box_is : spans ≡ box_at boxes n
+  pub box : IsBox inst spans
+  pub unrefuted : IsUnrefuted inst spans
+  pub several : ¬ IsSingle spans
+
+pub popped_made : (task : Task) (growth : Growth) (g : IsGrowth task growth) (rest : List (ℤ × ℕ)) (y : ℤ) (n : ℕ)
+    (cells : List Cell) (spans : List Span) → IsPermutation growth.waiting ((y, n) ∷ rest)
+    → cells ≡ growth.cells.items
+    → ((boxes : List (List Span)) → AreBoxesOf task.inst cells boxes → spans ≡ box_at boxes n)
+    → IsPopped task.inst g.state.boxes (length growth.cells.items) n spans
+popped_made task growth g rest y n cells spans p e made =
+    let is = made g.state.boxes (subst (λ (c : List Cell). AreBoxesOf task.inst c g.state.boxes) (sym e)
+    g.state.are_boxes) in
+    record {
+      known = popped_known task growth rest y n g p;
+      box_is = is;
+      box = popped_box task growth g rest y n spans p is;
+      unrefuted = popped_unrefuted task growth g rest y n spans p is;
+      several = popped_several task growth g rest y n spans p is;
+    }
+
 -- a plan whose value is below that of the best one is better
 pub better_than : (value : PlanValue) (inst : Tables) (best : Option Best) (z : ℤ) (starts plan : List ℕ)
     → starts ≡ plan → IsValued value inst best → IsBelow best z → z ≡ value inst starts → (other : List ℕ)
@@ -108,9 +142,10 @@ pub step_kept : (task : Task) (old new : Growth) (n i m c1 c2 : ℕ) (left right
     → new.cells.items ≡ split_cells old.cells.items n i m left.node right.node
     → c1 ≡ length old.cells.items → c2 ≡ length old.cells.items + 1
     → IsPermutation (with_entry left.worth c1 rest) mid → IsPermutation (with_entry right.worth c2 mid) new.waiting
-    → new.splits ≡ old.splits + 1 → IsValued task.value task.inst new.best → IsGrowth task new
+    → new.splits ≡ old.splits + 1 → IsValued task.value task.inst new.best → IsHand task.inst new.hand
+    → IsGrowth task new
 step_kept task old new n i m c1 c2 left right y z rest mid spans fits lists law g w p l e s parts cells d1 d2 pl pr
-    splits v =
+    splits v hand =
     let short = popped_short task.value task.inst old.best old.waiting rest y z n g.valued w p l in
     let next = grown_more task old.cells.items n i m left right (plan_in old.best) (plan_in new.best) y old.waiting rest
     mid new.waiting old.splits g.state p l short fits lists law
@@ -124,6 +159,7 @@ step_kept task old new n i m c1 c2 left right y z rest mid spans fits lists law 
           (subst (λ (k : ℕ). IsGrown task (split_cells old.cells.items n i m left.node right.node) new.waiting
           (plan_in new.best) k) (sym splits) next);
       valued = v;
+      hand = hand;
     }
 
 -- ---- the end

@@ -33,11 +33,3 @@ IsRefuting inst box Point = ⊥
 IsRefuting inst box (Band c t side) = IsBandIn inst box c t side
 IsRefuting inst box (Excl e) = IsExclIn inst box e
 IsRefuting inst box (Empty i) = IsEmptyIn inst box i
-
--- no band of resource c in period t holds on the box, and so on
-abbrev pub HasNoBandAt : Tables → List Span → ℕ → ℕ → Type 0
-HasNoBandAt inst box c t = (side : Side) → ¬ BandHolds inst box c t side
-
--- none of resource c
-abbrev pub HasNoBandOf : Tables → List Span → ℕ → Type 0
-HasNoBandOf inst box c = (t : ℕ) → 1 ≤ t → t ≤ inst.periods → HasNoBandAt inst box c t

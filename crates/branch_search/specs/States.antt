@@ -19,6 +19,7 @@ use Rattle.branch_search.specs.Tasks.{Task, worth_in}
 use Rattle.branch_search.specs.Growing.{cell_at, node_at, box_at, AreBoxesOf}
 use Rattle.branch_search.specs.Shapes.{Shape, forks, numbers, IsShapeOf}
 use Rattle.branch_search.specs.Settled.{IsSettled}
+use Rattle.branch_search.specs.Hands.{IsHand}
 
 -- ---- what waits
 
@@ -70,6 +71,7 @@ pub record IsGrown (task : Task) (cells : List Cell) (entries : List (ℤ × ℕ
 pub record IsGrowth (task : Task) (growth : Growth) : Type 0 where
   pub state : IsGrown task growth.cells.items growth.waiting (plan_in growth.best) growth.splits
   pub valued : IsValued task.value task.inst growth.best
+  pub hand : IsHand task.inst growth.hand
 
 -- ---- what is left
 

@@ -7,9 +7,16 @@
 
 mod best;
 mod cell;
+mod choice;
+mod cover;
 mod finishing;
 mod growth;
+mod hand;
+mod least_plan;
+mod looking;
 mod nodes;
+mod piece;
+mod place_loads;
 mod point;
 mod refuting;
 mod searching;

@@ -1,12 +1,15 @@
-//! The first leaf that refutes a box: an interval without a start, a band, or an exclusion.
-ghost use Rattle.std.specs.Prelude.{◌≡◌, ℕ, ◌<◌, ◌≤◌, length, IfSome, IfNone};
+//! A leaf that refutes the box at hand: an interval without a start, a band, or an exclusion.
+ghost use Rattle.std.specs.Prelude.{◌≡◌, ◌<◌, ◌≤◌, length, slice_set, IfSome, IfNone};
 ghost use Rattle.instance_model.specs.Tables.{tmax};
 ghost use Rattle.lagrange_bound.specs.Boxes.{HasStarts, span_of};
-ghost use Rattle.branch_tree.specs.Holding.{BandHolds, ExclHolds};
+ghost use Rattle.box_state.specs.Bands.{IsPart};
 ghost use Rattle.branch_search.specs.Boxes.{IsUnrefuted};
-ghost use Rattle.branch_search.specs.Refuting.{IsBandIn, IsExclIn, IsEmptyIn, IsRefuting, HasNoBandAt, HasNoBandOf};
+ghost use Rattle.branch_search.specs.Hands.{IsHand};
+ghost use Rattle.branch_search.specs.Refuting.{IsEmptyIn, IsRefuting};
 
-use branch_tree::{Node, Side, band_holds, excl_holds, has_start};
+use crate::hand::Hand;
+use box_state::{Band, holding_exclusion, holding_exclusion_by, others_are_kept};
+use branch_tree::{Node, has_start};
 use instance_model::Instance;
 use lagrange_bound::Span;
 
@@ -24,87 +27,56 @@ fn first_empty(inst: &Instance, spans: &[Span]) -> Option<u32>
     None
 }
 
-/// The side of a band of resource `c` in period `t` that no plan of a box keeps.
-fn broken_side(inst: &Instance, spans: &[Span], c: u32, t: u32) -> Option<Side>
-    requires each { length spans.now ≡ length inst.now.names }
-    requires ends { (i : ℕ) → i < length inst.now.names → (span_of spans.now i).to ≤ tmax inst.now i }
-    requires resource { c < length inst.now.resource_names }
-    requires from { 1 ≤ t }
-    requires to { t ≤ inst.now.periods }
-    ensures some { IfSome result (IsBandIn inst.now spans.now c t) }
-    ensures none { IfNone result (HasNoBandAt inst.now spans.now c t) }
+/// The leaf of a band.
+fn band_leaf(band: Band) -> Node
+    ensures { result ≡ Node.Band band.c band.t band.side }
 {
-    if band_holds(inst, spans, c, t, Side::Over) {
-        return Some(Side::Over);
+    Node::Band {
+        c: band.c,
+        t: band.t,
+        side: band.side,
     }
-    if band_holds(inst, spans, c, t, Side::Under) {
-        return Some(Side::Under);
-    }
-    None
 }
 
-/// The first band of resource `c` that no plan of a box keeps.
-fn first_band_of(inst: &Instance, spans: &[Span], c: u32) -> Option<Node>
-    requires each { length spans.now ≡ length inst.now.names }
-    requires ends { (i : ℕ) → i < length inst.now.names → (span_of spans.now i).to ≤ tmax inst.now i }
-    requires resource { c < length inst.now.resource_names }
-    ensures some { IfSome result (IsRefuting inst.now spans.now) }
-    ensures none { IfNone result (HasNoBandOf inst.now spans.now c) }
+/// A leaf that refutes the box at hand: of its first interval without a start, of a band, or of an exclusion.
+pub(crate) fn refuting_leaf(inst: &Instance, hand: &Hand) -> Option<Node>
+    requires { IsHand inst.now hand.now }
+    ensures some { IfSome result (IsRefuting inst.now hand.now.boxes.spans) }
+    ensures none { IfNone result (IsUnrefuted inst.now hand.now.boxes.spans) }
 {
-    for t in 1..inst.periods() + 1 {
-        if let Some(side) = broken_side(inst, spans, c, t) {
-            return Some(Node::Band { c, t, side });
-        }
-    }
-    None
-}
-
-/// The first band that no plan of a box keeps.
-fn first_band(inst: &Instance, spans: &[Span]) -> Option<Node>
-    requires each { length spans.now ≡ length inst.now.names }
-    requires ends { (i : ℕ) → i < length inst.now.names → (span_of spans.now i).to ≤ tmax inst.now i }
-    ensures some { IfSome result (IsRefuting inst.now spans.now) }
-    ensures none { IfNone result
-        ((c : ℕ) → c < length inst.now.resource_names → HasNoBandOf inst.now spans.now c) }
-{
-    for c in 0..inst.resources() {
-        if let Some(node) = first_band_of(inst, spans, c) {
-            return Some(node);
-        }
-    }
-    None
-}
-
-/// The first exclusion that no plan of a box keeps.
-fn first_excl(inst: &Instance, spans: &[Span]) -> Option<u32>
-    requires each { length spans.now ≡ length inst.now.names }
-    requires ends { (i : ℕ) → i < length inst.now.names → (span_of spans.now i).to ≤ tmax inst.now i }
-    ensures some { IfSome result (IsExclIn inst.now spans.now) }
-    ensures none { IfNone result
-        ((e : ℕ) → e < length inst.now.exclusion_names → ¬ ExclHolds inst.now spans.now e) }
-{
-    for e in 0..inst.exclusions() {
-        if excl_holds(inst, spans, e) {
-            return Some(e);
-        }
-    }
-    None
-}
-
-/// The leaf that refutes a box: of the first interval without a start, of the first band, or of the first exclusion.
-pub(crate) fn refuting_leaf(inst: &Instance, spans: &[Span]) -> Option<Node>
-    requires each { length spans.now ≡ length inst.now.names }
-    requires ends { (i : ℕ) → i < length inst.now.names → (span_of spans.now i).to ≤ tmax inst.now i }
-    ensures some { IfSome result (IsRefuting inst.now spans.now) }
-    ensures none { IfNone result (IsUnrefuted inst.now spans.now) }
-{
+    let spans = hand.boxes.spans();
     if let Some(i) = first_empty(inst, spans) {
         return Some(Node::Empty { i });
     }
-    if let Some(node) = first_band(inst, spans) {
-        return Some(node);
+    if let Some(band) = hand.boxes.holding_band(inst) {
+        return Some(band_leaf(band));
     }
-    match first_excl(inst, spans) {
+    match holding_exclusion(inst, spans) {
+        Some(e) => Some(Node::Excl { e }),
+        None => None,
+    }
+}
+
+/// The same where no leaf refuted the box while the interval of intervention `i` was `whole`, of which it is a part now.
+/// Tests that interval, the bands in the periods of its runs, and the exclusions that name the intervention.
+pub(crate) fn refuting_part(inst: &Instance, hand: &Hand, i: u32, whole: Span) -> Option<Node>
+    requires hand { IsHand inst.now hand.now }
+    requires number { i < length inst.now.names }
+    requires end { whole.to ≤ tmax inst.now i }
+    requires part { IsPart (span_of hand.now.boxes.spans i) whole }
+    requires before { IsUnrefuted inst.now (slice_set hand.now.boxes.spans i whole) }
+    ensures some { IfSome result (IsRefuting inst.now hand.now.boxes.spans) }
+    ensures none { IfNone result (IsUnrefuted inst.now hand.now.boxes.spans) }
+{
+    others_are_kept();
+    let spans = hand.boxes.spans();
+    if !has_start(inst, i, spans[i as usize]) {
+        return Some(Node::Empty { i });
+    }
+    if let Some(band) = hand.boxes.holding_band_by(inst, i, whole) {
+        return Some(band_leaf(band));
+    }
+    match holding_exclusion_by(inst, &hand.index, spans, i) {
         Some(e) => Some(Node::Excl { e }),
         None => None,
     }

@@ -1,17 +1,23 @@
 //! The leaf of a new box: a refuting one, that of a single plan, or one that waits.
-ghost use Rattle.std.specs.Prelude.{◌≡◌, ◌≤◌, length, IfOk, OnOk};
+ghost use Rattle.std.specs.Prelude.{IfOk, OnOk, IfSome, IfNone};
 ghost use Rattle.lagrange_bound.specs.Boxes.{IsBox};
-ghost use Rattle.branch_tree.specs.Trees.{IsSplit};
+ghost use Rattle.branch_tree.specs.Trees.{IsSplit, root_box};
+ghost use Rattle.branch_tree.specs.Holding.{IsSingle};
+ghost use Rattle.branch_search.specs.Boxes.{IsUnrefuted};
+ghost use Rattle.branch_search.specs.Refuting.{IsRefuting};
+ghost use Rattle.branch_search.specs.Hands.{IsHand, IsPartedBy};
 ghost use Rattle.branch_search.specs.Tasks.{free_task};
 ghost use Rattle.branch_search.specs.Settled.{IsLeafOf, ArePartsOf, IsImprovedIn};
 ghost use Rattle.branch_search.specs.Pricing.{AreWorthsOf};
 ghost use Rattle.branch_search.specs.Valued.{plan_in, IsValued};
 
 use crate::best::Best;
+use crate::choice::{Chooser, choose};
+use crate::hand::Hand;
 use crate::point::{is_single, take_point};
-use crate::refuting::refuting_leaf;
+use crate::refuting::{refuting_leaf, refuting_part};
 use crate::worths::{Worths, greatest_worth};
-use branch_tree::{Node, parts_are_boxes};
+use branch_tree::{BoxPath, Node, parts_are_boxes};
 use instance_model::Instance;
 use lagrange_bound::{Goal, Prices, Span};
 use std::alloc::{AllocError, Global};
@@ -23,7 +29,16 @@ pub(crate) struct Settled {
     pub(crate) worth: Option<i128>,
 }
 
-/// The leaf of a box. The plan of a box that is a single one may become the best plan.
+/// A split, and the leaves of its parts, the left one first.
+#[derive(Clone, Copy)]
+pub(crate) struct Parts {
+    pub(crate) i: u32,
+    pub(crate) last: u32,
+    pub(crate) left: Settled,
+    pub(crate) right: Settled,
+}
+
+/// The leaf of a box, given one that refutes it, or none. The plan of a box that is a single one may become the best plan.
 pub(crate) fn settle<G: Goal>(
     alloc: Global,
     goal: &G,
@@ -31,9 +46,12 @@ pub(crate) fn settle<G: Goal>(
     lists: &[Prices],
     worths: &Worths,
     spans: &[Span],
+    refuting: Option<Node>,
     best: &mut Option<Best>,
 ) -> Result<Settled, AllocError>
     requires spans { IsBox inst.now spans.now }
+    requires refuted { IfSome refuting (IsRefuting inst.now spans.now) }
+    requires unrefuted { IfNone refuting (IsUnrefuted inst.now spans.now) }
     requires worths { AreWorthsOf (G.base_gives goal.now) inst.now lists.now worths.now }
     requires valued { IsValued (G.value_gives goal.now) inst.now best.old }
     ensures leaf { IfOk result (IsLeafOf
@@ -44,7 +62,7 @@ pub(crate) fn settle<G: Goal>(
         (plan_in best.old) (plan_in best.new)) }
     ensures valued { OnOk result (IsValued (G.value_gives goal.now) inst.now best.new) }
 {
-    if let Some(node) = refuting_leaf(inst, spans) {
+    if let Some(node) = refuting {
         return Ok(Settled { node, worth: None });
     }
     if is_single(spans) {
@@ -61,40 +79,130 @@ pub(crate) fn settle<G: Goal>(
     })
 }
 
-/// The leaves of the two parts of a split box, the left one first.
-pub(crate) fn settle_parts<G: Goal>(
+/// The box of all starts at hand, and its leaf.
+pub(crate) fn settle_root<G: Goal>(
     alloc: Global,
     goal: &G,
     inst: &Instance,
     lists: &[Prices],
     worths: &Worths,
-    spans: &mut [Span],
+    best: &mut Option<Best>,
+) -> Result<(Hand, Settled), AllocError>
+    requires worths { AreWorthsOf (G.base_gives goal.now) inst.now lists.now worths.now }
+    requires valued { IsValued (G.value_gives goal.now) inst.now best.old }
+    ensures hand { IfOk result (λ root. IsHand inst.now root.0) }
+    ensures leaf { IfOk result (λ root. IsLeafOf
+        (free_task (G.base_gives goal.now) (G.value_gives goal.now) inst.now lists.now)
+        (plan_in best.new) (root_box inst.now) root.1) }
+    ensures improved { OnOk result (IsImprovedIn
+        (free_task (G.base_gives goal.now) (G.value_gives goal.now) inst.now lists.now) (root_box inst.now)
+        (plan_in best.old) (plan_in best.new)) }
+    ensures valued { OnOk result (IsValued (G.value_gives goal.now) inst.now best.new) }
+{
+    inst.fits();
+    let root = BoxPath::root(alloc, inst)?;
+    let hand = Hand::make(alloc, inst, root.spans())?;
+    let refuting = refuting_leaf(inst, &hand);
+    let leaf = settle(alloc, goal, inst, lists, worths, hand.boxes.spans(), refuting, best)?;
+    Ok((hand, leaf))
+}
+
+/// The leaves of the two parts of the box at hand, the left one first. The right part is at hand then.
+fn settle_parts<G: Goal>(
+    alloc: Global,
+    goal: &G,
+    inst: &Instance,
+    lists: &[Prices],
+    worths: &Worths,
+    hand: &mut Hand,
     i: u32,
     last: u32,
     best: &mut Option<Best>,
 ) -> Result<(Settled, Settled), AllocError>
-    requires spans { IsBox inst.now spans.old }
-    requires splits { IsSplit spans.old i last }
+    requires hand { IsHand inst.now hand.old }
+    requires spans { IsBox inst.now hand.old.boxes.spans }
+    requires unrefuted { IsUnrefuted inst.now hand.old.boxes.spans }
+    requires splits { IsSplit hand.old.boxes.spans i last }
     requires worths { AreWorthsOf (G.base_gives goal.now) inst.now lists.now worths.now }
     requires valued { IsValued (G.value_gives goal.now) inst.now best.old }
     ensures parts { IfOk result (λ parts. ArePartsOf
-        (free_task (G.base_gives goal.now) (G.value_gives goal.now) inst.now lists.now) spans.old i last
+        (free_task (G.base_gives goal.now) (G.value_gives goal.now) inst.now lists.now) hand.old.boxes.spans i last
         (plan_in best.old) (plan_in best.new) parts.0 parts.1) }
     ensures valued { OnOk result (IsValued (G.value_gives goal.now) inst.now best.new) }
+    ensures hand { OnOk result (IsHand inst.now hand.new) }
 {
     parts_are_boxes();
     let _few = inst.periods();
     let _starts = inst.tmax(i);
-    let span = spans[i as usize];
-    spans[i as usize] = Span {
-        from: span.from,
+    let whole = hand.boxes.spans()[i as usize];
+    let below = Span {
+        from: whole.from,
         to: last,
     };
-    let left = settle(alloc, goal, inst, lists, worths, spans, best)?;
-    spans[i as usize] = Span {
+    hand.boxes.set_span(inst, i, below);
+    let leaf = refuting_part(inst, hand, i, whole);
+    let left = settle(
+        alloc,
+        goal,
+        inst,
+        lists,
+        worths,
+        hand.boxes.spans(),
+        leaf,
+        best,
+    )?;
+    let above = Span {
         from: last + 1,
-        to: span.to,
+        to: whole.to,
     };
-    let right = settle(alloc, goal, inst, lists, worths, spans, best)?;
+    hand.boxes.set_span(inst, i, above);
+    let leaf = refuting_part(inst, hand, i, whole);
+    let right = settle(
+        alloc,
+        goal,
+        inst,
+        lists,
+        worths,
+        hand.boxes.spans(),
+        leaf,
+        best,
+    )?;
     Ok((left, right))
+}
+
+/// Splits the box at hand where it isn't a single plan, and settles both parts. The plans of least prices of the box
+/// are judged too, where they break nothing.
+pub(crate) fn part<G: Goal>(
+    alloc: Global,
+    goal: &G,
+    inst: &Instance,
+    lists: &[Prices],
+    worths: &Worths,
+    hand: &mut Hand,
+    chooser: &mut Chooser,
+    best: &mut Option<Best>,
+) -> Result<Option<Parts>, AllocError>
+    requires hand { IsHand inst.now hand.old }
+    requires spans { IsBox inst.now hand.old.boxes.spans }
+    requires unrefuted { IsUnrefuted inst.now hand.old.boxes.spans }
+    requires worths { AreWorthsOf (G.base_gives goal.now) inst.now lists.now worths.now }
+    requires valued { IsValued (G.value_gives goal.now) inst.now best.old }
+    ensures some { IfOk result (λ parts. IfSome parts (IsPartedBy
+        (free_task (G.base_gives goal.now) (G.value_gives goal.now) inst.now lists.now) hand.old.boxes.spans
+        (plan_in best.old) (plan_in best.new))) }
+    ensures none { IfOk result (λ parts. IfNone parts (IsSingle hand.old.boxes.spans)) }
+    ensures valued { OnOk result (IsValued (G.value_gives goal.now) inst.now best.new) }
+    ensures hand { OnOk result (IsHand inst.now hand.new) }
+{
+    let place = choose(alloc, goal, inst, lists, worths, &hand.boxes, chooser, best)?;
+    let Some((i, last)) = place else {
+        return Ok(None);
+    };
+    let (left, right) = settle_parts(alloc, goal, inst, lists, worths, hand, i, last, best)?;
+    Ok(Some(Parts {
+        i,
+        last,
+        left,
+        right,
+    }))
 }

@@ -9,13 +9,13 @@ ghost use Rattle.branch_search.specs.States.{IsGrowth, IsLeftWorth, NoneIsLeft, 
 
 use crate::best::{Best, is_below};
 use crate::cell::Cell;
+use crate::choice::Chooser;
 use crate::growth::Growth;
-use crate::settling::{settle, settle_parts};
-use crate::splitting::{middle, split_cell};
+use crate::settling::{part, settle_root};
+use crate::splitting::split_cell;
 use crate::waiting::{Waiting, await_leaf};
 use crate::walking::box_of;
 use crate::worths::Worths;
-use branch_tree::BoxPath;
 use instance_model::{Instance, Starts};
 use lagrange_bound::{Goal, Prices, worth_bounds_plans};
 use std::alloc::{AllocError, Global};
@@ -59,8 +59,8 @@ pub(crate) fn begin<G: Goal>(
 {
     inst.fits();
     let mut best = given_best(alloc, goal, inst, incumbent)?;
-    let root = BoxPath::root(alloc, inst)?;
-    let leaf = settle(alloc, goal, inst, lists, worths, root.spans(), &mut best)?;
+    let (hand, leaf) = settle_root(alloc, goal, inst, lists, worths, &mut best)?;
+    let chooser = Chooser::make(alloc, inst)?;
     let mut cells = Vec::new(alloc);
     cells.push(Cell {
         node: leaf.node,
@@ -74,6 +74,8 @@ pub(crate) fn begin<G: Goal>(
         waiting,
         best,
         splits: 0,
+        hand,
+        chooser,
     })
 }
 
@@ -117,22 +119,23 @@ pub(crate) fn split_least<G: Goal>(
     let Some((_, number)) = growth.waiting.pop() else {
         return Ok(());
     };
-    let mut spans = box_of(alloc, inst, growth.cells.as_slice(), number)?;
-    let Some((i, last)) = middle(&spans) else {
+    let spans = box_of(alloc, inst, growth.cells.as_slice(), number)?;
+    growth.hand.boxes.set_spans(inst, &spans);
+    let hand = &mut growth.hand;
+    let chooser = &mut growth.chooser;
+    let best = &mut growth.best;
+    let Some(parts) = part(alloc, goal, inst, lists, worths, hand, chooser, best)? else {
         return Ok(());
     };
-    let (left, right) = settle_parts(
-        alloc,
-        goal,
-        inst,
-        lists,
-        worths,
-        &mut spans,
-        i,
-        last,
-        &mut growth.best,
+    let (left, right) = (parts.left, parts.right);
+    split_cell(
+        &mut growth.cells,
+        number,
+        parts.i,
+        parts.last,
+        left.node,
+        right.node,
     )?;
-    split_cell(&mut growth.cells, number, i, last, left.node, right.node)?;
     let count = growth.cells.len();
     await_leaf(&mut growth.waiting, left.worth, count - 2)?;
     await_leaf(&mut growth.waiting, right.worth, count - 1)?;

@@ -12,8 +12,8 @@ use std::alloc::{AllocError, Global};
 /// The price table of the list of zeros, and that of the one handed in, or none.
 #[derive(Drop)]
 pub(crate) struct Worths {
-    zero: PriceTable,
-    given: Option<PriceTable>,
+    pub(crate) zero: PriceTable,
+    pub(crate) given: Option<PriceTable>,
 }
 
 /// The table of the first list, or none.

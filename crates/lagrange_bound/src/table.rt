@@ -6,7 +6,7 @@ ghost use Rattle.lagrange_bound.specs.declared.span.Span.{Span};
 ghost use Rattle.lagrange_bound.specs.Prices.{IsPriceList};
 ghost use Rattle.lagrange_bound.specs.Boxes.{IsBox, HasStarts, span_of};
 ghost use Rattle.lagrange_bound.specs.Worth.{worth_of};
-ghost use Rattle.lagrange_bound.specs.Tabulated.{table_of, entry_of, priced_in, IsPricedBox, worth_in};
+ghost use Rattle.lagrange_bound.specs.Tabulated.{table_of, row_of, entry_of, priced_in, IsPricedBox, worth_in};
 
 use crate::least_price::least_price;
 use crate::limit_cost::fixed_cost;
@@ -36,6 +36,18 @@ impl Model for PriceTable {
     ghost view = { view_of };
 
     ghost invariant = { IsSmallTable };
+}
+
+impl PriceTable {
+    /// The entries of intervention `i`, by start; none where there is no such intervention.
+    pub fn row(&self, i: u32) -> &[Option<i128>]
+        ensures { result.now ≡ row_of self.now i }
+    {
+        match self.rows.get(i as usize) {
+            Some(row) => row.as_slice(),
+            None => &[],
+        }
+    }
 }
 
 /// The prices of all allowed starts.

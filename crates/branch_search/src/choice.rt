@@ -1,0 +1,239 @@
+//! Where a box is split: at the cover that lifts its worth most, else in the interval of which the halves differ most.
+ghost use Rattle.std.specs.Prelude.{◌≡◌, ℕ, ◌<◌, ◌≤◌, length, IfSome, IfNone, IfOk, OnOk, IsTrue};
+ghost use Rattle.instance_model.specs.Tables.{tmax};
+ghost use Rattle.lagrange_bound.specs.Boxes.{IsBox, span_of};
+ghost use Rattle.lagrange_bound.specs.Tabulated.{IsPricedBox};
+ghost use Rattle.branch_tree.specs.Trees.{IsSplit};
+ghost use Rattle.branch_tree.specs.Holding.{IsSingle};
+ghost use Rattle.box_state.specs.KeptLoads.{IsOver};
+ghost use Rattle.branch_search.specs.Tasks.{free_task};
+ghost use Rattle.branch_search.specs.Settled.{IsImprovedIn};
+ghost use Rattle.branch_search.specs.Pricing.{IsPricedByGiven};
+ghost use Rattle.branch_search.specs.Valued.{plan_in, IsValued};
+
+use crate::best::Best;
+use crate::cover::Cover;
+use crate::least_plan::LeastPlan;
+use crate::looking::{Room, View, look};
+use crate::piece::least_price;
+use crate::place_loads::PlaceLoads;
+use crate::point::take_starts;
+use crate::splitting::middle;
+use crate::worths::Worths;
+use box_state::BoxLoads;
+use instance_model::Instance;
+use lagrange_bound::{Goal, PriceTable, Prices, Span, worth};
+use std::alloc::{AllocError, Global};
+
+/// What is kept for choices: the loads by place, the plans of least prices by the list of zeros and by the one handed
+/// in, and room.
+#[derive(Drop)]
+pub(crate) struct Chooser {
+    cells: PlaceLoads,
+    zero: LeastPlan,
+    given: LeastPlan,
+    room: Room,
+}
+
+/// A cover, and the worth of the box by the list of its plan where it is left by each of the members.
+#[derive(Clone, Copy)]
+struct Lift {
+    worth: i128,
+    cover: Cover,
+}
+
+/// The greater lift, the first one where both are the same.
+fn greater(one: Option<Lift>, other: Option<Lift>) -> Option<Lift> {
+    let (Some(a), Some(b)) = (one, other) else {
+        return one.or(other);
+    };
+    if a.worth < b.worth { other } else { one }
+}
+
+/// The middle of an interval of several starts: the last start of its first half.
+fn middle_of(span: Span) -> u32
+    requires { span.from ≤ span.to }
+{
+    span.from + (span.to - span.from) / 2
+}
+
+impl Chooser {
+    pub(crate) fn make(alloc: Global, inst: &Instance) -> Result<Chooser, AllocError> {
+        Ok(Chooser {
+            cells: PlaceLoads::make(alloc, inst)?,
+            zero: LeastPlan::make(alloc, inst)?,
+            given: LeastPlan::make(alloc, inst)?,
+            room: Room::make(alloc, inst)?,
+        })
+    }
+}
+
+/// Looks at the plan of least prices by one list: where it breaks nothing, it is judged, and it may become the best
+/// plan; else the cover that is worth most is the answer, where there is one.
+fn look_by<G: Goal>(
+    alloc: Global,
+    goal: &G,
+    inst: &Instance,
+    lists: &[Prices],
+    table: &PriceTable,
+    boxes: &BoxLoads,
+    cells: &PlaceLoads,
+    plan: &mut LeastPlan,
+    room: &mut Room,
+    best: &mut Option<Best>,
+) -> Result<Option<Lift>, AllocError>
+    requires over { IsOver inst.now boxes.now }
+    requires spans { IsBox inst.now boxes.now.spans }
+    requires priced { IsPricedBox table.now boxes.now.spans }
+    requires valued { IsValued (G.value_gives goal.now) inst.now best.old }
+    ensures improved { OnOk result (IsImprovedIn
+        (free_task (G.base_gives goal.now) (G.value_gives goal.now) inst.now lists.now) boxes.now.spans
+        (plan_in best.old) (plan_in best.new)) }
+    ensures valued { OnOk result (IsValued (G.value_gives goal.now) inst.now best.new) }
+{
+    let spans = boxes.spans();
+    plan.follow(inst, table, spans);
+    let view = View {
+        inst,
+        cells,
+        boxes,
+        table,
+        plan: &*plan,
+    };
+    let seen = look(&view, room)?;
+    if !seen.is_broken && !plan.is_judged {
+        take_starts(
+            alloc,
+            goal,
+            inst,
+            lists,
+            spans,
+            plan.starts.as_slice(),
+            best,
+        )?;
+        plan.is_judged = true;
+    }
+    let Some(cover) = seen.cover else {
+        return Ok(None);
+    };
+    let lifted = worth(table, spans).saturating_add(cover.worth);
+    Ok(Some(Lift {
+        worth: lifted,
+        cover,
+    }))
+}
+
+/// Whether a split of intervention `i` after start `last` leaves starts in both parts.
+fn is_split(spans: &[Span], i: u32, last: u32) -> bool
+    ensures { IsTrue result → IsSplit spans.now i last }
+{
+    match spans.get(i as usize) {
+        Some(span) => span.from <= last && last < span.to,
+        None => false,
+    }
+}
+
+/// How much the least prices of the two halves of an interval differ, where both have an allowed start.
+fn difference(prices: &[Option<i128>], span: Span) -> Option<i128>
+    requires { span.from ≤ span.to }
+{
+    let from = span.from.saturating_sub(1) as usize;
+    let past = span.to as usize;
+    let half = middle_of(span) as usize;
+    let left = least_price(prices, from, half)?;
+    let right = least_price(prices, half, past)?;
+    Some(if left < right {
+        right.saturating_sub(left)
+    } else {
+        left.saturating_sub(right)
+    })
+}
+
+/// The interval of which the halves differ most, and its middle.
+fn widest(table: &PriceTable, spans: &[Span]) -> Option<(u32, u32)>
+    requires few { length spans.now ≤ 1024 }
+    requires order { (i : ℕ) → i < length spans.now → (span_of spans.now i).from ≤ (span_of spans.now i).to }
+{
+    let mut most = 0;
+    let mut found = None;
+    for i in 0..spans.len() {
+        let span = spans[i];
+        if let Some(wide) = difference(table.row(i as u32), span) {
+            if most < wide {
+                most = wide;
+                found = Some((i as u32, middle_of(span)));
+            }
+        }
+    }
+    found
+}
+
+/// A split: the one that was found, where it is one, else in the interval of which the halves differ most, else in the
+/// middle of the first interval of several starts.
+fn split_or_middle(spans: &[Span], table: &PriceTable, found: Option<Lift>) -> Option<(u32, u32)>
+    requires few { length spans.now ≤ 1024 }
+    requires order { (i : ℕ) → i < length spans.now → (span_of spans.now i).from ≤ (span_of spans.now i).to }
+    ensures some { IfSome result (λ place. IsSplit spans.now place.0 place.1) }
+    ensures none { IfNone result (IsSingle spans.now) }
+{
+    if let Some(lift) = found {
+        if is_split(spans, lift.cover.i, lift.cover.last) {
+            return Some((lift.cover.i, lift.cover.last));
+        }
+    }
+    if let Some((i, last)) = widest(table, spans) {
+        if is_split(spans, i, last) {
+            return Some((i, last));
+        }
+    }
+    middle(spans)
+}
+
+/// Chooses the split of a box, and judges the plans of least prices where they break nothing.
+pub(crate) fn choose<G: Goal>(
+    alloc: Global,
+    goal: &G,
+    inst: &Instance,
+    lists: &[Prices],
+    worths: &Worths,
+    boxes: &BoxLoads,
+    chooser: &mut Chooser,
+    best: &mut Option<Best>,
+) -> Result<Option<(u32, u32)>, AllocError>
+    requires over { IsOver inst.now boxes.now }
+    requires spans { IsBox inst.now boxes.now.spans }
+    requires zero { IsPricedBox worths.now.zero boxes.now.spans }
+    requires given { IsPricedByGiven worths.now.given boxes.now.spans }
+    requires valued { IsValued (G.value_gives goal.now) inst.now best.old }
+    ensures some { IfOk result (λ place. IfSome place (λ at. IsSplit boxes.now.spans at.0 at.1)) }
+    ensures none { IfOk result (λ place. IfNone place (IsSingle boxes.now.spans)) }
+    ensures improved { OnOk result (IsImprovedIn
+        (free_task (G.base_gives goal.now) (G.value_gives goal.now) inst.now lists.now) boxes.now.spans
+        (plan_in best.old) (plan_in best.new)) }
+    ensures valued { OnOk result (IsValued (G.value_gives goal.now) inst.now best.new) }
+{
+    inst.fits();
+    let cells = &chooser.cells;
+    let room = &mut chooser.room;
+    let zeros = &mut chooser.zero;
+    let first = look_by(
+        alloc,
+        goal,
+        inst,
+        lists,
+        &worths.zero,
+        boxes,
+        cells,
+        zeros,
+        room,
+        best,
+    )?;
+    let Some(table) = &worths.given else {
+        return Ok(split_or_middle(boxes.spans(), &worths.zero, first));
+    };
+    let plan = &mut chooser.given;
+    let second = look_by(
+        alloc, goal, inst, lists, table, boxes, cells, plan, room, best,
+    )?;
+    Ok(split_or_middle(boxes.spans(), table, greater(second, first)))
+}

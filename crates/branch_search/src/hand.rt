@@ -1,0 +1,31 @@
+//! The box at hand, with what is kept of it while it becomes another one.
+ghost use Rattle.std.specs.Prelude.{◌≡◌, ℕ, ◌<◌, ◌≤◌, length, IfOk};
+ghost use Rattle.instance_model.specs.Tables.{tmax};
+ghost use Rattle.lagrange_bound.specs.Boxes.{span_of};
+ghost use Rattle.branch_search.specs.Hands.{IsHand};
+
+use box_state::{BoxLoads, ExclusionIndex};
+use instance_model::Instance;
+use lagrange_bound::Span;
+use std::alloc::{AllocError, Global};
+
+/// A box with its loads, and the exclusions that name each intervention.
+#[derive(Drop)]
+pub(crate) struct Hand {
+    pub(crate) boxes: BoxLoads,
+    pub(crate) index: ExclusionIndex,
+}
+
+impl Hand {
+    pub(crate) fn make(alloc: Global, inst: &Instance, spans: &[Span]) -> Result<Hand, AllocError>
+        requires each { length spans.now ≡ length inst.now.names }
+        requires ends { (i : ℕ) → i < length inst.now.names → (span_of spans.now i).to ≤ tmax inst.now i }
+        ensures hand { IfOk result (IsHand inst.now) }
+        ensures spans { IfOk result (λ hand. hand.boxes.spans ≡ spans.now) }
+    {
+        Ok(Hand {
+            boxes: BoxLoads::make(alloc, inst, spans)?,
+            index: ExclusionIndex::make(alloc, inst)?,
+        })
+    }
+}

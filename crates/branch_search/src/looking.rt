@@ -1,0 +1,264 @@
+//! The cover of a plan: of all bands and exclusions that it breaks, the one of which the cover is worth most.
+ghost use Rattle.std.specs.Prelude.{◌<◌, ◌≤◌, length, IfSome};
+ghost use Rattle.duration_calendar.specs.Windows.{IsInHorizon};
+ghost use Rattle.box_state.specs.KeptLoads.{IsOver};
+
+use crate::cover::{Cover, better, cover_of};
+use crate::least_plan::LeastPlan;
+use crate::piece::{Member, member_of};
+use crate::place_loads::{PlaceCell, PlaceLoads, place_of, split_first};
+use box_state::BoxLoads;
+use branch_tree::Side;
+use duration_calendar::{Window, meets_in, run};
+use instance_model::Instance;
+use lagrange_bound::PriceTable;
+use std::alloc::{AllocError, Global};
+
+/// What is looked at: a box with its loads, and the plan of least prices in it by one list.
+#[derive(Clone, Copy)]
+pub(crate) struct View<'a> {
+    pub(crate) inst: &'a Instance,
+    pub(crate) cells: &'a PlaceLoads,
+    pub(crate) boxes: &'a BoxLoads,
+    pub(crate) table: &'a PriceTable,
+    pub(crate) plan: &'a LeastPlan,
+    ghost over: { IsOver inst.now boxes.now },
+}
+
+/// Room for a look at one band or exclusion: the loads of an intervention by start, and the members of a cover.
+#[derive(Drop)]
+pub(crate) struct Room {
+    loads: Vec<i128>,
+    members: Vec<Member>,
+}
+
+/// What was seen of a plan: whether it breaks a band or an exclusion, and the cover that is worth most.
+#[derive(Clone, Copy)]
+pub(crate) struct Seen {
+    pub(crate) is_broken: bool,
+    pub(crate) cover: Option<Cover>,
+}
+
+impl Seen {
+    /// Takes in a broken band or exclusion and its cover, where there is one.
+    fn take(&mut self, cover: Option<Cover>) {
+        self.is_broken = true;
+        self.cover = better(self.cover, cover);
+    }
+}
+
+impl Room {
+    pub(crate) fn make(alloc: Global, inst: &Instance) -> Result<Room, AllocError> {
+        Ok(Room {
+            loads: vec![in alloc; 0; inst.periods() as usize]?,
+            members: Vec::new(alloc),
+        })
+    }
+
+    /// Spreads loads over the starts, with the other sign for a lower limit.
+    fn spread(&mut self, cells: &[PlaceCell], side: Side) {
+        self.loads.fill(0);
+        for cell in cells {
+            let k = cell.start.saturating_sub(1) as usize;
+            if k < self.loads.len() {
+                self.loads[k] = signed(side, cell.load.count());
+            }
+        }
+    }
+
+    /// Spreads 1 over the starts of intervention `i` at which its run meets a window in a season.
+    fn spread_meetings(&mut self, inst: &Instance, season: u32, window: Window, i: u32)
+        requires season { season < length inst.now.season_names }
+        requires horizon { IsInHorizon inst.now window }
+        requires number { i < length inst.now.names }
+    {
+        self.loads.fill(0);
+        for s in 1..inst.periods() + 1 {
+            let k = s as usize - 1;
+            if k < self.loads.len() && meets_at(inst, season, window, i, s) {
+                self.loads[k] = 1;
+            }
+        }
+    }
+
+    /// Notes intervention `i`, of which the loads are spread, where it may become a member.
+    fn note(&mut self, view: &View<'_>, i: u32) -> Result<(), AllocError> {
+        let Some(span) = view.boxes.spans().get(i as usize) else {
+            return Ok(());
+        };
+        let from = span.from.saturating_sub(1) as usize;
+        let past = span.to.min(512) as usize;
+        let at = view.plan.start(i).saturating_sub(1) as usize;
+        let prices = view.table.row(i);
+        if let Some(member) = member_of(i, prices, &self.loads, from, past, at) {
+            self.members.push(member)?;
+        }
+        Ok(())
+    }
+
+    /// Notes all interventions that have a load in a place.
+    fn note_all(&mut self, view: &View<'_>, place: usize, side: Side) -> Result<(), AllocError> {
+        self.members.clear();
+        let mut rest = view.cells.of_place(place);
+        while let Some((i, own, others)) = split_first(rest) {
+            self.spread(own, side);
+            self.note(view, i)?;
+            rest = others;
+        }
+        Ok(())
+    }
+}
+
+/// A load, or that with the other sign for a lower limit.
+fn signed(side: Side, load: i128) -> i128 {
+    match side {
+        Side::Over => load,
+        Side::Under => 0i128.saturating_sub(load),
+    }
+}
+
+/// The limit that a load leaves.
+fn side_off(inst: &Instance, c: u32, t: u32, load: i128) -> Option<Side>
+    requires resource { c < length inst.now.resource_names }
+    requires from { 1 ≤ t }
+    requires to { t ≤ inst.now.periods }
+{
+    if inst.upper(c, t) < load {
+        Some(Side::Over)
+    } else if load < inst.lower(c, t) {
+        Some(Side::Under)
+    } else {
+        None
+    }
+}
+
+/// How much more load the limit of a side leaves room for, where all interventions have their least loads, or for a
+/// lower limit their greatest ones.
+fn room_of(view: &View<'_>, c: u32, t: u32, side: Side) -> i128
+    requires resource { c < length view.now.inst.now.resource_names }
+    requires from { 1 ≤ t }
+    requires to { t ≤ view.now.inst.now.periods }
+{
+    let inst = view.inst;
+    let boxes = view.boxes;
+    match side {
+        Side::Over => inst
+            .upper(c, t)
+            .saturating_sub(boxes.least_load(inst, c, t)),
+        Side::Under => boxes
+            .greatest_load(inst, c, t)
+            .saturating_sub(inst.lower(c, t)),
+    }
+}
+
+/// Whether the run of intervention `i` at start `s`, where that is allowed, meets a window in a season.
+fn meets_at(inst: &Instance, season: u32, window: Window, i: u32, s: u32) -> bool
+    requires season { season < length inst.now.season_names }
+    requires horizon { IsInHorizon inst.now window }
+    requires number { i < length inst.now.names }
+{
+    inst.allowed(i, s) && meets_in(inst, season, window, run(inst, i, s)).is_some()
+}
+
+/// The run of intervention `i` in the plan, where its start is allowed.
+fn run_in(view: &View<'_>, i: u32) -> Option<Window>
+    requires { i < length view.now.inst.now.names }
+    ensures { IfSome result (IsInHorizon view.now.inst.now) }
+{
+    let s = view.plan.start(i);
+    if !view.inst.allowed(i, s) {
+        return None;
+    }
+    Some(run(view.inst, i, s))
+}
+
+/// Looks at the band of resource `c` in period `t`.
+fn look_at_band(
+    view: &View<'_>,
+    room: &mut Room,
+    c: u32,
+    t: u32,
+    seen: &mut Seen,
+) -> Result<(), AllocError>
+    requires resource { c < length view.now.inst.now.resource_names }
+    requires from { 1 ≤ t }
+    requires to { t ≤ view.now.inst.now.periods }
+{
+    let place = place_of(view.inst, c, t);
+    let Some(side) = side_off(view.inst, c, t, view.plan.load(place)) else {
+        return Ok(());
+    };
+    room.note_all(view, place, side)?;
+    seen.take(cover_of(&mut room.members, room_of(view, c, t, side)));
+    Ok(())
+}
+
+/// Looks at the bands of resource `c`.
+fn look_at_bands_of(
+    view: &View<'_>,
+    room: &mut Room,
+    c: u32,
+    seen: &mut Seen,
+) -> Result<(), AllocError>
+    requires { c < length view.now.inst.now.resource_names }
+{
+    for t in 1..view.inst.periods() + 1 {
+        look_at_band(view, room, c, t, seen)?;
+    }
+    Ok(())
+}
+
+fn look_at_bands(view: &View<'_>, room: &mut Room, seen: &mut Seen) -> Result<(), AllocError> {
+    for c in 0..view.inst.resources() {
+        look_at_bands_of(view, room, c, seen)?;
+    }
+    Ok(())
+}
+
+/// Looks at exclusion `e`: both of its interventions are needed for a cover, where they can leave each other.
+fn look_at_exclusion(
+    view: &View<'_>,
+    room: &mut Room,
+    e: u32,
+    seen: &mut Seen,
+) -> Result<(), AllocError>
+    requires { e < length view.now.inst.now.exclusion_names }
+{
+    let inst = view.inst;
+    let exclusion = inst.exclusion(e);
+    let Some(first) = run_in(view, exclusion.first) else {
+        return Ok(());
+    };
+    let Some(second) = run_in(view, exclusion.second) else {
+        return Ok(());
+    };
+    if meets_in(inst, exclusion.season, first, second).is_none() {
+        return Ok(());
+    }
+    room.members.clear();
+    room.spread_meetings(inst, exclusion.season, second, exclusion.first);
+    room.note(view, exclusion.first)?;
+    room.spread_meetings(inst, exclusion.season, first, exclusion.second);
+    room.note(view, exclusion.second)?;
+    let count = room.members.len();
+    seen.take(cover_of(&mut room.members, count as i128 - 1));
+    Ok(())
+}
+
+fn look_at_exclusions(view: &View<'_>, room: &mut Room, seen: &mut Seen) -> Result<(), AllocError> {
+    for e in 0..view.inst.exclusions() {
+        look_at_exclusion(view, room, e, seen)?;
+    }
+    Ok(())
+}
+
+/// Looks at all bands and exclusions.
+pub(crate) fn look(view: &View<'_>, room: &mut Room) -> Result<Seen, AllocError> {
+    let mut seen = Seen {
+        is_broken: false,
+        cover: None,
+    };
+    look_at_bands(view, room, &mut seen)?;
+    look_at_exclusions(view, room, &mut seen)?;
+    Ok(seen)
+}
