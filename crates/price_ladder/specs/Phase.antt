@@ -39,13 +39,14 @@ AreSpots inst spots = All (IsSpot inst) spots
 
 -- each array is as long as it should be, and what they name is there
 pub record IsAscent (inst : Tables) (bases : ℕ) (works : List Work) (bands : ℕ) (spots : List Spot)
-    (burdens entries : ℕ) (choice : List ℕ) (chosen busy : ℕ) : Type 0 where
+    (charges burdens entries : ℕ) (choice : List ℕ) (chosen busy : ℕ) : Type 0 where
   pub each_base : bases ≡ start_count inst
-  pub works : AreWorks inst works
+  pub each_work : AreWorks inst works
   pub each_band : bands ≡ band_count inst
-  pub spots : AreSpots inst spots
+  pub each_spot : AreSpots inst spots
+  pub each_charge : charges ≡ length spots
   pub each_burden : burdens ≡ start_count inst
   pub each_entry : entries ≡ start_count inst
-  pub choice : AreAllowedStarts inst choice
+  pub each_choice : AreAllowedStarts inst choice
   pub each_chosen : chosen ≡ start_count inst
   pub each_busy : busy ≡ start_count inst

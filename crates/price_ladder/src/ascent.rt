@@ -15,11 +15,12 @@ use crate::band::{
     Band, bands_of, fixed_of_bands, keep_bands, move_bands, pull_bands, squares_of_bands,
     take_back_bands,
 };
+use crate::number::Number;
 use crate::spot::{
-    Spot, fixed_of_spots, keep_spots, move_spots, note_burdens, pull_spots, put_spots,
-    squares_of_spots, take_back_spots,
+    Spot, charges_of, fixed_of_charges, keep_charges, move_charges, note_burdens, pull_charges,
+    put_spots, squares_of_charges, take_back_charges,
 };
-use crate::start_place::{band_place, start_place};
+use crate::start_place::{band_place, period_place, start_place};
 use crate::work::{Work, add_rates, all_works, mean_load, note_loads};
 use duration_calendar::run;
 use instance_model::Instance;
@@ -37,6 +38,8 @@ pub(crate) struct Ascent<'a> {
     /// By resource, then period.
     bands: Vec<Band>,
     spots: Vec<Spot>,
+    /// The prices of exclusions, by spot.
+    charges: Vec<Number>,
     /// How strongly the prices of exclusions are pulled.
     weight: i64,
     /// By intervention, then period: what the prices of exclusions add.
@@ -62,19 +65,16 @@ impl<'a> Model for Ascent<'a> {
     ghost view = { λ a. a.inst.now };
 
     ghost invariant = { λ a. IsAscent a.inst.now (length a.bases.items) a.works.items (length a.bands.items)
-        a.spots.items (length a.burdens.items) (length a.entries.items) a.choice.items (length a.chosen.items)
-        (length a.busy.items) };
+        a.spots.items (length a.charges.items) (length a.burdens.items) (length a.entries.items) a.choice.items
+        (length a.chosen.items) (length a.busy.items) };
 }
 
 /// An amount in parts of 10^-12.
-fn coarse_base(base: i128) -> i64
-    requires { unsigned_abs base < 10 ^ 30 }
-{
+fn coarse_base(base: i128) -> i64 {
     (base / 1_000_000).clamp(-1_000_000_000_000_000_000, 1_000_000_000_000_000_000) as i64
 }
 
 fn coarse_bases(alloc: Global, bases: &[i128]) -> Result<Vec<i64>, AllocError>
-    requires { All (λ z. unsigned_abs z < 10 ^ 30) bases.now }
     ensures { IfOk result (λ coarse. length coarse.items ≡ length bases.now) }
 {
     let mut coarse = Vec::with_capacity(alloc, bases.len())?;
@@ -93,7 +93,7 @@ fn burden_of(inst: &Instance, burdens: &[i64], i: u32, s: u32) -> i64
     let window = run(inst, i, s);
     let mut sum: i64 = 0;
     for t in window.from..window.past {
-        sum = sum.saturating_add(burdens[start_place(inst, i, t)]);
+        sum = sum.saturating_add(burdens[period_place(inst, i, t)]);
     }
     sum
 }
@@ -114,6 +114,16 @@ fn add_burdens_of(inst: &Instance, entries: &mut [i64], burdens: &[i64], i: u32)
     }
 }
 
+/// Adds the burdens to the prices of all starts.
+fn add_burdens(inst: &Instance, entries: &mut [i64], burdens: &[i64])
+    requires entries { length entries.old ≡ length inst.now.names * inst.now.periods }
+    requires burdens { length burdens.now ≡ length inst.now.names * inst.now.periods }
+{
+    for i in 0..inst.interventions() {
+        add_burdens_of(inst, entries, burdens, i);
+    }
+}
+
 /// The first start of intervention `i` of least price, sought from an allowed start on.
 fn cheapest(inst: &Instance, entries: &[i64], i: u32, allowed: u32) -> u32
     requires each { length entries.now ≡ length inst.now.names * inst.now.periods }
@@ -125,13 +135,65 @@ fn cheapest(inst: &Instance, entries: &[i64], i: u32, allowed: u32) -> u32
     let mut best = allowed;
     let mut least = entries[start_place(inst, i, allowed)];
     for s in 1..inst.tmax(i) + 1 {
-        let price = entries[start_place(inst, i, s)];
-        if price < least && inst.allowed(i, s) {
-            best = s;
-            least = price;
+        if inst.allowed(i, s) {
+            let price = entries[start_place(inst, i, s)];
+            if price < least {
+                best = s;
+                least = price;
+            }
         }
     }
     best
+}
+
+/// Chooses a start of least price for each intervention.
+fn choose(inst: &Instance, entries: &[i64], choice: &mut Vec<u32>)
+    requires each { length entries.now ≡ length inst.now.names * inst.now.periods }
+    requires choice { AreAllowedStarts inst.now choice.old.items }
+    ensures { AreAllowedStarts inst.now choice.new.items }
+{
+    for i in 0..inst.interventions() {
+        choice[i as usize] = cheapest(inst, entries, i, choice[i as usize]);
+    }
+}
+
+/// The sum of the prices of these starts.
+fn least_sum(inst: &Instance, entries: &[i64], choice: &[u32]) -> i64
+    requires each { length entries.now ≡ length inst.now.names * inst.now.periods }
+    requires choice { AreAllowedStarts inst.now choice.now }
+{
+    let mut sum: i64 = 0;
+    for i in 0..inst.interventions() {
+        sum = sum.saturating_add(entries[start_place(inst, i, choice[i as usize])]);
+    }
+    sum
+}
+
+/// Notes that intervention `i` begins at start `s`, and in which periods it is in progress then.
+fn note_start(inst: &Instance, i: u32, s: u32, chosen: &mut [bool], busy: &mut [bool])
+    requires chosen { length chosen.old ≡ length inst.now.names * inst.now.periods }
+    requires busy { length busy.old ≡ length inst.now.names * inst.now.periods }
+    requires number { i < length inst.now.names }
+    requires allowed { IsTrue (is_allowed inst.now i s) }
+{
+    chosen[start_place(inst, i, s)] = true;
+    let window = run(inst, i, s);
+    for t in window.from..window.past {
+        busy[period_place(inst, i, t)] = true;
+    }
+}
+
+/// Notes which starts are chosen, and in which periods each intervention is in progress then.
+fn note_choice(inst: &Instance, choice: &[u32], chosen: &mut [bool], busy: &mut [bool])
+    requires chosen { length chosen.old ≡ length inst.now.names * inst.now.periods }
+    requires busy { length busy.old ≡ length inst.now.names * inst.now.periods }
+    requires choice { AreAllowedStarts inst.now choice.now }
+{
+    chosen.fill(false);
+    busy.fill(false);
+    for i in 0..inst.interventions() {
+        note_start(inst, i, choice[i as usize], chosen, busy);
+    }
 }
 
 /// How far the greatest base of intervention `i` is above the least.
@@ -165,7 +227,6 @@ impl<'a> Ascent<'a> {
     ) -> Result<Ascent<'a>, AllocError>
         requires prices { IsPriceList inst.now prices.now }
         requires each { length bases.now ≡ length inst.now.names * inst.now.periods }
-        requires bases { All (λ z. unsigned_abs z < 10 ^ 30) bases.now }
         requires spots { AreSpots inst.now spots.items }
         requires starts { AreAllowedStarts inst.now starts.now }
         ensures { IfOk result (λ ascent. ascent ≡ inst.now) }
@@ -179,6 +240,7 @@ impl<'a> Ascent<'a> {
             weight: mean_load(works.as_slice()),
             works,
             bands: bands_of(alloc, inst, prices)?,
+            charges: charges_of(alloc, inst, prices, spots.as_slice())?,
             spots,
             burdens: vec![in alloc; 0; count]?,
             entries: vec![in alloc; 0; count]?,
@@ -187,45 +249,38 @@ impl<'a> Ascent<'a> {
             busy: vec![in alloc; false; count]?,
             worth: 0,
         };
-        ascent.price();
+        ascent.settle();
         Ok(ascent)
     }
 
-    /// Chooses a start of least price for intervention `i`, and answers that price.
-    fn choose(&mut self, i: u32) -> i64
-        requires { i < length self.old.names }
+    /// Computes the prices of all starts.
+    fn price_starts(&mut self)
         ensures { self.new ≡ self.old }
     {
-        let inst = self.inst;
-        let s = cheapest(inst, self.entries.as_slice(), i, self.choice[i as usize]);
-        self.choice[i as usize] = s;
-        let place = start_place(inst, i, s);
-        self.chosen[place] = true;
-        let window = run(inst, i, s);
-        for t in window.from..window.past {
-            self.busy[start_place(inst, i, t)] = true;
-        }
-        self.entries[place]
-    }
-
-    /// Computes the prices of all starts, a start of least price for each intervention, the loads of these and the
-    /// worth.
-    fn price(&mut self)
-        ensures { self.new ≡ self.old }
-    {
-        let inst = self.inst;
-        note_burdens(&mut self.burdens, &self.spots);
+        note_burdens(&mut self.burdens, &self.spots, &self.charges);
         self.entries.copy_from_slice(self.bases.as_slice());
         add_rates(&mut self.entries, &self.bands, &self.works);
-        self.chosen.fill(false);
-        self.busy.fill(false);
-        let mut worth = fixed_of_bands(&self.bands).saturating_add(fixed_of_spots(&self.spots));
-        for i in 0..inst.interventions() {
-            add_burdens_of(inst, &mut self.entries, &self.burdens, i);
-            worth = worth.saturating_add(self.choose(i));
-        }
+        add_burdens(self.inst, &mut self.entries, &self.burdens);
+    }
+
+    /// Chooses a start of least price for each intervention, and computes the loads of these.
+    fn choose_starts(&mut self)
+        ensures { self.new ≡ self.old }
+    {
+        choose(self.inst, &self.entries, &mut self.choice);
+        note_choice(self.inst, &self.choice, &mut self.chosen, &mut self.busy);
         note_loads(&mut self.bands, &self.chosen, &self.works);
-        self.worth = worth;
+    }
+
+    /// Computes what follows from the prices.
+    fn settle(&mut self)
+        ensures { self.new ≡ self.old }
+    {
+        self.price_starts();
+        self.choose_starts();
+        self.worth = least_sum(self.inst, &self.entries, &self.choice)
+            .saturating_add(fixed_of_bands(&self.bands))
+            .saturating_add(fixed_of_charges(&self.charges));
     }
 
     /// Moves all prices towards a worth that is greater by `gap`. Whether any is pulled.
@@ -233,13 +288,14 @@ impl<'a> Ascent<'a> {
         ensures { self.new ≡ self.old }
     {
         pull_bands(&mut self.bands);
-        pull_spots(&mut self.spots, &self.busy, self.weight);
-        let squares =
-            squares_of_bands(&self.bands).saturating_add(squares_of_spots(&self.spots));
+        pull_charges(&mut self.charges, &self.spots, &self.busy, self.weight);
+        let squares = squares_of_bands(&self.bands).saturating_add(squares_of_charges(
+            &self.charges,
+        ));
         let way = i128::from(gap);
         move_bands(&mut self.bands, way, squares);
-        move_spots(
-            &mut self.spots,
+        move_charges(
+            &mut self.charges,
             way.saturating_mul(i128::from(self.weight)),
             squares,
         );
@@ -250,15 +306,15 @@ impl<'a> Ascent<'a> {
         ensures { self.new ≡ self.old }
     {
         keep_bands(&mut self.bands);
-        keep_spots(&mut self.spots);
+        keep_charges(&mut self.charges);
     }
 
     fn take_back(&mut self)
         ensures { self.new ≡ self.old }
     {
         take_back_bands(&mut self.bands);
-        take_back_spots(&mut self.spots);
-        self.price();
+        take_back_charges(&mut self.charges);
+        self.settle();
     }
 
     /// The sum of how far the greatest base of each intervention is above the least.
@@ -280,7 +336,7 @@ impl<'a> Ascent<'a> {
             if !self.go(aim.gap(self.worth)) {
                 return;
             }
-            self.price();
+            self.settle();
             match aim.take(self.worth) {
                 Outcome::Best => self.keep(),
                 Outcome::Lower => {}
@@ -298,7 +354,7 @@ impl<'a> Ascent<'a> {
         for c in 0..inst.resources() {
             put_bands_of(inst, prices, self.bands.as_slice(), c);
         }
-        put_spots(alloc, inst, prices, self.spots.as_slice())
+        put_spots(alloc, inst, prices, &self.spots, &self.charges)
     }
 }
 

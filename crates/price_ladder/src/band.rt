@@ -44,7 +44,7 @@ impl Band {
 
     /// What the prices add for each unit of load.
     pub(crate) fn rate(self) -> i64 {
-        self.upper.value() - self.lower.value()
+        self.upper.value().saturating_sub(self.lower.value())
     }
 
     /// What they add whatever the load is.

@@ -39,7 +39,7 @@ fn exclusion_total(inst: &Instance, prices: &Prices) -> u64
     inst.fits();
     let mut total = 0;
     for x in prices.ex_prices() {
-        total += u64::from(x.value);
+        total += x.value as u64;
     }
     total
 }
@@ -49,5 +49,6 @@ pub(crate) fn is_small(inst: &Instance, prices: &Prices) -> bool
     requires { IsPriceList inst.now prices.now }
     ensures { IsTrue result ↔ ((price_total prices.now ≤ 40_000_000_000) × (length prices.now.ex ≤ 400)) }
 {
-    limit_total(inst, prices) + exclusion_total(inst, prices) <= MOST && prices.ex_prices().len() <= FEW
+    limit_total(inst, prices) + exclusion_total(inst, prices) <= MOST
+        && prices.ex_prices().len() <= FEW
 }

@@ -76,6 +76,7 @@ fn price_at(inst: &Instance, prices: &Prices, k: u32) -> i128
     requires within { k < length inst.now.names * inst.now.periods }
     ensures value { IsTrue (is_allowed inst.now (k / inst.now.periods) (k % inst.now.periods + 1)) →
         result ≡ price_at inst.now prices.now (k / inst.now.periods) (k % inst.now.periods + 1) }
+    ensures small { unsigned_abs result < 10 ^ 34 }
 {
     let periods = inst.periods();
     let i = k / periods;

@@ -3,6 +3,7 @@
 ghost use Rattle.std.specs.Prelude.{IfOk, OnOk};
 ghost use Rattle.instance_model.specs.Plans.{AreAllowedStarts};
 ghost use Rattle.lagrange_bound.specs.Prices.{IsPriceList};
+ghost use Rattle.price_ladder.specs.Phase.{AreSpots};
 ghost use Rattle.price_ladder.specs.Beside.{IsWhole};
 
 use crate::ascent::Ascent;
@@ -16,11 +17,11 @@ use std::alloc::{AllocError, Global};
 /// How many rounds an ascent has.
 const ROUNDS: u32 = 400;
 
-/// The share of the range of bases by which the first ascent aims above the worth at first.
-const WIDE: i64 = 10;
+/// How far above the worth the first ascent aims at first, in thousandths of the range of bases.
+const WIDE: i64 = 100;
 
-/// That of the second one, which goes on from where the first one ended.
-const NARROW: i64 = 1000;
+/// The same of the second one, which goes on from where the first one ended.
+const NARROW: i64 = 1;
 
 /// Switches each tail of a plan that gains.
 fn switch_tails(
@@ -42,18 +43,19 @@ fn switch_tails(
     Ok(())
 }
 
-/// An ascent from a list with these prices of exclusions, which first aims above its worth by a share of the range of
-/// bases.
+/// An ascent from a list, in which these exclusions may get prices. It first aims above the worth by so many thousandths
+/// of the range of bases.
 fn ascend(
     alloc: Global,
     inst: &Instance,
     starts: &[u32],
     kept: Kept,
     spots: Vec<Spot>,
-    share: i64,
+    thousandths: i64,
 ) -> Result<Kept, AllocError>
     requires prices { IsPriceList inst.now kept.prices }
     requires kept { IsWhole inst.now kept }
+    requires spots { AreSpots inst.now spots.items }
     requires starts { AreAllowedStarts inst.now starts.now }
     ensures in_range { IfOk result (λ new. IsPriceList inst.now new.prices) }
     ensures kept { IfOk result (IsWhole inst.now) }
@@ -66,7 +68,8 @@ fn ascend(
         spots,
         starts,
     )?;
-    ascent.ascend(ROUNDS, ascent.range() / share);
+    let above = (ascent.range() / 1000).saturating_mul(thousandths);
+    ascent.ascend(ROUNDS, above);
     let mut prices = kept.prices;
     ascent.put(alloc, &mut prices)?;
     whole(alloc, inst, prices, starts)

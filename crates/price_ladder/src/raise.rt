@@ -14,7 +14,11 @@ use std::alloc::{AllocError, Global};
 
 /// The ladder from the list of the first phase, where that isn't below the list of zeros, and what the ladder leads to
 /// isn't too large.
-fn raise_further(alloc: Global, inst: &Instance, starts: &[u32]) -> Result<Option<Prices>, AllocError>
+fn raise_further(
+    alloc: Global,
+    inst: &Instance,
+    starts: &[u32],
+) -> Result<Option<Prices>, AllocError>
     requires { AreAllowedStarts inst.now starts.now }
     ensures in_range { IfOk result (λ found. IfSome found (IsPriceList inst.now)) }
     ensures raised { IfOk result (λ found. IfSome found (IsRaised inst.now starts.now)) }
@@ -45,9 +49,9 @@ fn raise_from_zeros(alloc: Global, inst: &Instance, starts: &[u32]) -> Result<Pr
     ensures small { IfOk result (λ prices. price_total prices ≤ 40_000_000_000) }
     ensures few_exclusions { IfOk result (λ prices. length prices.ex ≤ 400) }
 {
-    let mut kept = zeros(alloc, inst, starts)?;
-    climb(alloc, inst, starts, &mut kept)?;
-    Ok(kept.prices)
+    let mut zero = zeros(alloc, inst, starts)?;
+    climb(alloc, inst, starts, &mut zero)?;
+    Ok(zero.prices)
 }
 
 /// A list that is raised for a plan, given by one allowed start for each intervention. Fast: a first phase seeks a list

@@ -1,6 +1,8 @@
 //! The workloads of all starts in one list, which is walked twice in each round of the first phase.
-ghost use Rattle.std.specs.Prelude.{◌≡◌, ◌*◌, ◌<◌, length, All, IfOk, OnOk};
-ghost use Rattle.price_ladder.specs.Phase.{IsWork, AreWorks};
+ghost use Rattle.std.specs.Prelude.{◌<◌, length, All, IfOk, OnOk, IsTrue};
+ghost use Rattle.instance_model.specs.Tables.{is_allowed};
+ghost use Rattle.lagrange_bound.specs.Changes.{IsBandPlace};
+ghost use Rattle.price_ladder.specs.Phase.{start_count, band_count, IsWork, AreWorks};
 
 use crate::band::{Band, coarse};
 use crate::start_place::{band_place, start_place};
@@ -15,6 +17,21 @@ pub(crate) struct Work {
     load: i64,
 }
 
+impl Work {
+    fn new(inst: &Instance, i: u32, cell: &LoadCell) -> Work
+        requires number { i < length inst.now.names }
+        requires allowed { IsTrue (is_allowed inst.now i cell.now.start) }
+        requires place { IsBandPlace inst.now cell.now.resource cell.now.period }
+        ensures { IsWork (start_count inst.now) (band_count inst.now) result }
+    {
+        Work {
+            start: start_place(inst, i, cell.start),
+            band: band_place(inst, cell.resource, cell.period),
+            load: coarse(cell.load.count()),
+        }
+    }
+}
+
 /// The workloads of intervention `i`, behind those that there are.
 fn push_works(inst: &Instance, i: u32, works: &mut Vec<Work>) -> Result<(), AllocError>
     requires number { i < length inst.now.names }
@@ -22,11 +39,7 @@ fn push_works(inst: &Instance, i: u32, works: &mut Vec<Work>) -> Result<(), Allo
     ensures { OnOk result (AreWorks inst.now works.new.items) }
 {
     for cell in inst.workloads(i) {
-        works.push(Work {
-            start: start_place(inst, i, cell.start),
-            band: band_place(inst, cell.resource, cell.period),
-            load: coarse(cell.load.count()),
-        })?;
+        works.push(Work::new(inst, i, cell))?;
     }
     Ok(())
 }
