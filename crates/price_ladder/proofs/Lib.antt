@@ -10,8 +10,10 @@ pub mod ScanLemmas
 pub mod ClimbLemmas
 pub mod PlainLemmas
 pub mod WeightLemmas
+pub mod BudgetLemmas
 pub mod ChangeLemmas
 pub mod ChoiceLemmas
 pub mod KeptLemmas
 pub mod TailBaseLemmas
 pub mod KeptWorthLemmas
+pub mod PhaseLemmas

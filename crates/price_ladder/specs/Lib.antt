@@ -7,3 +7,4 @@ pub mod Tried
 pub mod Weights
 pub mod Kept
 pub mod Beside
+pub mod Phase

@@ -5,12 +5,13 @@ ghost use Rattle.instance_model.specs.Tables.{is_allowed};
 ghost use Rattle.lagrange_bound.specs.Prices.{IsPriceList};
 ghost use Rattle.lagrange_bound.specs.Goals.{risk_base};
 ghost use Rattle.price_ladder.specs.Places.{IsPlace};
+ghost use Rattle.price_ladder.specs.Weights.{price_at};
 ghost use Rattle.price_ladder.specs.Kept.{kept_at, AreValues, AreSmall, more_of, shifted_of};
 
 use crate::Place;
 use crate::weight::weight;
 use instance_model::Instance;
-use lagrange_bound::{Goal, Prices, RiskGoal};
+use lagrange_bound::{Goal, Prices, RiskGoal, price};
 use std::alloc::{AllocError, Global};
 
 /// The number that is kept for start `s` of intervention `i`.
@@ -65,6 +66,41 @@ pub(crate) fn all_bases(
     let mut entries = Vec::with_capacity(alloc, count as usize)?;
     for k in 0..count {
         entries.push(base_at(inst, prices, k))?;
+    }
+    Ok(entries)
+}
+
+/// The price of the start at a place, or 0 where it isn't allowed.
+fn price_at(inst: &Instance, prices: &Prices, k: u32) -> i128
+    requires prices { IsPriceList inst.now prices.now }
+    requires within { k < length inst.now.names * inst.now.periods }
+    ensures value { IsTrue (is_allowed inst.now (k / inst.now.periods) (k % inst.now.periods + 1)) →
+        result ≡ price_at inst.now prices.now (k / inst.now.periods) (k % inst.now.periods + 1) }
+    ensures small { unsigned_abs result < 10 ^ 34 }
+{
+    let periods = inst.periods();
+    let i = k / periods;
+    let s = k % periods + 1;
+    if !inst.allowed(i, s) {
+        return 0;
+    }
+    price(&RiskGoal, inst, prices, i, s)
+}
+
+/// The prices of all allowed starts.
+pub(crate) fn all_prices(
+    alloc: Global,
+    inst: &Instance,
+    prices: &Prices,
+) -> Result<Vec<i128>, AllocError>
+    requires { IsPriceList inst.now prices.now }
+    ensures { IfOk result (λ entries. AreValues inst.now (price_at inst.now prices.now) entries.items) }
+{
+    inst.fits();
+    let count = entry_count(inst);
+    let mut entries = Vec::with_capacity(alloc, count as usize)?;
+    for k in 0..count {
+        entries.push(price_at(inst, prices, k))?;
     }
     Ok(entries)
 }

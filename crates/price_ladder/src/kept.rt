@@ -3,16 +3,14 @@ ghost use Rattle.std.specs.Prelude.{◌≡◌, ◌*◌, ◌<◌, ◌≤◌, ◌�
 ghost use Rattle.instance_model.specs.Plans.{AreAllowedStarts};
 ghost use Rattle.lagrange_bound.specs.Prices.{PriceList, IsPriceList, IsTail, tail_of, zero_list};
 ghost use Rattle.lagrange_bound.specs.Changes.{with_tail};
-ghost use Rattle.lagrange_bound.specs.Worth.{price_total};
 ghost use Rattle.price_ladder.specs.Places.{IsPlace, IsWithValue};
-ghost use Rattle.price_ladder.specs.Raised.{root_worth, least_total, IsRaised};
+ghost use Rattle.price_ladder.specs.Raised.{root_worth};
 ghost use Rattle.price_ladder.specs.Tried.{IsTried};
 ghost use Rattle.price_ladder.specs.Kept.{AreSmall};
 ghost use Rattle.price_ladder.specs.Beside.{IsSettled, IsBeside, IsWhole};
 
 use crate::Place;
 use crate::choice::{entry_sum, least_starts, slope};
-use crate::climb::climb;
 use crate::entries::{all_bases, all_more, all_shifted};
 use crate::ladder::Ladder;
 use crate::place::{set_value, value_at};
@@ -26,22 +24,22 @@ use std::alloc::{AllocError, Global};
 
 /// What is kept beside a list and its bases.
 #[derive(Drop)]
-struct Beside {
+pub(crate) struct Beside {
     /// The prices of all starts, by intervention, then start.
-    entries: Vec<i128>,
+    pub(crate) entries: Vec<i128>,
     /// A start of least price for each intervention.
-    choice: Vec<u32>,
+    pub(crate) choice: Vec<u32>,
     /// What the prices add whatever the starts are.
-    fixed: i128,
-    worth: i128,
+    pub(crate) fixed: i128,
+    pub(crate) worth: i128,
 }
 
 /// A list with the bases of all starts and their prices.
 #[derive(Drop)]
-struct Kept {
-    prices: Prices,
-    bases: Vec<i128>,
-    beside: Beside,
+pub(crate) struct Kept {
+    pub(crate) prices: Prices,
+    pub(crate) bases: Vec<i128>,
+    pub(crate) beside: Beside,
 }
 
 /// What the worth of the list is at most with another number at a place. Takes a look at one start of each
@@ -61,7 +59,7 @@ fn worth_at_most(inst: &Instance, prices: &Prices, beside: &Beside, place: Place
 
 /// What is kept beside a list with these prices and this fixed part. The starts are where the search for those of
 /// least price begins.
-fn settle(
+pub(crate) fn settle(
     alloc: Global,
     inst: &Instance,
     entries: Vec<i128>,
@@ -108,7 +106,7 @@ fn beside_with(
 }
 
 /// What is kept at the list of zeros, for a plan.
-fn zeros(alloc: Global, inst: &Instance, starts: &[u32]) -> Result<Kept, AllocError>
+pub(crate) fn zeros(alloc: Global, inst: &Instance, starts: &[u32]) -> Result<Kept, AllocError>
     requires { AreAllowedStarts inst.now starts.now }
     ensures value { IfOk result (λ kept. kept.prices ≡ zero_list inst.now) }
     ensures in_range { IfOk result (λ kept. IsPriceList inst.now kept.prices) }
@@ -236,21 +234,4 @@ impl Ladder for Kept {
         }
         try_switch(alloc, inst, self, t, Some(own), None, target)
     }
-}
-
-/// A list that is raised for a plan, given by one allowed start for each intervention: from zeros, the first step in a
-/// fixed order that gains enough, until there is none. Fast: the prices of all starts are kept, and a step is looked at
-/// closely only where one start of least price for each intervention doesn't refuse it.
-pub fn raise_prices(alloc: Global, inst: &Instance, starts: &[u32]) -> Result<Prices, AllocError>
-    requires { AreAllowedStarts inst.now starts.now }
-    ensures in_range { IfOk result (IsPriceList inst.now) }
-    ensures raised { IfOk result (IsRaised inst.now starts.now) }
-    ensures not_below_zeros { IfOk result (λ prices. least_total inst.now ≤ℤ root_worth inst.now prices) }
-    ensures zeros { IfOk result (λ _. root_worth inst.now (zero_list inst.now) ≡ least_total inst.now) }
-    ensures small { IfOk result (λ prices. price_total prices ≤ 40_000_000_000) }
-    ensures few_exclusions { IfOk result (λ prices. length prices.ex ≤ 400) }
-{
-    let mut kept = zeros(alloc, inst, starts)?;
-    climb(alloc, inst, starts, &mut kept)?;
-    Ok(kept.prices)
 }

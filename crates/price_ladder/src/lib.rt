@@ -6,21 +6,32 @@
 //! count from 1. Worths are in parts of 10^-18.
 #![tactic(auto)]
 
+mod aim;
+mod ascent;
+mod band;
+mod budget;
 mod choice;
 mod climb;
 mod entries;
 mod kept;
 mod ladder;
 mod least_gain;
+mod number;
+mod phase;
 mod place;
 mod plain;
 mod plan_tail;
+mod raise;
 mod rebased;
 mod root;
 mod scan;
 mod sizes;
+mod spot;
+mod start_place;
 mod weight;
+mod whole;
+mod work;
 
-pub use kept::raise_prices;
 pub use place::Place;
 pub use plain::raise_plainly;
+pub use raise::raise_prices;

@@ -1,4 +1,6 @@
-//! Worked rows: the list that is raised for a plan, with its worth, on instances small enough to find them by hand.
+//! Worked rows: the list that the plain ladder raises for a plan, with its worth, on instances small enough to find them
+//! by hand. The fast ladder's list is one of several: its worth is at least as great here, and no greater than the least
+//! score of a plan.
 
 ghost use Rattle.instance_model.specs.Plans.{AreAllowedStarts};
 ghost use Rattle.lagrange_bound.specs.Prices.{IsPriceList};
@@ -122,13 +124,13 @@ fn row_of(
     })
 }
 
-/// The lists that the plain ladder and the fast one raise for a plan of these starts, where they are allowed; the latter
-/// is read off a clone.
+/// What the list has that the plain ladder raises for a plan of these starts, where they are allowed, and the worth of
+/// the list that the fast one raises, which is read off a clone.
 fn rows_of(
     alloc: Global,
     inst: &Instance,
     starts: &[u32],
-) -> Result<Option<(Row, Row)>, AllocError> {
+) -> Result<Option<(Row, i128)>, AllocError> {
     if !are_allowed(inst, starts) {
         return Ok(None);
     }
@@ -137,15 +139,23 @@ fn rows_of(
     let copy = fast.clone()?;
     Ok(Some((
         row_of(alloc, inst, &plain, starts)?,
-        row_of(alloc, inst, &copy, starts)?,
+        root_worth(alloc, inst, &copy, starts)?,
     )))
 }
 
 /// The same, on the instance of a text.
-fn raised(alloc: Global, text: &str, starts: &[u32]) -> Result<Option<(Row, Row)>, Fail> {
+fn raised(alloc: Global, text: &str, starts: &[u32]) -> Result<Option<(Row, i128)>, Fail> {
     let limits = Limits::standard();
     let inst = read_instance(alloc, &limits, Fixed::zero(), text.as_bytes())?;
     Ok(rows_of(alloc, &inst, starts)?)
+}
+
+/// Whether the row is that of the plain ladder, and the fast one's worth is no less, and at most `best`.
+fn are_as_wanted(rows: Option<(Row, i128)>, wanted: Row, best: i128) -> bool {
+    match rows {
+        Some((plain, fast)) => plain == wanted && wanted.worth <= fast && fast <= best,
+        None => false,
+    }
 }
 
 // g is 3 * 10^16 and 1 more. A step of 10^5 on the upper limit makes A and B cost 0.6 more each in period 1, and takes
@@ -161,7 +171,7 @@ fn full_resources_get_a_price(rt: HostRuntime) -> Result<(), Fail> {
         weight: 0,
         scenario: 0,
     };
-    assert_eq!(rt; rows, Some((wanted, wanted)));
+    assert!(rt; are_as_wanted(rows, wanted, 666_666_666_666_666_667), "{rows:?}");
     Ok(())
 }
 
@@ -178,7 +188,7 @@ fn exclusions_get_a_price(rt: HostRuntime) -> Result<(), Fail> {
         weight: 0,
         scenario: 0,
     };
-    assert_eq!(rt; rows, Some((wanted, wanted)));
+    assert!(rt; are_as_wanted(rows, wanted, 2 * ONE), "{rows:?}");
     Ok(())
 }
 
@@ -195,7 +205,7 @@ fn lower_limits_get_a_price(rt: HostRuntime) -> Result<(), Fail> {
         weight: 0,
         scenario: 0,
     };
-    assert_eq!(rt; rows, Some((wanted, wanted)));
+    assert!(rt; are_as_wanted(rows, wanted, 3 * ONE), "{rows:?}");
     Ok(())
 }
 
@@ -211,7 +221,7 @@ fn greatest_scenario_gets_the_tail(rt: HostRuntime) -> Result<(), Fail> {
         weight: 1000,
         scenario: 2,
     };
-    assert_eq!(rt; rows, Some((wanted, wanted)));
+    assert!(rt; are_as_wanted(rows, wanted, 1_500_000_000_000_000_000), "{rows:?}");
     Ok(())
 }
 
@@ -226,6 +236,6 @@ fn nothing_is_raised_without_interventions(rt: HostRuntime) -> Result<(), Fail> 
         weight: 0,
         scenario: 0,
     };
-    assert_eq!(rt; rows, Some((wanted, wanted)));
+    assert!(rt; are_as_wanted(rows, wanted, 0), "{rows:?}");
     Ok(())
 }
