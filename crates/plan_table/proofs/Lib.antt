@@ -1,0 +1,5 @@
+pub mod RangeLemmas
+pub mod FigureLemmas
+pub mod LineLemmas
+pub mod LawLemmas
+pub mod TextLemmas
