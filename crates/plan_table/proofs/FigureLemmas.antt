@@ -1,11 +1,10 @@
 -- The numbers of a period, as the code hands them on.
-use Rattle.std.proofs.Common.{◌≡◌, ℕ, ◌+◌, ◌-◌, ◌≤◌, ◌<◌, ◌^◌, refl, sym, ◌∙◌, ap, subst, arith, ℤ, pos, ◌+ℤ◌, ◌-ℤ◌, ◌*ℤ◌}
+use Rattle.std.proofs.Common.{◌≡◌, ℕ, ◌-◌, ◌≤◌, ◌^◌, refl, ◌∙◌, arith, ℤ, pos, ◌+ℤ◌, ◌-ℤ◌, ◌*ℤ◌}
 use Rattle.std.proofs.Common.{List, length, get_or, Option, unsigned_abs, int_cmp}
 use Rattle.std.specs.Prelude.{IsSorted, IsPermutation}
 use Rattle.std.specs.List.{All}
 use Rattle.std.specs.Int.{int_max}
 use Rattle.std.proofs.lemmas.List.Elements.{All-contains}
-use Rattle.fixed_num.specs.Sums.{total}
 use Rattle.fixed_num.specs.Floors.{floor_of, ceil_of}
 use Rattle.fixed_num.specs.Rank.{mth_smallest}
 use Rattle.fixed_num.proofs.Bits.{by_bits}
@@ -77,8 +76,14 @@ pub excess_is : (inst : Tables) (plan : List (Option ℕ)) (t n : ℕ) (q sum e 
 unfolding excess_in
 excess_is inst plan t n q sum e en eq sq es ss h =
     h
-    ∙ rw (back_from_abs q (omega (arith, sq.small)), back_from_abs sum (omega (arith, ss)), en, eq, es,
-    length-scenario_sums inst plan t) refl
+    ∙ rw (
+      back_from_abs q (omega (arith, sq.small)),
+      back_from_abs sum (omega (arith, ss)),
+      en,
+      eq,
+      es,
+      length-scenario_sums inst plan t,
+    ) refl
 
 -- and its two sides
 pub excess_low_is : (inst : Tables) (plan : List (Option ℕ)) (t n soft : ℕ) (e z : ℤ) → e ≡ excess_of inst plan t

@@ -1,7 +1,6 @@
 -- What the reports of all periods say together.
-use Rattle.std.proofs.Common.{◌≡◌, ℕ, zero, suc, ◌+◌, ◌-◌, ◌≤◌, ◌<◌, refl, sym, ◌∙◌, ap, subst, arith, ℤ, pos, ◌+ℤ◌, ◌-ℤ◌}
-use Rattle.std.proofs.Common.{◌≤ℤ◌, Bool, true, false, cond, int_lt, ◌&&◌, List, [], length, map, Option, Some, get_or}
-use Rattle.std.specs.List.{All, range_with_len}
+use Rattle.std.proofs.Common.{◌≡◌, ℕ, zero, suc, ◌+◌, ◌<◌, refl, sym, ◌∙◌, ap, arith, ℤ, pos, ◌+ℤ◌, ◌-ℤ◌}
+use Rattle.std.proofs.Common.{◌≤ℤ◌, Bool, true, false, cond, int_lt, ◌&&◌, List, length, map, Option, Some, get_or}
 use Rattle.std.proofs.lemmas.List.Elements.{All-same}
 use borrow.Author.Differences.{lt-false, false_is_lt, le_out, at_most_in}
 use Rattle.fixed_num.specs.Sums.{sum_below}
@@ -11,8 +10,8 @@ use Rattle.fixed_num.proofs.SumLemmas.{sum_below-zero, sum_below-suc, sum_below_
 use Rattle.instance_model.specs.Naturals.{count_sum, ceil_div_of}
 use Rattle.instance_model.specs.Tables.{Tables, scenarios_of, upper_of, lower_of, in_season_of, exclusion_of}
 use Rattle.instance_model.specs.Plans.{AreAllowedStarts, HasAllowedStart, is_running, load_sum, soft_count}
-use Rattle.instance_model.specs.Rules.{IsFeasible, KeepsRules, IsWithinBand, KeepsApart, clashes}
-use Rattle.instance_model.specs.Values.{risk_total, excess_of, sum_of_floors, sum_of_ceils, mean_slack, excess_floors}
+use Rattle.instance_model.specs.Rules.{IsWithinBand, KeepsApart, clashes}
+use Rattle.instance_model.specs.Values.{risk_total, sum_of_floors, sum_of_ceils, mean_slack, excess_floors}
 use Rattle.instance_model.specs.Values.{excess_ceils}
 use Rattle.instance_model.proofs.BoardLemmas.{start_of-starts}
 use Rattle.instance_model.proofs.RuleLemmas.{KeepsRules-from, IsFeasible-from}
@@ -20,8 +19,8 @@ use Rattle.plan_score.specs.Values.{values_of}
 use Rattle.plan_table.specs.declared.report.PeriodReport.{PeriodReport}
 use Rattle.plan_table.specs.declared.report.LoadLine.{LoadLine}
 use Rattle.plan_table.specs.declared.report.LoadState.TheVariants.{Fits, Over, Under}
-use Rattle.plan_table.specs.Reports.{load_state_of, load_line_of, load_lines_of, clashes_in, IsReport}
-use Rattle.plan_table.specs.Laws.{AreReports, ShowsNoFault, NoFaultMeansFeasible, AreShares, ValuesAreShares}
+use Rattle.plan_table.specs.Reports.{load_state_of, load_line_of, load_lines_of, IsReport}
+use Rattle.plan_table.specs.Laws.{AreReports, ShowsNoFault, NoFaultMeansFeasible, ValuesAreShares}
 use Rattle.plan_table.proofs.RangeLemmas.{none_passes, all_fail, All-made, each_made}
 
 -- ---- a load fits exactly where it is within its limits

@@ -1,6 +1,6 @@
 -- The lines of a report, as the code makes them.
-use Rattle.std.proofs.Common.{◌≡◌, ℕ, ◌+◌, ◌-◌, ◌≤◌, ◌<◌, ◌^◌, refl, sym, ◌∙◌, ap, subst, arith, ℤ, pos, Bool, true, false}
-use Rattle.std.proofs.Common.{int_lt, ◌&&◌, List, Option, unsigned_abs, cond, to_z, length, map, Some, get_or}
+use Rattle.std.proofs.Common.{◌≡◌, ℕ, ◌+◌, ◌-◌, ◌≤◌, ◌<◌, ◌^◌, refl, sym, ◌∙◌, arith, ℤ, Bool, true, false}
+use Rattle.std.proofs.Common.{int_lt, ◌&&◌, List, Option, unsigned_abs, to_z, length, map, Some, get_or}
 use Rattle.std.proofs.Common.{Result, Ok, Err, IfOk}
 use Rattle.std.specs.Int.{w128}
 use Rattle.std.proofs.lemmas.List.Elements.{All-same, All-map, All-weaker}
@@ -86,7 +86,8 @@ unfolding clashes
 clash_known inst plan e t x a b d ex ea eb ed = rw (ea, eb, ed, ex) refl
 
 -- by what the code has found out when it stops
-module _ (inst : Tables) (plan : List (Option ℕ)) (e t : ℕ) (x : Exclusion) (a b d : Bool) (ex : x ≡ exclusion_of inst e)
+module _ (inst : Tables) (plan : List (Option ℕ)) (e t : ℕ) (x : Exclusion) (a b d : Bool)
+    (ex : x ≡ exclusion_of inst e)
     (ea : a ≡ in_season_of inst x.season t) where
   pub clash_off_season : a ≡ false → false ≡ clashes inst plan e t
   unfolding clashes

@@ -1,5 +1,5 @@
 -- The lines of a report, by the words that are said.
-use Rattle.std.proofs.Common.{◌≡◌, ℕ, ℤ, List, [], ◌∷◌, ◌++◌, get_or, codes, decimal, refl, sym, ◌∙◌, ap}
+use Rattle.std.proofs.Common.{◌≡◌, ℕ, ℤ, List, [], ◌∷◌, ◌++◌, get_or, codes, decimal, refl}
 use Rattle.fixed_num.specs.Texts.{fixed_text}
 use Rattle.instance_model.specs.Tables.{Tables}
 use Rattle.plan_table.specs.declared.report.PeriodReport.{PeriodReport}
@@ -20,7 +20,8 @@ pub load_said : (inst : Tables) (l : LoadLine) (state name load lower upper : Li
 unfolding load_text_as
 load_said inst l state name load lower upper en e eo eu = rw (en, e, eo, eu) refl
 
-pub run_said : (inst : Tables) (r : RunLine) (name start day duration low high : List ℕ) → name ≡ get_or inst.names r.i []
+pub run_said : (inst : Tables) (r : RunLine) (name start day duration low high : List ℕ)
+    → name ≡ get_or inst.names r.i []
     → start ≡ decimal r.start → day ≡ decimal r.day → duration ≡ decimal r.duration → low ≡ fixed_text r.low
     → high ≡ fixed_text r.high
     → words_line (codes "run") (name ∷ start ∷ day ∷ duration ∷ low ∷ high ∷ []) ≡ run_text inst r

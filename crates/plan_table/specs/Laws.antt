@@ -9,7 +9,13 @@ use Rattle.plan_score.specs.declared.values.Values.{Values}
 use Rattle.plan_score.specs.Values.{values_of}
 use Rattle.plan_table.specs.declared.report.PeriodReport.{PeriodReport}
 use Rattle.plan_table.specs.declared.report.LoadState.TheVariants.{Fits}
-use Rattle.plan_table.specs.Reports.{IsReport}
+use Rattle.plan_table.specs.Reports.{IsReport, report_of}
+
+-- each plan and period has one report
+abbrev pub OneReport : Tables → Type 0
+OneReport inst =
+    (starts : List ℕ) (t : ℕ) (report : PeriodReport)
+    → IsReport inst starts t report ↔ (report ≡ report_of inst starts t)
 
 -- the reports of the periods 1 to T of a plan, by period
 pub record AreReports (inst : Tables) (starts : List ℕ) (reports : ℕ → PeriodReport) : Type 0 where

@@ -1,7 +1,7 @@
 -- The report of a period of a plan. A plan is given by one allowed start for each intervention. Periods, starts and
 -- days count from 1, interventions, resources and exclusions from 0; risks and loads are counts of 10^-12.
-use Rattle.std.specs.Prelude.{◌≡◌, ℕ, ◌+◌, ◌-◌, ℤ, pos, ◌+ℤ◌, ◌-ℤ◌, List, length, map, filter, Option, Some, slice_index}
-use Rattle.std.specs.Prelude.{int_lt, if◌then◌else◌}
+use Rattle.std.specs.Prelude.{◌≡◌, ℕ, ◌+◌, ◌-◌, ℤ, pos, ◌+ℤ◌, ◌-ℤ◌, List, length, map, filter, Option, Some}
+use Rattle.std.specs.Prelude.{slice_index, int_lt, if◌then◌else◌}
 use Rattle.std.specs.List.{range_with_len}
 use Rattle.std.specs.Int.{int_max}
 use Rattle.fixed_num.specs.Floors.{floor_of, ceil_of}
@@ -99,7 +99,26 @@ clashes_in inst plan t = filter (λ e. clashes inst plan e t) (range_with_len 0 
 
 -- ---- all of it
 
--- this is the report of period t
+-- the report of period t as one value
+unfoldable pub report_of : Tables → List ℕ → ℕ → PeriodReport
+report_of inst starts t =
+    record {
+      t = t;
+      scenarios = scenarios_of inst t;
+      rank = rank_of inst t;
+      least = mth_smallest 1 (scenario_sums inst (map Some starts) t);
+      quantile = mth_smallest (rank_of inst t) (scenario_sums inst (map Some starts) t);
+      greatest = mth_smallest (scenarios_of inst t) (scenario_sums inst (map Some starts) t);
+      mean_low = mean_floor_in inst (map Some starts) t;
+      mean_high = mean_ceil_in inst (map Some starts) t;
+      excess_low = excess_floor_in inst (map Some starts) t;
+      excess_high = excess_ceil_in inst (map Some starts) t;
+      loads = load_lines_of inst (map Some starts) t;
+      runs = run_lines_of inst starts t;
+      clashes = clashes_in inst (map Some starts) t;
+    }
+
+-- this is the report of period t, sentence by sentence
 pub record IsReport (inst : Tables) (starts : List ℕ) (t : ℕ) (report : PeriodReport) : Type 0 where
   pub period : report.t ≡ t
   pub scenarios : report.scenarios ≡ scenarios_of inst t

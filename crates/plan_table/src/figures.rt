@@ -1,9 +1,8 @@
 //! What the scenario sums of a period come to.
-ghost use Rattle.std.specs.Prelude.{◌≡◌, ◌≤◌, ◌*◌, ◌^◌, length, All, IfOk, unsigned_abs};
-ghost use Rattle.fixed_num.specs.Floors.{floor_of, ceil_of};
+ghost use Rattle.std.specs.Prelude.{◌≡◌, ◌≤◌, ◌^◌, pos, ◌-ℤ◌, length, All, IfOk, unsigned_abs};
+ghost use Rattle.fixed_num.specs.Floors.{floor_of};
 ghost use Rattle.instance_model.specs.Naturals.{ceil_div_of};
 ghost use Rattle.instance_model.specs.Plans.{IsSmallSum, RunsAreAllowed};
-ghost use Rattle.std.specs.Prelude.{pos, ◌-ℤ◌, ◌+ℤ◌};
 ghost use Rattle.plan_table.specs.Figures.{ArePeriodSums, AreRanked, AreFigures, IsFigure};
 
 use fixed_num::{Steps, floor_div};

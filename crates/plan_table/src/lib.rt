@@ -14,7 +14,7 @@ mod report;
 mod runs;
 mod say;
 
-pub use laws::{no_fault_means_feasible, values_are_shares};
+pub use laws::{no_fault_means_feasible, one_report, values_are_shares};
 pub use lists::{ClashLines, LoadLines, RunLines};
 pub use period::period_report;
 pub use report::{LoadLine, LoadState, PeriodReport, RunLine};

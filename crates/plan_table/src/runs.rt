@@ -1,6 +1,5 @@
 //! The interventions in progress in a period.
-ghost use Rattle.std.specs.Prelude.{◌≡◌, ◌+◌, ◌*◌, ◌<◌, ◌≤◌, ◌^◌, length, IfOk, OnOk, IsTrue, unsigned_abs, slice_index};
-ghost use Rattle.std.specs.Prelude.{map, Some, ◌++◌, [], ◌∷◌, if◌then◌else◌};
+ghost use Rattle.std.specs.Prelude.{◌≡◌, ◌*◌, ◌<◌, ◌≤◌, ◌^◌, length, IfOk, IsTrue, unsigned_abs, slice_index, map, Some};
 ghost use Rattle.fixed_num.specs.Sums.{total};
 ghost use Rattle.instance_model.specs.Plans.{AreAllowedStarts, is_running};
 ghost use Rattle.instance_model.specs.Tables.{in_run, is_allowed};

@@ -1,11 +1,10 @@
 //! The text of a report is said.
-ghost use Rattle.std.specs.Prelude.{◌≡◌, ◌<◌, length, map, codes, All, ◌∷◌, []};
+ghost use Rattle.std.specs.Prelude.{◌≡◌, ◌<◌, length, map, All, ◌∷◌, []};
 ghost use Rattle.std.specs.List.{flat_map};
 ghost use Rattle.fixed_num.specs.Texts.{fixed_text};
 ghost use Rattle.plan_desk.specs.Written.{SaysText};
-ghost use Rattle.plan_table.specs.Texts.{words_behind, words_line, period_line, risk_line, mean_line, excess_line};
-ghost use Rattle.plan_table.specs.Texts.{state_word, load_text, load_text_as, run_text, clash_text, head_text, report_text};
-ghost use Rattle.plan_table.specs.Texts.{NamesWithin};
+ghost use Rattle.plan_table.specs.Texts.{words_behind, words_line, period_line, risk_line, state_word, load_text};
+ghost use Rattle.plan_table.specs.Texts.{load_text_as, run_text, clash_text, head_text, report_text, NamesWithin};
 
 use crate::report::{LoadLine, LoadState, PeriodReport, RunLine};
 use fixed_num::Line;
@@ -45,7 +44,13 @@ fn say_period<D: Desk>(report: &PeriodReport, desk: &mut D) -> Result<(), Failed
     let rank = Line::of_natural(u64::from(report.rank));
     say_words(
         b"period",
-        &[t.bytes(), b"scenarios", scenarios.bytes(), b"rank", rank.bytes()],
+        &[
+            t.bytes(),
+            b"scenarios",
+            scenarios.bytes(),
+            b"rank",
+            rank.bytes(),
+        ],
         desk,
     )
 }
@@ -57,7 +62,11 @@ fn say_risk<D: Desk>(report: &PeriodReport, desk: &mut D) -> Result<(), Failed>
     let least = Line::of_fixed(report.least);
     let quantile = Line::of_fixed(report.quantile);
     let greatest = Line::of_fixed(report.greatest);
-    say_words(b"risk", &[least.bytes(), quantile.bytes(), greatest.bytes()], desk)
+    say_words(
+        b"risk",
+        &[least.bytes(), quantile.bytes(), greatest.bytes()],
+        desk,
+    )
 }
 
 // Says two counts behind a word.
@@ -140,7 +149,14 @@ fn say_run<D: Desk>(inst: &Instance, line: &RunLine, desk: &mut D) -> Result<(),
     let high = Line::of_fixed(line.high);
     say_words(
         b"run",
-        &[name, start.bytes(), day.bytes(), duration.bytes(), low.bytes(), high.bytes()],
+        &[
+            name,
+            start.bytes(),
+            day.bytes(),
+            duration.bytes(),
+            low.bytes(),
+            high.bytes(),
+        ],
         desk,
     )
 }

@@ -1,9 +1,8 @@
-use Rattle.std.proofs.Common.{◌≡◌, ◌∙◌, ap, sym, arith, length, ℤ, ℕ, List}
+use Rattle.std.proofs.Common.{◌≡◌, ◌∙◌, ap, arith, length}
 use Rattle.std.proofs.lemmas.List.Elements.{All-same}
 use Rattle.fixed_num.specs.Sums.{total as sum_of}
-use Rattle.fixed_num.specs.Rank.{mth_smallest}
 use Rattle.fixed_num.proofs.SignedLemmas.{back_from_abs}
-use Rattle.instance_model.specs.Tables.{scenarios_of, rank_of}
+use Rattle.instance_model.specs.Tables.{scenarios_of}
 use Rattle.instance_model.specs.Plans.{IsSmallSum, scenario_sums}
 use Rattle.instance_model.specs.Values.{risk_total, excess_of}
 use Rattle.instance_model.proofs.FitLemmas.{scenarios_of_small}

@@ -1,7 +1,5 @@
-use Rattle.std.proofs.Common.{◌≡◌, ◌∙◌, ◌-◌, ℕ, ℤ, ap, sym, arith, length, subst, get_or}
+use Rattle.std.proofs.Common.{◌≡◌, ◌∙◌, ◌-◌, ℕ, ap, sym, arith, length, get_or}
 use Rattle.std.proofs.lemmas.List.Sorted.{length_permutation}
-use Rattle.fixed_num.specs.Rank.{mth_smallest}
-use Rattle.plan_table.specs.Figures.{IsFigure}
 use Rattle.plan_table.proofs.FigureLemmas.{small_at_rank, figure_at_rank}
 use Rattle.plan_table.proofs.figures.ranked_of.Goals as goal
 

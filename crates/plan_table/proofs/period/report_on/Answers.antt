@@ -1,4 +1,4 @@
-use Rattle.std.proofs.Common.{◌≡◌, ◌∙◌, ap, subst, map, Some, List, Option, ℕ, sym, refl}
+use Rattle.std.proofs.Common.{◌∙◌, ap, subst, map, Some, List, Option, ℕ, sym, refl}
 use Rattle.instance_model.specs.Plans.{RunsAreAllowed}
 use Rattle.instance_model.proofs.BoardLemmas.{RunsAreAllowed-starts}
 use Rattle.plan_table.specs.Figures.{AreFigures}

@@ -17,5 +17,6 @@ returns g c =
     (load_said c.args.inst.now c.args.line.now c.args.state.now _ _ _ _
     (c.as_bytes-name.ensures.value
     ∙ sym (get_or_from_slice_get names c.args.line.now.c _ [] c.resource_name.ensures.value))
-    (c.bytes.ensures.value ∙ c.of_fixed-load.ensures ∙ ap fixed_text load) (c.bytes-2.ensures.value ∙ c.of_fixed-lower.ensures ∙ ap fixed_text lower)
+    (c.bytes.ensures.value ∙ c.of_fixed-load.ensures ∙ ap fixed_text load)
+    (c.bytes-2.ensures.value ∙ c.of_fixed-lower.ensures ∙ ap fixed_text lower)
     (c.bytes-3.ensures.value ∙ c.of_fixed-upper.ensures ∙ ap fixed_text upper)) c.say_words.ensures

@@ -1,4 +1,4 @@
-use Rattle.std.proofs.Common.{◌++◌, rules, ap, ℕ, List}
+use Rattle.std.proofs.Common.{◌++◌, rules, ap}
 use Rattle.std.specs.List.{flat_map}
 use Rattle.plan_desk.specs.Written.Way.{saying}
 use Rattle.plan_desk.proofs.Written.{put, cut, last, respelled}

@@ -1,4 +1,4 @@
-use Rattle.std.proofs.Common.{◌≡◌, ◌∷◌, ◌++◌, [], List, ℕ, Bor, rules, sym, ap, map, get_or, length, ◌≤◌, arith, subst}
+use Rattle.std.proofs.Common.{◌∷◌, List, ℕ, Bor, rules, sym, ap, length, ◌≤◌, arith, subst}
 use Rattle.std.specs.List.{flat_map}
 use Rattle.std.proofs.lemmas.List.{append-nil, take_all}
 use Rattle.std.proofs.lemmas.List.Folds.{flat_map-map}
@@ -12,7 +12,8 @@ loop-word-init g c = begins saying (g.D.Desk.shows c.args.desk.now)
 
 pub returns-in_err-say_pieces : goal.returns-in_err-say_pieces
 returns-in_err-say_pieces g c =
-    respelled saying (sym (flat_map-map (λ (word : List ℕ). 32 ∷ word) (λ (word : Bor (List ℕ)). word.now) c.args.rest.now))
+    respelled saying
+    (sym (flat_map-map (λ (word : List ℕ). 32 ∷ word) (λ (word : Bor (List ℕ)). word.now) c.args.rest.now))
     (stops_at saying (λ word. 32 ∷ word.now) c.args.rest.now c.loop-word.word-index _ (search rules)
     c.from_residual.result (search rules) c.loop-word.invariant
     (respelled saying (ap (λ (xs : List ℕ). 32 ∷ xs) (append-nil _)) c.in_err-say_pieces.ensures))
@@ -25,7 +26,8 @@ loop-word-preserved g c =
 pub returns : goal.returns
 returns g c =
     let e : length c.args.rest.now ≤ c.loop-word.word-index = omega arith in
-    respelled saying (sym (flat_map-map (λ (word : List ℕ). 32 ∷ word) (λ (word : Bor (List ℕ)). word.now) c.args.rest.now))
+    respelled saying
+    (sym (flat_map-map (λ (word : List ℕ). 32 ∷ word) (λ (word : Bor (List ℕ)). word.now) c.args.rest.now))
     (ends saying tt
     (subst (λ (words : List (Bor (List ℕ))). HasPut saying (flat_map (λ word. 32 ∷ word.now) words)
     (g.D.Desk.shows c.args.desk.now) (g.D.Desk.shows c.loop-word.desk))

@@ -18,5 +18,6 @@ returns g c =
     (c.bytes.ensures.value ∙ c.of_natural-start.ensures ∙ ap decimal c.from.ensures)
     (c.bytes-2.ensures.value ∙ c.of_natural-day.ensures ∙ ap decimal c.from-2.ensures)
     (c.bytes-3.ensures.value ∙ c.of_natural-duration.ensures ∙ ap decimal c.from-3.ensures)
-    (c.bytes-4.ensures.value ∙ c.of_fixed-low.ensures ∙ ap fixed_text low) (c.bytes-5.ensures.value ∙ c.of_fixed-high.ensures ∙ ap fixed_text high))
+    (c.bytes-4.ensures.value ∙ c.of_fixed-low.ensures ∙ ap fixed_text low)
+    (c.bytes-5.ensures.value ∙ c.of_fixed-high.ensures ∙ ap fixed_text high))
     c.say_words.ensures
