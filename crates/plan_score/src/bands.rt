@@ -25,8 +25,8 @@ fn load_part(inst: &Instance, c: u32, t: u32, i: u32, start: Option<u32>) -> i12
     inst.load(i, s, c, t).count()
 }
 
-/// The load of resource `c` in period `t`.
-fn load_of_plan(inst: &Instance, plan: &[Option<u32>], c: u32, t: u32) -> i128
+/// The load of resource `c` in period `t`, in counts of 10^-12. Takes no memory.
+pub fn load_of_plan(inst: &Instance, plan: &[Option<u32>], c: u32, t: u32) -> i128
     requires each { length plan.now ≡ length inst.now.names }
     requires allowed { RunsAreAllowed inst.now plan.now }
     requires resource { c < length inst.now.resource_names }

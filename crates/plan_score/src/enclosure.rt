@@ -61,8 +61,8 @@ impl Enclosure {
     }
 }
 
-/// `value / n` rounded down and less a margin, but not below 0.
-fn floor_above_zero(value: i128, n: u32, margin: u32) -> i128
+/// `value / n` rounded down and less a margin in the same unit, but not below 0.
+pub fn floor_above_zero(value: i128, n: u32, margin: u32) -> i128
     requires some { 1 ≤ n }
     requires few { margin ≤ 1024 }
     requires value { unsigned_abs value ≤ 10 ^ 32 }
@@ -73,8 +73,8 @@ fn floor_above_zero(value: i128, n: u32, margin: u32) -> i128
     0_i128.max(low)
 }
 
-/// `value / n` rounded up and more by a margin.
-fn ceil_and_more(value: i128, n: u32, margin: u32) -> i128
+/// `value / n` rounded up and more by a margin in the same unit.
+pub fn ceil_and_more(value: i128, n: u32, margin: u32) -> i128
     requires some { 1 ≤ n }
     requires few { margin ≤ 1024 }
     requires value { unsigned_abs value ≤ 10 ^ 32 }

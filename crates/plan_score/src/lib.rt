@@ -14,7 +14,11 @@ mod starts;
 mod values;
 mod verdict;
 
+pub use bands::load_of_plan;
+pub use enclosure::{ceil_and_more, floor_above_zero};
 pub use instance_model::Rule;
+pub use period::{read_sums, sum_scenarios, total_of};
+pub use progress::is_in_progress;
 pub use starts::broken_start;
 pub use values::Values;
 pub use verdict::{Verdict, broken_rule, judge, plan_values};

@@ -68,9 +68,9 @@ fn reset(sums: &mut Vec<Sum>, n: u32) -> Result<(), AllocError>
     Ok(())
 }
 
-/// Makes the sums the scenario sums of period `t`: the number of interventions
-/// in progress at a start that is soft there.
-fn sum_scenarios<L: Ledger>(
+/// Makes the sums the scenario sums of period `t`, by scenario, in counts of 10^-12: the number of interventions in
+/// progress at a start that is soft there. Takes memory where the sums have too little room.
+pub fn sum_scenarios<L: Ledger>(
     inst: &Instance,
     plan: &[Option<u32>],
     t: u32,
@@ -93,8 +93,8 @@ fn sum_scenarios<L: Ledger>(
     Ok(soft)
 }
 
-/// Makes the values those of the sums, in the room that they have.
-fn read_sums<L: Ledger>(
+/// Makes the values those of the sums. Takes memory where the values have too little room.
+pub fn read_sums<L: Ledger>(
     sums: &[Sum],
     values: &mut Vec<i128>,
     steps: &mut Steps<L>,
@@ -108,8 +108,8 @@ fn read_sums<L: Ledger>(
     Ok(())
 }
 
-/// The sum of a period's scenario sums.
-fn total_of(sums: &[i128]) -> i128
+/// The sum of a period's scenario sums, in counts of 10^-12.
+pub fn total_of(sums: &[i128]) -> i128
     requires few { length sums.now ≤ 1024 }
     requires small { All IsSmallSum sums.now }
     ensures value { result ≡ total sums.now }

@@ -1,0 +1,10 @@
+use Rattle.std.proofs.Common.{take}
+use Rattle.std.specs.List.{flat_map}
+use Rattle.plan_desk.specs.Written.{HasPut}
+use Rattle.plan_desk.specs.Written.Way.{saying}
+use Rattle.plan_table.specs.Texts.{run_text}
+use Rattle.plan_table.proofs.say.say_runs.Given as goal
+
+abbrev pub invariant-loop-line : goal.invariant-loop-line
+invariant-loop-line g l = HasPut saying (flat_map (run_text l.inst) (take l.line-index l.runs))
+    (g.D.Desk.shows l.fn.desk) (g.D.Desk.shows l.desk)

@@ -1,0 +1,169 @@
+//! Worked rows: the text of a report, worked out by hand from the definitions.
+
+ghost use Rattle.std.specs.Prelude.{IsTrue};
+ghost use Rattle.small_instances.specs.Sketches.{is_fitting};
+
+use crate::is_feasible;
+use instance_model::Exclusion;
+use plan_desk::MemDesk;
+use plan_table::{period_report, say_report};
+use small_instances::{Sketch, are_allowed, instance};
+use std::alloc::Global;
+use std::process::Abort;
+use std::test::Fail;
+
+/// The count of 1.
+const ONE: i64 = 1_000_000_000_000;
+
+/// Two interventions of one period each, of which either start takes 6 of the one resource.
+const PAIR: Sketch<'static> = Sketch {
+    periods: 2,
+    alpha: 500_000,
+    quantile: 500_000,
+    scenarios: &[2, 2],
+    resources: 1,
+    upper: &[10 * ONE, 10 * ONE],
+    lower: &[0, 0],
+    seasons: 0,
+    in_season: &[],
+    delta: &[&[1, 1], &[1, 1]],
+    excluded: &[],
+    loads: &[
+        &[(1, 1, 0, 6 * ONE), (2, 2, 0, 6 * ONE)],
+        &[(1, 1, 0, 6 * ONE), (2, 2, 0, 6 * ONE)],
+    ],
+    risks: &[ONE, 3 * ONE, 5 * ONE, 5 * ONE, 2 * ONE, 2 * ONE, 4 * ONE, 0],
+    soft: &[false, false, false, false],
+};
+
+/// The two exclude each other in period 2 alone, and both are needed in period 1.
+const LATE: Sketch<'static> = Sketch {
+    upper: &[12 * ONE, 12 * ONE],
+    lower: &[ONE, 0],
+    seasons: 1,
+    in_season: &[false, true],
+    excluded: &[Exclusion {
+        first: 0,
+        second: 1,
+        season: 0,
+    }],
+    ..PAIR
+};
+
+/// One intervention in one period at a soft start, in three scenarios.
+const ROUNDED: Sketch<'static> = Sketch {
+    periods: 1,
+    alpha: 1_000_000,
+    quantile: 1_000_000,
+    scenarios: &[3],
+    resources: 0,
+    upper: &[],
+    lower: &[],
+    seasons: 0,
+    in_season: &[],
+    delta: &[&[1]],
+    excluded: &[],
+    loads: &[&[]],
+    risks: &[-ONE, -2 * ONE, -2 * ONE],
+    soft: &[true],
+};
+
+/// The report of period `t`, as it is said, and whether the plan is feasible.
+fn said(
+    alloc: Global,
+    sketch: &Sketch,
+    starts: &[u32],
+    t: u32,
+) -> Result<Option<(MemDesk, bool)>, Fail>
+    requires { IsTrue (is_fitting sketch.now) }
+{
+    let inst = instance(alloc, sketch)?;
+    if !are_allowed(&inst, starts) || t < 1 || t > inst.periods() {
+        return Ok(None);
+    }
+    let report = period_report(alloc, &inst, starts, t)?;
+    let mut desk = MemDesk::make(alloc);
+    say_report(&inst, &report, &mut desk)?;
+    let feasible = is_feasible(alloc, &inst, starts)?;
+    Ok(Some((desk, feasible)))
+}
+
+/// The report says this text, and the plan is feasible or not.
+fn says(
+    rt: &impl Abort,
+    alloc: Global,
+    sketch: &Sketch,
+    starts: &[u32],
+    t: u32,
+    text: &[u8],
+    feasible: bool,
+) -> Result<(), Fail>
+    requires { IsTrue (is_fitting sketch.now) }
+{
+    let Some((desk, kept)) = said(alloc, sketch, starts, t)? else {
+        return Err(Fail::new("no such report"));
+    };
+    assert_eq!(rt; desk.spoken(), text, "{starts:?} in {t}");
+    assert_eq!(rt; kept, feasible);
+    Ok(())
+}
+
+const FIRST_ALONE: &[u8] = b"period 1 scenarios 2 rank 1
+risk 1.000000000000 1.000000000000 3.000000000000
+mean 2.000000000000 2.000000000000
+excess 0.000000000000 0.000000000000
+load N1 6.000000000000 0.000000000000 10.000000000000 fits
+run N1 1 1 1 2.000000000000 2.000000000000
+";
+
+/// The two together take 12.
+const BOTH_OVER: &[u8] = b"period 1 scenarios 2 rank 1
+risk 3.000000000000 3.000000000000 5.000000000000
+mean 4.000000000000 4.000000000000
+excess 0.000000000000 0.000000000000
+load N1 12.000000000000 0.000000000000 10.000000000000 over
+run N1 1 1 1 2.000000000000 2.000000000000
+run N2 1 1 1 2.000000000000 2.000000000000
+";
+
+#[test]
+fn loads_and_runs_are_said(rt: HostRuntime) -> Result<(), Fail> {
+    says(&rt, rt.alloc(), &PAIR, &[1, 2], 1, FIRST_ALONE, true)?;
+    says(&rt, rt.alloc(), &PAIR, &[1, 1], 1, BOTH_OVER, false)
+}
+
+const IDLE: &[u8] = b"period 1 scenarios 2 rank 1
+risk 0.000000000000 0.000000000000 0.000000000000
+mean 0.000000000000 0.000000000000
+excess 0.000000000000 0.000000000000
+load N1 0.000000000000 1.000000000000 12.000000000000 under
+";
+
+const TOGETHER: &[u8] = b"period 2 scenarios 2 rank 1
+risk 5.000000000000 5.000000000000 9.000000000000
+mean 7.000000000000 7.000000000000
+excess 0.000000000000 0.000000000000
+load N1 12.000000000000 0.000000000000 12.000000000000 fits
+run N1 2 1 1 5.000000000000 5.000000000000
+run N2 2 1 1 2.000000000000 2.000000000000
+clash N1
+";
+
+#[test]
+fn idle_periods_and_exclusions_are_said(rt: HostRuntime) -> Result<(), Fail> {
+    says(&rt, rt.alloc(), &LATE, &[2, 2], 1, IDLE, false)?;
+    says(&rt, rt.alloc(), &LATE, &[2, 2], 2, TOGETHER, false)
+}
+
+/// The sums add up to -5, and the quantile is -1.
+const AT_SOFT_START: &[u8] = b"period 1 scenarios 3 rank 3
+risk -2.000000000000 -1.000000000000 -1.000000000000
+mean -1.666666666668 -1.666666666665
+excess 0.666666666665 0.666666666668
+run N1 1 1 1 -1.666666666667 -1.666666666666
+";
+
+#[test]
+fn soft_starts_widen_mean_and_excess(rt: HostRuntime) -> Result<(), Fail> {
+    says(&rt, rt.alloc(), &ROUNDED, &[1], 1, AT_SOFT_START, true)
+}
