@@ -1,5 +1,5 @@
 //! What a descent, a price list and a search make of an instance.
-ghost use Rattle.std.specs.Prelude.{◌≡◌, ◌≤◌, IfOk};
+ghost use Rattle.std.specs.Prelude.{◌≡◌, ◌≤◌, IfOk, Some, None, option_map, if◌then◌else◌};
 ghost use Rattle.instance_model.specs.Keys.{IsOpening};
 ghost use Rattle.plan_moves.specs.KeptPlans.{present};
 ghost use Rattle.command_solve.specs.Made.{IsDescended, IsMade};
@@ -39,7 +39,7 @@ pub(crate) fn make<R: Row>(
 ) -> Result<Made, AllocError>
     requires opening { IsOpening inst.now opening.now }
     requires turns { turns ≤ 1_000_000 }
-    ensures { IfOk result (IsMade inst.now turns) }
+    ensures { IfOk result (λ made. IsMade inst.now turns made.moves made.answer) }
 {
     inst.fits();
     let descended = descend_from::<R>(alloc, inst, opening, turns)?;
@@ -48,7 +48,7 @@ pub(crate) fn make<R: Row>(
         alloc,
         &RiskGoal,
         inst,
-        Some(prices),
+        Some(&prices),
         given(&descended),
         turns,
     )?;
@@ -59,7 +59,10 @@ pub(crate) fn make<R: Row>(
 }
 
 /// The end of a descent, where it keeps the rules.
-fn given(descended: &Descended) -> Option<&[u32]> {
+fn given(descended: &Descended) -> Option<&[u32]>
+    ensures { option_map (λ starts. starts.now) result
+        ≡ (if descended.now.feasible then Some descended.now.starts else None) }
+{
     if descended.feasible {
         Some(descended.starts.as_slice())
     } else {
