@@ -7,5 +7,6 @@ pub mod CheckableLemmas
 pub mod PlanLemmas
 pub mod SolutionLemmas
 pub mod OpeningLemmas
+pub mod MakingLemmas
 pub mod HoldLemmas
 pub mod SolveRun
