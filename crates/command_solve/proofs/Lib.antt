@@ -8,5 +8,6 @@ pub mod PlanLemmas
 pub mod SolutionLemmas
 pub mod OpeningLemmas
 pub mod MakingLemmas
+pub mod ReportLemmas
 pub mod HoldLemmas
 pub mod SolveRun

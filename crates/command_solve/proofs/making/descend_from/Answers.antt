@@ -26,7 +26,7 @@ returns g c =
     c.in_ok-descent.ensures.ok in
     record {
       trail = is_trail inst opening old new c.args.turns moves spent c.in_ok-kept.ensures c.in_ok-descent.ensures.ok
-          c.requires;
+          c.requires.opening;
       end = c.in_ok-starts.ensures ∙ end_is inst opening old new c.args.turns moves spent c.in_ok-kept.ensures
           c.in_ok-descent.ensures.ok;
       allowed = subst (AreAllowedStarts inst) (sym c.in_ok-starts.ensures)
