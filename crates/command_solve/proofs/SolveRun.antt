@@ -27,8 +27,7 @@ use Rattle.command_frame.specs.Files.{ReadsInstance}
 use Rattle.command_frame.specs.Files.OnFile.{unread, refused, stands}
 use Rattle.command_frame.specs.declared.refusal.Refusal.{Refusal}
 use Rattle.command_frame.specs.Refusals.{KeepsLast, IsInstanceCause, SaysRefused}
-use Rattle.command_frame.proofs.ReadLemmas.{refuses_instance}
-use Rattle.command_frame.proofs.TakenLemmas.{after_instance}
+use Rattle.command_frame.proofs.ReadLemmas.{refuses_instance, after_instance}
 use Rattle.command_frame.proofs.FileLemmas.{Carries, on_other, Goes, later_reading, exact_reading, OrUnread}
 use Rattle.command_frame.proofs.FileLemmas.{missing_file, then_next, say_refusal}
 use Rattle.command_frame.proofs.AnswerLemmas.{instance_status}
