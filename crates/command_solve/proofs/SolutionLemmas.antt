@@ -137,9 +137,11 @@ module _ (inst : Tables) (turns : ℕ) (changes : List Change) (answer : TreeEnd
         })
     is_solution report r = record {
       solves = λ files. solves_at files report answer.best answer.cert.bound refl refl r;
-      in_range = made.cert.in_range;
-      changes = made.changes_are;
-      plan = writable_best;
+      writable = record {
+        in_range = made.cert.in_range;
+        changes = made.changes_are;
+        plan = writable_best;
+      };
     }
 
 -- ---- where an intervention has no allowed start
@@ -184,9 +186,11 @@ module _ (inst : Tables) (i : ℕ) (without : IsWithoutStart inst i) where
       })
   no_start_solution good cert changes text is none_made said turns = record {
     solves = λ files. at files;
-    in_range = subst (IsInRange inst) (sym is) empty_in_range;
-    changes = subst (AreWritable inst) (sym none_made) no_changes;
-    plan = tt;
+    writable = record {
+      in_range = subst (IsInRange inst) (sym is) empty_in_range;
+      changes = subst (AreWritable inst) (sym none_made) no_changes;
+      plan = tt;
+    };
   }
     where
       at : (files : SolveFiles) → Solves standard_limits inst files turns (record {

@@ -4,9 +4,10 @@ use Rattle.std.proofs.Common.{length, map, Option, Some, None, All, IsTrue}
 use Rattle.std.proofs.lemmas.List.{length-map}
 use Rattle.std.proofs.lemmas.List.Elements.{All-nil, All-cons}
 use Rattle.plan_desk.specs.Desk.{Shown, Output, TellsNames}
-use Rattle.plan_desk.specs.Contents.{HoldsBytes, Says}
+use Rattle.plan_desk.specs.Contents.{HoldsBytes, Says, OnlyReads, KeepsFiles}
 use Rattle.plan_desk.specs.FileWrites.{FileWrite, after_writes}
 use Rattle.instance_model.specs.declared.limits.Limits.{Limits}
+use Rattle.instance_model.specs.Limits.{standard_limits}
 use Rattle.instance_model.specs.Tables.{Tables}
 use Rattle.instance_model.specs.Rules.{KeepsRules}
 use Rattle.plan_moves.specs.declared.change.Change.{Change}
@@ -24,12 +25,15 @@ use Rattle.command_frame.specs.Bytes.RefusesInstance.{long_instance, faulty_inst
 use Rattle.command_frame.specs.Files.{Meeting, reading, by_bytes, OnInstance, OnGiven, OnPlan, OnCertificate}
 use Rattle.command_frame.specs.Files.{ReadsInstance}
 use Rattle.command_frame.specs.Files.OnFile.{unread, refused, stands}
+use Rattle.command_frame.specs.declared.refusal.Refusal.{Refusal}
+use Rattle.command_frame.specs.Refusals.{KeepsLast, IsInstanceCause, SaysRefused}
+use Rattle.command_frame.proofs.ReadLemmas.{refuses_instance, after_instance}
 use Rattle.command_frame.proofs.FileLemmas.{Carries, on_other, Goes, later_reading, exact_reading, OrUnread}
 use Rattle.command_frame.proofs.FileLemmas.{missing_file, then_next, say_refusal}
 use Rattle.command_frame.proofs.AnswerLemmas.{instance_status}
 use Rattle.command_frame.proofs.TakenLemmas.{on_taken, bad_instance}
-use Rattle.command_frame.proofs.EndLemmas.{Stays, ends_quiet, ends_allowed, ends_exact}
-use Rattle.command_frame.proofs.WriteLemmas.{wrote_behind}
+use Rattle.command_frame.proofs.EndLemmas.{Stays, memory_ends, refusal_ends, ends_quiet, ends_allowed, ends_exact}
+use Rattle.command_frame.proofs.WriteLemmas.{told_ends, told_later, wrote_behind}
 use Rattle.command_evaluate.specs.Evaluating.{Judges, AnswersEvaluate}
 use Rattle.command_check.specs.Checking.{IsKeptPlan, BoundsEveryPlan, Checks, AnswersCheck}
 use Rattle.command_solve.specs.Solved.{AreEnough, IsWithoutStart, empty_certificate}
@@ -42,6 +46,8 @@ use Rattle.command_solve.specs.Solving.BehindSolve.{none as behind_none, refused
 use Rattle.command_solve.specs.Solving.BehindSolve.{unread_instance as behind_unread_instance}
 use Rattle.command_solve.specs.Solving.ExpectsSolve.{no_instance, refused_instance, no_start as expects_no_start}
 use Rattle.command_solve.specs.Solving.ExpectsSolve.{a_plan, no_plan}
+use Rattle.command_solve.specs.Made.{TellsSolution}
+use Rattle.command_solve.specs.Made.TellsSolution.{told, no_memory as no_memory_left}
 use Rattle.command_solve.proofs.AnswerLemmas.{best_feasible}
 use Rattle.command_solve.proofs.HoldLemmas.{IsNamed, IsNoneOf, named_output, named_after, others_after, held_after}
 use Rattle.command_solve.proofs.HoldLemmas.{held_alike, others_stopped, at_name}
@@ -418,3 +424,37 @@ module _ (limits : Limits) (source : Source) (files : SolveFiles) (turns : ℕ) 
         quiet = ends_quiet Due old new status ends;
         later = later;
       }
+
+-- ---- the end of a run
+
+module _ (source : Source) (files : SolveFiles) (turns : ℕ) (old mid new : Shown) (reads : OnlyReads old mid) where
+  abbrev Answers : Shown → Answer → Type 0
+  Answers at = AnswersSolve standard_limits (reading old at) source.slack source.instance files turns
+
+  stays : (at : Shown) → Stays Answers mid at
+  stays at = solve_stays standard_limits source files turns old mid at reads.later
+
+  -- the instance was read, and its solution was told, or memory ran out
+  pub solution_ends : (inst : Tables) (status : ℕ) → ReadsInstance standard_limits source old inst
+      → mid.last ≡ old.last → TellsSolution inst files turns mid new status
+      → Ends (DueSolve standard_limits source files turns old) old new status
+  solution_ends inst status read last (told a solves tells) =
+      told_ends Answers old mid a reads last
+      (after_instance source old mid inst (λ i. Solves standard_limits i files turns) a read solves) new status stays
+      tells
+  solution_ends inst status read last (no_memory_left keeps says) =
+      memory_ends Answers old mid new status reads keeps last says
+
+  pub solution_later : (inst : Tables) (status : ℕ) → TellsSolution inst files turns mid new status
+      → old.faults ≤ new.faults
+  solution_later inst status (told a solves tells) =
+      let later = told_later a mid new status tells in omega (arith, reads.later)
+  solution_later inst status (no_memory_left keeps says) = omega (arith, reads.later, keeps.later)
+
+  -- the instance was refused
+  pub refused_ends : (refusal : Refusal) (status : ℕ) → KeepsFiles mid new → KeepsLast old mid refusal
+      → IsInstanceCause 2 source.instance old mid refusal → SaysRefused refusal mid new status
+      → Ends (DueSolve standard_limits source files turns old) old new status
+  refused_ends refusal status keeps kept cause says =
+      refusal_ends Answers old mid new refusal status (stays new) reads keeps kept
+      (refuses_instance source old mid (λ i. Solves standard_limits i files turns) refusal cause) says

@@ -1,5 +1,7 @@
 -- How many splits a tree has: in the order of its nodes, and by their boxes.
-use Rattle.std.proofs.Common.{◌≡◌, ℕ, ◌+◌, sym, ◌∙◌, ap, arith, List, [], ◌∷◌, ◌++◌, length, length-append, zero-add, subst}
+use Rattle.std.proofs.Common.{◌≡◌, ℕ, ◌+◌, ◌<◌, sym, ◌∙◌, ap, arith, List, [], ◌∷◌, ◌++◌, length, take, get_or}
+use Rattle.std.proofs.Common.{length-append, zero-add}
+use Rattle.std.proofs.lemmas.List.{take_more}
 use Rattle.instance_model.specs.Tables.{Tables}
 use Rattle.lagrange_bound.specs.declared.span.Span.{Span}
 use Rattle.branch_tree.specs.declared.node.Node.{Node}
@@ -18,6 +20,12 @@ split_count-append (Point ∷ xs) ys = split_count-append xs ys
 split_count-append (Band c t side ∷ xs) ys = split_count-append xs ys
 split_count-append (Excl e ∷ xs) ys = split_count-append xs ys
 split_count-append (Empty i ∷ xs) ys = split_count-append xs ys
+
+-- one more node
+pub split_more : (nodes : List Node) (n : ℕ) (d : Node) → n < length nodes
+    → split_count (take (n + 1) nodes) ≡ split_count (take n nodes) + split_count (get_or nodes n d ∷ [])
+split_more nodes n d low =
+    ap split_count (take_more nodes n d low) ∙ split_count-append (take n nodes) (get_or nodes n d ∷ [])
 
 splits_of : (inst : Tables) (lists : ℕ) (box : List Span) (t : Tree) → IsTreeInRange inst lists box t
     → split_count (pre_order t) ≡ length (split_boxes box t)

@@ -49,20 +49,23 @@ module _ (inst : Tables) (opening : List ℕ) (old new : KeptPlans) (turns : ℕ
       at true all optimum = inl (all.0 refl)
       at false all optimum = inr (subst (IsLocalOptimum inst) end_is optimum)
 
-  pub end_allowed : AreKeptPlans new → AreAllowedStarts inst (present new.plans)
-  end_allowed kept =
-      subst (λ (i : Tables). AreAllowedStarts i (present new.plans)) instance_is
-      (kept.allowed (length new.plans - 1) [] (omega (arith, kept.some)))
+-- ---- the present plan
 
-  -- the end has no violation exactly where it is feasible
-  pub end_feasible : AreKeptPlans new → NoViolationMeansFeasible inst → (violation : ℤ)
-      → violation ≡ (present_key new.instance new.plans).violation
-      → (violation ≡ pos 0) ↔ IsFeasible inst (map Some (present new.plans))
-  end_feasible kept law violation is =
-      let here = law (present new.plans) (end_allowed kept) in
-      let same : violation ≡ violation_of inst (map Some (present new.plans)) =
-      is ∙ ap (λ (i : Tables). violation_of i (map Some (present new.plans))) instance_is in
-      (λ none. here.0 (sym same ∙ none), λ feasible. same ∙ here.1 feasible)
+module _ (inst : Tables) (kept : KeptPlans) (same : kept.instance ≡ inst) (are : AreKeptPlans kept) where
+  pub present_allowed : AreAllowedStarts inst (present kept.plans)
+  present_allowed =
+      subst (λ (i : Tables). AreAllowedStarts i (present kept.plans)) same
+      (are.allowed (length kept.plans - 1) [] (omega (arith, are.some)))
+
+  -- it has no violation exactly where it is feasible
+  pub present_feasible : NoViolationMeansFeasible inst → (violation : ℤ)
+      → violation ≡ (present_key kept.instance kept.plans).violation
+      → (violation ≡ pos 0) ↔ IsFeasible inst (map Some (present kept.plans))
+  present_feasible law violation is =
+      let here = law (present kept.plans) present_allowed in
+      let value : violation ≡ violation_of inst (map Some (present kept.plans)) =
+      is ∙ ap (λ (i : Tables). violation_of i (map Some (present kept.plans))) same in
+      (λ none. here.0 (sym value ∙ none), λ feasible. value ∙ here.1 feasible)
 
 -- ---- changes as lines of a script
 

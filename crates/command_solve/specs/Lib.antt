@@ -1,3 +1,4 @@
 -- What the contracts cite.
 pub mod Solved
+pub mod Solving
 pub mod Made

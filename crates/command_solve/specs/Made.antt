@@ -1,6 +1,8 @@
 -- What the steps of a solution come to. Cited by private functions only: no part of any promise.
 use Rattle.std.specs.Prelude.{◌≡◌, ◌≤◌, ◌<◌, ◌^◌, ℕ, ℤ, ◌-ℤ◌, List, [], ◌∷◌, ◌++◌, length, map, All, Option, Some, None}
 use Rattle.std.specs.Prelude.{IsTrue, false, ◌↔◌, IfSome, codes}
+use Rattle.plan_desk.specs.Desk.{Shown}
+use Rattle.plan_desk.specs.Contents.{KeepsFiles}
 use Rattle.instance_model.specs.Limits.{standard_limits}
 use Rattle.instance_model.specs.Tables.{Tables}
 use Rattle.instance_model.specs.Plans.{AreAllowedStarts}
@@ -21,7 +23,10 @@ use Rattle.branch_search.specs.declared.tree_end.TreeEnd.{TreeEnd}
 use Rattle.branch_search.specs.Best.{IsFeasiblePlan}
 use Rattle.command_frame.specs.declared.report.Report.{Report}
 use Rattle.command_frame.specs.Reports.{score_line, bound_line, gap_line, ranges_text}
+use Rattle.command_frame.specs.Lines.{memory_line}
 use Rattle.command_frame.specs.Ending.{Writing, Answer}
+use Rattle.command_frame.specs.Refusals.{SaysOrFails}
+use Rattle.command_frame.specs.Writing.{TellsAnswer}
 use Rattle.command_evaluate.specs.Evaluating.{EnclosesEveryReading}
 use Rattle.command_check.specs.Checking.{IsAccepted}
 use Rattle.command_solve.specs.declared.opening.Opening.{Opening}
@@ -133,15 +138,26 @@ pub record IsWritablePlan (inst : Tables) (plan : List ℕ) : Type 0 where
   pub each : length plan ≡ length inst.names
   pub small : All (λ start. start < 10 ^ 9) plan
 
--- a solution is an answer, whatever the files are, and its files can be written
-pub record IsSolution (inst : Tables) (turns : ℕ) (s : Solution) : Type 0 where
-  pub solves : (files : SolveFiles) → Solves standard_limits inst files turns (answer_of inst files s)
+-- the files of a solution can be written
+pub record IsWritable (inst : Tables) (s : Solution) : Type 0 where
   pub in_range : IsInRange inst s.certificate
   pub changes : AreWritable inst s.moves
   pub plan : IfSome s.plan (IsWritablePlan inst)
+
+-- a solution is an answer, whatever the files are, and they can be written
+pub record IsSolution (inst : Tables) (turns : ℕ) (s : Solution) : Type 0 where
+  pub solves : (files : SolveFiles) → Solves standard_limits inst files turns (answer_of inst files s)
+  pub writable : IsWritable inst s
 
 -- ---- the files
 
 -- the names of the files as the code has them
 abbrev pub files_view : SolveNames → SolveFiles
 files_view names = record { plan = names.plan.now; cert = names.certificate.now; trail = names.trail.now }
+
+-- an answer to an instance was told, or memory ran out before a file was opened
+pub data TellsSolution (inst : Tables) (files : SolveFiles) (turns : ℕ) (old new : Shown) (status : ℕ) : Type 0 where
+  told : (a : Answer) → Solves standard_limits inst files turns a → TellsAnswer a old new status
+      → TellsSolution inst files turns old new status
+  no_memory : KeepsFiles old new → SaysOrFails 11 memory_line old new status
+      → TellsSolution inst files turns old new status

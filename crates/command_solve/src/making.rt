@@ -1,12 +1,17 @@
 //! What a descent, a price list and a search make of an instance.
-ghost use Rattle.std.specs.Prelude.{◌≡◌, ◌≤◌, IfOk};
+ghost use Rattle.std.specs.Prelude.{◌≡◌, ◌≤◌, ◌↔◌, map, Some, IsTrue, IfOk, IfSome, option_map};
+ghost use Rattle.instance_model.specs.Plans.{AreAllowedStarts};
+ghost use Rattle.instance_model.specs.Rules.{IsFeasible};
 ghost use Rattle.instance_model.specs.Keys.{IsOpening};
 ghost use Rattle.plan_moves.specs.KeptPlans.{present};
+ghost use Rattle.branch_search.specs.Best.{IsFeasiblePlan};
+ghost use Rattle.command_solve.specs.Solved.{IsGiven};
 ghost use Rattle.command_solve.specs.Made.{IsDescended, IsMade};
 
 use branch_search::{TreeEnd, search};
+use certificate_text::texts_are_short;
 use instance_model::{Instance, Starts};
-use lagrange_bound::RiskGoal;
+use lagrange_bound::{RiskGoal, worth_bounds_plans};
 use local_search::descend;
 use plan_moves::{Kept, Moves};
 use price_ladder::raise_prices;
@@ -39,17 +44,19 @@ pub(crate) fn make<R: Row>(
 ) -> Result<Made, AllocError>
     requires opening { IsOpening inst.now opening.now }
     requires turns { turns ≤ 1_000_000 }
-    ensures { IfOk result (IsMade inst.now turns) }
+    ensures { IfOk result (λ made. IsMade inst.now turns made.moves made.answer) }
 {
     inst.fits();
+    texts_are_short();
+    worth_bounds_plans(&RiskGoal);
     let descended = descend_from::<R>(alloc, inst, opening, turns)?;
     let prices = raise_prices(alloc, inst, descended.starts.as_slice())?;
     let answer = search(
         alloc,
         &RiskGoal,
         inst,
-        Some(prices),
-        given(&descended),
+        Some(&prices),
+        given(inst, &descended),
         turns,
     )?;
     Ok(Made {
@@ -59,7 +66,13 @@ pub(crate) fn make<R: Row>(
 }
 
 /// The end of a descent, where it keeps the rules.
-fn given(descended: &Descended) -> Option<&[u32]> {
+fn given<'a>(inst: &Instance, descended: &'a Descended) -> Option<&'a [u32]>
+    requires allowed { AreAllowedStarts inst.now descended.now.starts }
+    requires feasible { IsTrue descended.now.feasible ↔ IsFeasible inst.now (map Some descended.now.starts) }
+    ensures given { IsGiven inst.now descended.now.starts (option_map (λ starts. starts.now) result) }
+    ensures plan { IfSome result (λ starts. IsFeasiblePlan inst.now starts.now) }
+{
+    let _inst = inst;
     if descended.feasible {
         Some(descended.starts.as_slice())
     } else {
@@ -79,11 +92,12 @@ fn descend_from<R: Row>(
 {
     let mut kept = Kept::<R>::make(alloc, inst, opening)?;
     let descent = descend(alloc, &mut kept, turns)?;
+    kept.allowed();
     let starts = present_starts(alloc, inst, &kept)?;
     Ok(Descended {
         moves: descent.moves,
         starts,
-        feasible: kept.key().violation == 0,
+        feasible: is_feasible(inst, &kept),
     })
 }
 
@@ -96,9 +110,20 @@ fn present_starts<R: Row>(
     requires { kept.now.instance ≡ inst.now }
     ensures { IfOk result (λ starts. starts ≡ present kept.now.plans) }
 {
+    kept.allowed();
     let mut starts = Vec::new(alloc);
     for i in 0..inst.interventions() {
         starts.push(kept.start_of(i))?;
     }
     Ok(Starts::from_vec(starts))
+}
+
+/// Whether the present plan keeps the rules.
+fn is_feasible<R: Row>(inst: &Instance, kept: &Kept<'_, R>) -> bool
+    requires { kept.now.instance ≡ inst.now }
+    ensures { IsTrue result ↔ IsFeasible inst.now (map Some (present kept.now.plans)) }
+{
+    kept.allowed();
+    inst.no_violation_means_feasible();
+    kept.key().violation == 0
 }

@@ -1,5 +1,5 @@
 //! The texts of reports.
-ghost use Rattle.std.specs.Prelude.{◌≡◌, ◌≤◌, ◌<◌, ◌^◌, ◌++◌, IfOk, OnOk, unsigned_abs};
+ghost use Rattle.std.specs.Prelude.{◌≡◌, ◌≤◌, ◌<◌, ◌^◌, [], ◌∷◌, ◌++◌, IfOk, OnOk, unsigned_abs};
 ghost use Rattle.command_solve.specs.Solved.{split_count};
 ghost use Rattle.command_solve.specs.Solving.{count_line, counts_text, nothing_report, none_report};
 ghost use Rattle.command_solve.specs.Made.{values_report};
@@ -98,9 +98,18 @@ fn split_count(nodes: &[Node]) -> u64
 {
     let mut count: u64 = 0;
     for node in nodes {
-        if let Node::Split { .. } = node {
-            count += 1;
-        }
+        count += split_of(*node);
     }
     count
+}
+
+// 1 for a split, and 0 for a leaf.
+fn split_of(node: Node) -> u64
+    ensures value { result ≡ split_count (node ∷ []) }
+    ensures small { result ≤ 1 }
+{
+    match node {
+        Node::Split { .. } => 1,
+        _ => 0,
+    }
 }

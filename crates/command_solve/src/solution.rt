@@ -12,6 +12,7 @@ use crate::opening::{Opening, opening_of};
 use crate::report::{found_text, none_text, nothing_text};
 use branch_certificate::{Bound, Certificate, Node, Nodes, PriceLists, Version};
 use branch_search::TreeEnd;
+use certificate_text::texts_are_short;
 use command_frame::Report;
 use instance_model::{Instance, Starts, plan_of};
 use plan_moves::Moves;
@@ -125,6 +126,7 @@ fn startless(alloc: Global, inst: &Instance, i: u32) -> Result<Solution, AllocEr
     ensures { IfOk result (λ solution. (turns : ℕ) → IsSolution inst.now turns solution) }
 {
     inst.fits();
+    texts_are_short();
     valid_is_accepted(inst);
     let certificate = empty_certificate(alloc, i)?;
     let moves = Moves::from_vec(Vec::new(alloc));

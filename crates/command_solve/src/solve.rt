@@ -1,10 +1,11 @@
 //! The command `solve`: the instance is read, its solution is made and written, and the report is said.
-ghost use Rattle.std.specs.Prelude.{◌≤◌};
+ghost use Rattle.std.specs.Prelude.{◌≤◌, Some};
 ghost use Rattle.instance_model.specs.Limits.{standard_limits};
 ghost use Rattle.command_frame.specs.Sources.{source_view};
-ghost use Rattle.command_frame.specs.Writing.{PutsFiles};
+ghost use Rattle.command_frame.specs.Writing.{PutsFiles, TellsAnswer};
 ghost use Rattle.command_solve.specs.Solving.{AreDistinct, RunsSolve};
-ghost use Rattle.command_solve.specs.Made.{IsSolution, solution_writes, files_view, SolvesFiles};
+ghost use Rattle.command_solve.specs.Made.{plan_writes, solution_writes, answer_of, IsWritablePlan, IsWritable};
+ghost use Rattle.command_solve.specs.Made.{files_view, TellsSolution};
 
 use crate::solution::{Solution, solution_of};
 use command_frame::{
@@ -26,8 +27,8 @@ pub struct SolveFiles<'a> {
 
 /// Reads the instance, makes a plan, a certificate and a trail with so many turns, writes them, and says the report.
 ///
-/// The plan is kept over rows of this kind while it is changed. The instance file is word 2. No memory is taken once the
-/// first file is opened.
+/// Plans that change are kept over rows of this kind. The instance file is word 2. No memory is taken once the first
+/// file is opened.
 pub fn solve_files<R: Row, D: Desk>(
     alloc: Global,
     source: &Source<'_>,
@@ -56,7 +57,7 @@ fn solve_instance<R: Row, D: Desk>(
     desk: &mut D,
 ) -> u8
     requires turns { turns ≤ 1_000_000 }
-    ensures { SolvesFiles inst.now (files_view files.now) turns (D.shows desk.old) (D.shows desk.new) result }
+    ensures { TellsSolution inst.now (files_view files.now) turns (D.shows desk.old) (D.shows desk.new) result }
 {
     match solution_of::<R>(alloc, inst, turns) {
         Ok(solution) => tell(inst, files, &solution, desk),
@@ -66,6 +67,9 @@ fn solve_instance<R: Row, D: Desk>(
 
 // Writes a solution, and says its report. Takes no memory.
 fn tell<D: Desk>(inst: &Instance, files: &SolveFiles<'_>, solution: &Solution, desk: &mut D) -> u8
+    requires { IsWritable inst.now solution.now }
+    ensures { TellsAnswer (answer_of inst.now (files_view files.now) solution.now) (D.shows desk.old)
+        (D.shows desk.new) result }
 {
     match write_files(inst, files, solution, desk) {
         Ok(()) => say(desk, solution.report.status, solution.report.text.as_slice()),
@@ -81,6 +85,9 @@ fn write_files<D: Desk>(
     solution: &Solution,
     desk: &mut D,
 ) -> Result<(), u64>
+    requires { IsWritable inst.now solution.now }
+    ensures { PutsFiles (solution_writes inst.now (files_view files.now) solution.now) (D.shows desk.old)
+        (D.shows desk.new) result }
 {
     match put_certificate(inst, &solution.certificate, files.certificate, desk) {
         Ok(()) => {}
@@ -91,15 +98,23 @@ fn write_files<D: Desk>(
         Err(_) => return Err(5),
     }
     match &solution.plan {
-        Some(plan) => write_best(inst, plan, files.plan, desk),
+        Some(plan) => write_best(inst, files, plan, desk),
         None => Ok(()),
     }
 }
 
 // Writes the plan.
-fn write_best<D: Desk>(inst: &Instance, plan: &Starts, name: &str, desk: &mut D) -> Result<(), u64>
+fn write_best<D: Desk>(
+    inst: &Instance,
+    files: &SolveFiles<'_>,
+    plan: &Starts,
+    desk: &mut D,
+) -> Result<(), u64>
+    requires { IsWritablePlan inst.now plan.now }
+    ensures { PutsFiles (plan_writes inst.now (files_view files.now) (Some plan.now)) (D.shows desk.old)
+        (D.shows desk.new) result }
 {
-    match put_plan(inst, plan.as_slice(), name, desk) {
+    match put_plan(inst, plan.as_slice(), files.plan, desk) {
         Ok(()) => Ok(()),
         Err(_) => Err(3),
     }
