@@ -16,7 +16,7 @@ from tempfile import TemporaryDirectory
 
 import scratch
 
-USES = ["local_search", "plan_moves", "quantile_index", "small_instances", "instance_read", "instance_model",
+USES = ["local_search", "plan_moves", "quantile_index", "instance_read", "instance_model",
         "fixed_num", "anyhow"]
 
 # Parts of a source that `ladder.py` takes too.
@@ -49,12 +49,45 @@ fn opening(alloc: Global, inst: &Instance) -> Result<Vec<u32>, AllocError> {
     }
     Ok(starts)
 }
+
+/// Whether these are starts of all interventions, one each, and all of them allowed.
+fn are_allowed(inst: &Instance, starts: &[u32]) -> bool
+    ensures { IsTrue result → AreAllowedStarts inst.now starts.now }
+{
+    if starts.len() != inst.interventions() as usize {
+        return false;
+    }
+    for i in 0..inst.interventions() {
+        if !inst.allowed(i, starts[i as usize]) {
+            return false;
+        }
+    }
+    true
+}
 '''
+
+
+# What is written of their proofs, with the crate's name for CRATE.
+READING_PROOFS = {"are_allowed/Invariants.antt": '''-- The starts that were looked at are allowed.
+use Rattle.std.proofs.Common.{ℕ, ◌<◌, slice_index, IsTrue}
+use Rattle.instance_model.specs.Tables.{is_allowed}
+use Rattle.CRATE.proofs.are_allowed.Given as goal
+
+abbrev pub invariant-loop-i : goal.invariant-loop-i
+invariant-loop-i l = (k : ℕ) → k < l.i → IsTrue (is_allowed l.inst k (slice_index l.starts k))
+'''}
+
+PROOFS = READING_PROOFS | {"measure/Invariants.antt": '''-- The steps are counted on the ledger that the blank becomes.
+use Rattle.CRATE.proofs.measure.Given as goal
+
+abbrev pub ghosts-judge : goal.ghosts-judge
+ghosts-judge g a = record { name = a.blank.name; parts = a.blank.parts }
+'''}
 
 SOURCE = '''//! Descends from the opening plan of an instance, and judges neighbours of where it ends.
 #![tactic(auto)]
 
-ghost use Rattle.std.specs.Prelude.{◌≡◌, ◌<◌, length};
+ghost use Rattle.std.specs.Prelude.{◌≡◌, ◌<◌, length, IsTrue};
 ghost use Rattle.instance_model.specs.Plans.{AreAllowedStarts};
 
 use anyhow::{Result, bail};
@@ -64,7 +97,6 @@ use instance_read::read_instance;
 use local_search::descend;
 use plan_moves::{Change, Kept};
 use quantile_index::{Row, TreeRow};
-use small_instances::are_allowed;
 use std::alloc::{AllocError, Global};
 use std::marker::Brand;
 use std::sync::ledger::{Blank, Ledger};
@@ -220,7 +252,7 @@ def main():
     parser.add_argument("--seconds", type=float, default=600)
     words = parser.parse_args()
     cases = scratch.cases(words.tools, words.cases.split())
-    with scratch.program("bench_descent", USES, SOURCE) as program, TemporaryDirectory() as folder:
+    with scratch.program("bench_descent", USES, SOURCE, PROOFS) as program, TemporaryDirectory() as folder:
         print("| case | turns | violation | score | changes | spent | seconds | moves judged a second | exchanges |")
         print("|---|--:|--:|--:|--:|---|--:|--:|--:|")
         path = os.path.join(folder, "instance")

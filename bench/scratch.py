@@ -42,9 +42,19 @@ def link_or_copy(one, other):
         shutil.copy2(one, other)
 
 
+def write(path, text):
+    """Writes a file, and makes the folders that it wants."""
+    os.makedirs(os.path.dirname(path), exist_ok=True)
+    with open(path, "w", encoding="utf-8") as out:
+        out.write(text)
+
+
 @contextmanager
-def program(name, uses, source):
-    """The path of a program of this source, which uses these crates; it is gone behind the block."""
+def program(name, uses, source, proofs):
+    """The path of a program of this source, which uses these crates; it is gone behind the block.
+
+    `proofs` has the texts of the files of its folder of that name, by their paths; they say CRATE for its name.
+    """
     listed = rows()
     with TemporaryDirectory(prefix="bench-") as folder:
         names = below(uses, listed)
@@ -55,12 +65,11 @@ def program(name, uses, source):
                 if os.path.isdir(have):
                     shutil.copytree(have, os.path.join(folder, "crates", crate, part), copy_function=copy)
         own = os.path.join(folder, "crates", name)
-        os.makedirs(os.path.join(own, "src"))
-        with open(os.path.join(own, "src", "main.rt"), "w", encoding="utf-8") as out:
-            out.write(source)
-        with open(os.path.join(folder, "crates.txt"), "w", encoding="utf-8") as out:
-            out.writelines(listed[crate] + "\n" for crate in sorted(names))
-            out.write(f"{name}: {' '.join(uses)}\n")
+        write(os.path.join(own, "src", "main.rt"), source)
+        for path, text in proofs.items():
+            write(os.path.join(own, "proofs", path), text.replace("CRATE", name))
+        lines = [listed[crate] for crate in sorted(names)] + [f"{name}: {' '.join(uses)}"]
+        write(os.path.join(folder, "crates.txt"), "\n".join(lines) + "\n")
         print(f"{name} is proved and built", file=sys.stderr)
         # (without words it says which it wants, and fails)
         ran = subprocess.run(["rt", "run"], cwd=own, stdin=subprocess.DEVNULL, stdout=subprocess.PIPE,

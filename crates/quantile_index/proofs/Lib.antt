@@ -3,5 +3,5 @@ pub mod BagLemmas
 pub mod HeightLemmas
 pub mod OrderLemmas
 pub mod RankLemmas
-pub mod PairLemmas
+pub mod KeyLemmas
 pub mod TreeLemmas

@@ -2,7 +2,7 @@
 pub mod HeightLimit
 pub mod HeightLaws
 pub mod Order
-pub mod Pairs
 pub mod Ranking
 pub mod Row
+pub mod SortKeys
 pub mod Tree

@@ -19,7 +19,7 @@ use std::sync::ledger::{Blank, Ledger};
 pub struct FlatRow {
     sums: Vec<Sum>,
     entries: Vec<Entry>,
-    pairs: Vec<(i128, u32)>,
+    keys: Vec<i128>,
 }
 
 impl Model for FlatRow {
@@ -30,7 +30,7 @@ impl Model for FlatRow {
 
     ghost view = { λ r. r.sums.items };
 
-    ghost invariant = { λ r. IsRow r.entries.items r.sums.items (length r.pairs.items) };
+    ghost invariant = { λ r. IsRow r.entries.items r.sums.items (length r.keys.items) };
 }
 
 /// Where the entry of scenario `k` is.
@@ -144,11 +144,11 @@ impl Row for FlatRow {
     fn make(alloc: Global, from: &[Sum]) -> Result<FlatRow, AllocError> {
         let entries = ranked::<Brand>(alloc, from, Blank::new(1))?;
         let sums = Vec::from_slice(alloc, from)?;
-        let pairs = vec![in alloc; (0, 0); from.len()]?;
+        let keys = vec![in alloc; 0; from.len()]?;
         Ok(FlatRow {
             sums,
             entries,
-            pairs,
+            keys,
         })
     }
 
@@ -165,8 +165,8 @@ impl Row for FlatRow {
     }
 
     fn replace_all<L: Ledger>(&mut self, from: &[Sum], steps: &mut Steps<L>) {
-        rank(from, &mut self.pairs, steps);
-        write_entries(from, &self.pairs, &mut self.entries);
+        rank(from, &mut self.keys, steps);
+        write_entries(from, &self.keys, &mut self.entries);
         self.sums.copy_from_slice(from);
     }
 

@@ -2,7 +2,7 @@
 ghost use Rattle.std.specs.Prelude.{◌≡◌, true, false, ◌+◌, ◌*◌, ◌^◌, ◌<◌, ◌≤◌, max, [], ◌∷◌, ◌++◌, map, length, All};
 ghost use Rattle.std.specs.Prelude.{IfOk};
 ghost use Rattle.quantile_index.specs.Order.{IsOrdered};
-ghost use Rattle.quantile_index.specs.Pairs.{entry_of, IsPairOf};
+ghost use Rattle.quantile_index.specs.SortKeys.{entry_of, IsKeyIn};
 ghost use Rattle.quantile_index.specs.Ranking.{HasSumAt};
 ghost use Rattle.quantile_index.specs.Tree.{contents, entries_of, IsLow, IsSound, IsSoundLink, DifferByAtMost};
 
@@ -126,21 +126,21 @@ impl Tree {
         }
     }
 
-    /// Writes the entries of pairs that were read of these sums over those of the tree, whose shape stays.
-    pub fn overwrite(&mut self, pairs: &[(i128, u32)], from: &[Sum])
-        requires each { length pairs.now ≡ length self.old.0 }
-        requires read { All (IsPairOf from.now) pairs.now }
-        requires ordered { IsOrdered (map entry_of pairs.now) }
-        ensures entries { self.new.0 ≡ map entry_of pairs.now }
+    /// Writes the entries of keys of these sums over those of the tree, whose shape stays.
+    pub fn overwrite(&mut self, keys: &[i128], from: &[Sum])
+        requires each { length keys.now ≡ length self.old.0 }
+        requires read { All (IsKeyIn from.now) keys.now }
+        requires ordered { IsOrdered (map entry_of keys.now) }
+        ensures entries { self.new.0 ≡ map entry_of keys.now }
         ensures height { self.new.1 ≡ self.old.1 }
     {
         match &mut self.root {
             Link::Leaf => {}
             Link::Fork(node) => {
                 let before = node.left.size() as usize;
-                node.left.overwrite(&pairs[..before], from);
-                node.entry = entry_at(from, &pairs[before]);
-                node.right.overwrite(&pairs[before + 1..], from);
+                node.left.overwrite(&keys[..before], from);
+                node.entry = entry_at(from, &keys[before]);
+                node.right.overwrite(&keys[before + 1..], from);
             }
         }
     }

@@ -23,7 +23,7 @@ use std::sync::ledger::{Blank, Ledger};
 pub struct TreeRow {
     sums: Vec<Sum>,
     tree: Tree,
-    pairs: Vec<(i128, u32)>,
+    keys: Vec<i128>,
 }
 
 impl Model for TreeRow {
@@ -34,7 +34,7 @@ impl Model for TreeRow {
 
     ghost view = { λ r. r.sums.items };
 
-    ghost invariant = { λ r. IsRow r.tree.0 r.sums.items (length r.pairs.items) };
+    ghost invariant = { λ r. IsRow r.tree.0 r.sums.items (length r.keys.items) };
 }
 
 /// Changes the sum of scenario `k`, by scenario and in the tree, which is handed back.
@@ -93,8 +93,8 @@ impl Row for TreeRow {
     fn make(alloc: Global, from: &[Sum]) -> Result<TreeRow, AllocError> {
         let tree = tree_of::<Brand>(alloc, from, Blank::new(1))?;
         let sums = Vec::from_slice(alloc, from)?;
-        let pairs = vec![in alloc; (0, 0); from.len()]?;
-        Ok(TreeRow { sums, tree, pairs })
+        let keys = vec![in alloc; 0; from.len()]?;
+        Ok(TreeRow { sums, tree, keys })
     }
 
     fn len(&self) -> u32 {
@@ -111,8 +111,8 @@ impl Row for TreeRow {
     }
 
     fn replace_all<L: Ledger>(&mut self, from: &[Sum], steps: &mut Steps<L>) {
-        rank(from, &mut self.pairs, steps);
-        self.tree.overwrite(&self.pairs, from);
+        rank(from, &mut self.keys, steps);
+        self.tree.overwrite(&self.keys, from);
         self.sums.copy_from_slice(from);
     }
 

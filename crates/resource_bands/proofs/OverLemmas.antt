@@ -87,7 +87,7 @@ AreRows-over inst v f o =
     }
 
 pub violation_fits : (inst : Tables) (v : BoardLoads) (further : ℤ) → IsFitting inst → IsOver inst v
-    → unsigned_abs further ≤ 10 ^ 30 → unsigned_abs (v.violation +ℤ further) < 10 ^ 37
+    → unsigned_abs further ≤ 10 ^ 33 → unsigned_abs (v.violation +ℤ further) < 10 ^ 37
 violation_fits inst v further f o h =
     rw o.violation (omega (arith, abs-sum (band_gaps inst v.board) further, band_gaps_small inst v.board f, h))
 

@@ -5,6 +5,7 @@
 //! instance it was made. Periods and starts count from 1; interventions and resources count from 0.
 #![tactic(auto)]
 
+mod cells;
 mod change;
 mod limit;
 mod loads;

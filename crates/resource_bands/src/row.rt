@@ -1,12 +1,9 @@
 //! The loads of one resource: contracts see the list by period.
 ghost use Rattle.std.specs.Prelude.{◌≡◌, ℕ, ◌+◌, ◌-◌, ◌*◌, ◌^◌, ◌<◌, ◌≤◌, pos, ◌+ℤ◌, ◌-ℤ◌, length, replicate};
-ghost use Rattle.std.specs.Prelude.{slice_index_or, slice_set, unsigned_abs, IfOk, IsTrue};
-ghost use Rattle.instance_model.specs.Tables.{is_allowed};
-ghost use Rattle.resource_bands.specs.Gaps.{gap_at, row_gap, signed, IsRow, IsRowChanged};
+ghost use Rattle.std.specs.Prelude.{slice_index_or, slice_set, unsigned_abs, IfOk};
+ghost use Rattle.resource_bands.specs.Gaps.{gap_at, row_gap, IsRow};
 
-use crate::change::Change;
 use crate::limit::{above, below};
-use duration_calendar::run;
 use fixed_num::Amount;
 use instance_model::Instance;
 use std::alloc::{AllocError, Global};
@@ -81,7 +78,7 @@ impl Row {
     }
 
     /// Adds to the load in period `t`; the answer is how much further it is then outside the limits of resource `c`.
-    fn shift(&mut self, inst: &Instance, c: u32, t: u32, by: Amount) -> Amount
+    pub(crate) fn shift(&mut self, inst: &Instance, c: u32, t: u32, by: Amount) -> Amount
         requires each { length self.old ≡ inst.now.periods }
         requires small { unsigned_abs by ≤ 10 ^ 20 }
         requires old { unsigned_abs (slice_index_or self.old (t - 1) (pos 0)) ≤ 1024 * 10 ^ 20 }
@@ -97,32 +94,4 @@ impl Row {
         self.set_load(t, new);
         gap(inst, c, t, new).minus(gap(inst, c, t, old))
     }
-}
-
-/// Adds the workloads of a run to the loads of resource `c`, or takes them off; the answer is how much
-/// further these are then outside their limits.
-pub(crate) fn change_row(
-    row: &mut Row,
-    inst: &Instance,
-    c: u32,
-    i: u32,
-    s: u32,
-    change: Change,
-) -> Amount
-    requires row { IsRow inst.now row.old }
-    requires resource { c < length inst.now.resource_names }
-    requires number { i < length inst.now.names }
-    requires allowed { IsTrue (is_allowed inst.now i s) }
-    ensures changed { IsRowChanged inst.now c i s change row.old row.new }
-    ensures gap { row_gap inst.now c row.new ≡ row_gap inst.now c row.old +ℤ result }
-    ensures small { unsigned_abs result ≤ 10 ^ 28 }
-{
-    inst.fits();
-    let window = run(inst, i, s);
-    let mut further = Amount::zero();
-    for t in window.from..window.past {
-        let work = change.of(inst.load(i, s, c, t));
-        further = further.plus(row.shift(inst, c, t, work));
-    }
-    further
 }

@@ -3,8 +3,9 @@ ghost use Rattle.std.specs.Prelude.{◌≡◌, ◌^◌, ◌<◌, ◌≤◌, ◌+
 ghost use Rattle.instance_model.specs.Tables.{is_allowed};
 ghost use Rattle.resource_bands.specs.Gaps.{rows_gap, AreRows, AreRowsChanged};
 
+use crate::cells::cells_to;
 use crate::change::Change;
-use crate::row::{Row, change_row};
+use crate::row::Row;
 use fixed_num::Amount;
 use instance_model::Instance;
 use std::alloc::{AllocError, Global};
@@ -35,7 +36,7 @@ pub(crate) fn gap_of_rows(inst: &Instance, rows: &[Row]) -> Amount
 }
 
 /// Adds the workloads of a run to the loads, or takes them off; the answer is how much
-/// further they are then outside their limits.
+/// further they are then outside their limits. Visits the workloads of this start alone.
 pub(crate) fn change_rows(
     rows: &mut [Row],
     inst: &Instance,
@@ -48,12 +49,18 @@ pub(crate) fn change_rows(
     requires allowed { IsTrue (is_allowed inst.now i s) }
     ensures changed { AreRowsChanged inst.now i s change rows.old rows.new }
     ensures gap { rows_gap inst.now rows.new ≡ rows_gap inst.now rows.old +ℤ result }
-    ensures small { unsigned_abs result ≤ 10 ^ 30 }
+    ensures small { unsigned_abs result ≤ 10 ^ 33 }
 {
+    inst.fits();
+    let cells = inst.workloads(i);
+    let from = cells_to(cells, s - 1);
+    let past = cells_to(cells, s);
     let mut further = Amount::zero();
-    for c in 0..inst.resources() {
-        let row = &mut rows[c as usize];
-        further = further.plus(change_row(row, inst, c, i, s, change));
+    for k in from..past {
+        let cell = &cells[k];
+        let work = change.of(cell.load);
+        let row = &mut rows[cell.resource as usize];
+        further = further.plus(row.shift(inst, cell.resource, cell.period, work));
     }
     further
 }

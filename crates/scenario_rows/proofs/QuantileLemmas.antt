@@ -1,17 +1,20 @@
 -- How a quantile rises with its sums, and what a period adds with it.
 use Rattle.std.proofs.Common.{◌≡◌, ℕ, zero, suc, ◌-◌, ◌*◌, ◌<◌, ◌≤◌, ◌^◌, refl, sym, arith, ℤ, pos, neg_ℤ, ◌+ℤ◌, ◌-ℤ◌}
-use Rattle.std.proofs.Common.{◌*ℤ◌, ◌<ℤ◌, ◌≤ℤ◌, Bool, true, false, cond, List, [], ◌∷◌, length, get_or, count_by}
-use Rattle.std.proofs.Common.{int_lt, int_le, unsigned_abs}
+use Rattle.std.proofs.Common.{◌*ℤ◌, ◌<ℤ◌, ◌≤ℤ◌, Bool, true, false, cond, List, [], ◌∷◌, ◌++◌, length, get_or, count_by}
+use Rattle.std.proofs.Common.{◌+◌, ◌∙◌, ap, int_lt, int_le, unsigned_abs, int_cmp, is_lt, IsPermutation}
+use Rattle.std.specs.List.Sorted.{IsSplitAround}
+use Rattle.std.proofs.lemmas.Bool.{false≢true}
 use Rattle.std.specs.Int.{int_max}
 use Rattle.std.proofs.lemmas.Int.{by_lt_z}
-use Rattle.std.proofs.lemmas.List.Sums.{sum_by-cons}
-use Rattle.std.proofs.lemmas.List.Elements.{All-contains}
-use borrow.Author.Differences.{at_most_in, le-true, true_is_lt, lt_out}
+use Rattle.std.proofs.lemmas.List.Sums.{sum_by-cons, sum_by-append, count_by-le-length}
+use Rattle.std.proofs.lemmas.List.Elements.{All-contains, Contains-append_right}
+use borrow.Author.Differences.{at_most_in, le-true, true_is_lt, true_is_le, false_is_lt, lt_out, le_out}
+use Rattle.quantile_index.proofs.BagLemmas.{count_no, count_yes}
 use Rattle.fixed_num.specs.Floors.{floor_of}
-use Rattle.fixed_num.specs.Rank.{mth_smallest}
+use Rattle.fixed_num.specs.Rank.{IsMthSmallest, mth_smallest}
 use Rattle.fixed_num.specs.Sums.{total}
 use Rattle.fixed_num.proofs.FloorLemmas.{floor_of_mono}
-use Rattle.fixed_num.proofs.RankLemmas.{IsMthSmallest-mth_smallest}
+use Rattle.fixed_num.proofs.RankLemmas.{IsMthSmallest-mth_smallest, IsMthSmallest-permutation, count_none, count_all}
 use Rattle.fixed_num.proofs.SignedLemmas.{signed_arith}
 use Rattle.instance_model.specs.Plans.{IsSmallSum}
 use Rattle.instance_model.proofs.DeviationLemmas.{scale_mono}
@@ -41,6 +44,39 @@ count_moved p q (y ∷ ys) (x ∷ xs) e h =
       sum_by-cons (λ z. cond (p z) 1 0) y ys,
       sum_by-cons (λ z. cond (q z) 1 0) x xs,
     )
+
+-- ---- a list around its member of some rank
+
+below_yes : (a b : ℤ) → a <ℤ b → int_lt a b ≡ true
+below_yes a b h = sym (true_is_lt a b (lt_out a b h))
+
+not_less : (a b : ℤ) → is_lt (int_cmp a b) ≡ false → b ≤ℤ a
+not_less a b e = by_lt_z a b (λ l. absurd (false≢true (sym e ∙ rw (below_yes a b l) refl))) (λ l. l)
+
+below_no : (a b : ℤ) → b ≤ℤ a → int_lt a b ≡ false
+below_no a b h = sym (false_is_lt a b (le_out b a h))
+
+upto_yes : (a b : ℤ) → a ≤ℤ b → int_le a b ≡ true
+upto_yes a b h = sym (true_is_le a b (le_out a b h))
+
+-- what stands at a place with none above it before, and none below it behind, has the rank of that place
+pub IsMthSmallest-from_split : (m : ℕ) (xs front back : List ℤ) (q : ℤ) → IsPermutation xs (front ++ q ∷ back)
+    → IsSplitAround int_cmp front q back → 1 ≤ m → length front ≡ m - 1 → IsMthSmallest m xs q
+IsMthSmallest-from_split m xs front back q moved split one place =
+    let none_below = count_none (λ x. int_lt x q) back
+    (λ k d l. below_no (get_or back k d) q (not_less (get_or back k d) q (split.1 k d l))) in
+    let all_upto = count_all (λ x. int_le x q) front
+    (λ k d l. upto_yes (get_or front k d) q (not_less q (get_or front k d) (split.0 k d l))) in
+    let self_below = count_no (λ x. int_lt x q) q back (below_no q q (omega (arith, signed_arith))) in
+    let self_upto = count_yes (λ x. int_le x q) q back (upto_yes q q (omega (arith, signed_arith))) in
+    let below = sum_by-append (λ x. cond (int_lt x q) 1 0) front (q ∷ back) in
+    let upto = sum_by-append (λ x. cond (int_le x q) 1 0) front (q ∷ back) in
+    let few = count_by-le-length (λ x. int_lt x q) front in
+    IsMthSmallest-permutation m xs (front ++ q ∷ back) q moved (record {
+      member = Contains-append_right front (q ∷ back) q (zero, omega arith, refl);
+      below = omega (arith, below, none_below, self_below, few, place, one);
+      upto = omega (arith, upto, all_upto, self_upto, place, one);
+    })
 
 -- where each number rises by at least d, so does the m-th smallest
 pub mth_smallest-raised : (m : ℕ) (xs ys : List ℤ) (d : ℤ) → 1 ≤ m → m ≤ length xs → length ys ≡ length xs

@@ -28,7 +28,8 @@ fn read_sums<L: Ledger>(sums: &[Sum], values: &mut [i128], steps: &mut Steps<L>)
     }
 }
 
-/// The sum at a rank in ascending order. Each is read once, in a step; the values are put in that order on scratch.
+/// The sum at a rank in ascending order. Each is read once, in a step; on scratch the values are put around the one of
+/// this rank, the others in no order.
 pub(crate) fn sum_at_rank<L: Ledger>(
     sums: &[Sum],
     rank: u32,
@@ -45,8 +46,8 @@ pub(crate) fn sum_at_rank<L: Ledger>(
     ensures forward { steps.old ≤ steps.new }
 {
     read_sums(sums, values, steps);
-    values.sort_unstable();
-    values[rank as usize - 1]
+    let (_, found, _) = values.select_nth_unstable(rank as usize - 1);
+    *found
 }
 
 /// By how much a change by these risks raises each sum at least.

@@ -1,14 +1,14 @@
 use Rattle.std.proofs.lemmas.List.Sorted.{All-permutation}
-use Rattle.quantile_index.specs.Pairs.{IsPairOf}
-use Rattle.quantile_index.proofs.PairLemmas.{IsRanking-sorted}
+use Rattle.quantile_index.specs.SortKeys.{IsKeyIn}
+use Rattle.quantile_index.proofs.KeyLemmas.{IsRanking-sorted}
 use Rattle.quantile_index.proofs.ranks.rank.Goals as goal
 
 pub returns-clause-ranking : goal.returns-clause-ranking
 returns-clause-ranking g c =
-    IsRanking-sorted c.args.from.now c.read_pairs.new.pairs c.sort_unstable.new.self c.read_pairs.ensures.entries
+    IsRanking-sorted c.args.from.now c.read_keys.new.keys c.sort_unstable.new.self c.read_keys.ensures.entries
     c.sort_unstable.ensures.permutation c.sort_unstable.ensures.sorted
 
 pub returns-clause-read : goal.returns-clause-read
 returns-clause-read g c =
-    All-permutation (IsPairOf c.args.from.now) c.read_pairs.new.pairs c.sort_unstable.new.self
-    c.sort_unstable.ensures.permutation c.read_pairs.ensures.read
+    All-permutation (IsKeyIn c.args.from.now) c.read_keys.new.keys c.sort_unstable.new.self
+    c.sort_unstable.ensures.permutation c.read_keys.ensures.read
