@@ -1,5 +1,4 @@
-use Rattle.std.proofs.Common.{◌∙◌, sym, ap}
-use Rattle.lagrange_bound.specs.Prices.{PriceList}
+use Rattle.std.proofs.Common.{◌∙◌, ap}
 use Rattle.price_ladder.specs.Raised.{root_worth}
 use Rattle.price_ladder.proofs.GainLemmas.{root_worth-zero}
 use Rattle.price_ladder.proofs.PhaseLemmas.{not_below}

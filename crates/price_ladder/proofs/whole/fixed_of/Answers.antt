@@ -1,5 +1,5 @@
-use Rattle.std.proofs.Common.{◌∙◌, ap, subst, List, ℕ}
-use Rattle.price_ladder.specs.Kept.{kept_at, AreLeast, sum_over}
+use Rattle.std.proofs.Common.{◌∙◌, ap, List, ℕ}
+use Rattle.price_ladder.specs.Kept.{kept_at, sum_over}
 use Rattle.price_ladder.proofs.GainLemmas.{root_has_starts}
 use Rattle.price_ladder.proofs.PhaseLemmas.{fixed_is}
 use Rattle.price_ladder.proofs.whole.fixed_of.Goals as goal

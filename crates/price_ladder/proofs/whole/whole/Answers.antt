@@ -1,4 +1,4 @@
-use Rattle.std.proofs.Common.{◌≡◌, ◌*◌, ◌<◌, ◌^◌, sym, subst, arith, ℤ, List, unsigned_abs}
+use Rattle.std.proofs.Common.{◌*◌, ◌<◌, ◌^◌, sym, subst, arith, ℤ, unsigned_abs}
 use Rattle.fixed_num.proofs.SignedLemmas.{back_from_abs}
 use Rattle.price_ladder.specs.Kept.{AreSmall}
 use Rattle.price_ladder.specs.Beside.{IsSettled}
