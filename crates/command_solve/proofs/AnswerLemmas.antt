@@ -1,13 +1,12 @@
 -- What the answer of a search comes to, by its best plan and its bound.
-use Rattle.std.proofs.Common.{◌≡◌, ℕ, ◌+◌, ◌≤◌, ◌⊎◌, inl, inr, refl, sym, ◌∙◌, ap, subst, arith, ℤ, ◌<ℤ◌, List, length}
-use Rattle.std.proofs.Common.{Option, Some, None, All, Any, Bool, true, false, IsTrue, map}
+use Rattle.std.proofs.Common.{◌≡◌, ℕ, ◌⊎◌, inl, inr, refl, sym, ◌∙◌, ap, subst, arith, ℤ, ◌<ℤ◌, List}
+use Rattle.std.proofs.Common.{Option, Some, None, Any, Bool, true, false, IsTrue, map}
 use Rattle.std.specs.Bool.{OnFalse}
 use Rattle.fixed_num.proofs.SignedLemmas.{signed_arith}
 use Rattle.instance_model.specs.Tables.{Tables}
 use Rattle.instance_model.specs.Rules.{IsFeasible}
 use Rattle.lagrange_bound.specs.Prices.{PriceList}
 use Rattle.lagrange_bound.specs.Goals.{risk_base, risk_value}
-use Rattle.certificate_lines.specs.declared.line.Bound.{Bound}
 use Rattle.certificate_lines.specs.declared.line.Bound.TheVariants.{NoPlan, Least}
 use Rattle.branch_tree.specs.Trees.{leaves, root_box}
 use Rattle.plan_moves.specs.declared.change.Change.{Change}

@@ -1,12 +1,12 @@
 -- `check` accepts each valid certificate whose text is short.
-use Rattle.std.proofs.Common.{◌≡◌, ℕ, ◌≤◌, refl, sym, List, length, Option, None}
+use Rattle.std.proofs.Common.{◌≡◌, ℕ, refl, sym, None}
 use Rattle.instance_model.specs.Limits.{standard_limits}
 use Rattle.instance_model.specs.Tables.{Tables}
 use Rattle.instance_model.specs.Fitting.{IsFitting}
 use Rattle.instance_model.specs.Exact.{CostIsJustAboveScore}
 use Rattle.lagrange_bound.specs.Goals.{risk_base, risk_value}
 use Rattle.branch_tree.specs.declared.certificate.Certificate.{Certificate}
-use Rattle.branch_tree.specs.Validity.{IsValid, IsFirstFailing}
+use Rattle.branch_tree.specs.Validity.{IsFirstFailing}
 use Rattle.branch_tree.specs.Laws.{ValidBoundsPlans, NodesAreOneTree}
 use Rattle.certificate_check.specs.declared.verdict.CertVerdict.TheVariants.{Valid, LeafFails}
 use Rattle.certificate_check.proofs.VerdictLemmas.{one_verdict}
@@ -21,7 +21,7 @@ use Rattle.command_frame.specs.Files.OnFile.{stands}
 use Rattle.command_check.specs.Checking.{IsAccepted}
 use Rattle.command_check.specs.Checking.Checks.{accepted}
 use Rattle.command_check.proofs.CheckLemmas.{bounds_every}
-use Rattle.command_solve.specs.Made.{IsShortValid, IsAcceptable, ShortValidIsAcceptable}
+use Rattle.command_solve.specs.Made.{IsShortValid, ShortValidIsAcceptable}
 
 module _ (inst : Tables) (fit : IsFitting inst) (cert : Certificate) (good : IsShortValid inst cert) where
   -- the text has no fault

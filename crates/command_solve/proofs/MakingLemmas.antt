@@ -1,6 +1,6 @@
 -- What a descent, a price list and a search made.
-use Rattle.std.proofs.Common.{◌≡◌, ℕ, ◌+◌, ◌*◌, ◌≤◌, refl, sym, ◌∙◌, ap, subst, arith, ℤ, ◌≤ℤ◌, List, [], ◌∷◌, length}
-use Rattle.std.proofs.Common.{map, Option, Some, None, All, false}
+use Rattle.std.proofs.Common.{◌≡◌, ℕ, ◌+◌, ◌*◌, ◌≤◌, sym, ap, subst, arith, ◌≤ℤ◌, List, [], length}
+use Rattle.std.proofs.Common.{Option, Some, All, false}
 use Rattle.std.proofs.lemmas.List.Elements.{All-nil, All-cons}
 use Rattle.instance_model.specs.Tables.{Tables}
 use Rattle.instance_model.specs.Fitting.{IsFitting}

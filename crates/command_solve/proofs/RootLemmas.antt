@@ -1,22 +1,20 @@
 -- The bound of a search is at least the worth of its list over all starts.
-use Rattle.std.proofs.Common.{◌≡◌, ℕ, zero, suc, ◌≤◌, ◌⊎◌, inl, inr, refl, sym, ◌∙◌, ap, subst, arith, ℤ, ◌≤ℤ◌, List, []}
-use Rattle.std.proofs.Common.{◌∷◌, ◌++◌, length, get_or, map, Option, Some, None, All, Any}
+use Rattle.std.proofs.Common.{◌≡◌, ℕ, zero, suc, ◌≤◌, inl, inr, sym, ap, subst, arith, ℤ, ◌≤ℤ◌, List, []}
+use Rattle.std.proofs.Common.{◌∷◌, ◌++◌, length, get_or, map, Option, Some, All}
 use Rattle.std.proofs.lemmas.List.Elements.{All-head}
 use Rattle.instance_model.specs.Tables.{Tables}
 use Rattle.instance_model.specs.Fitting.{IsFitting}
 use Rattle.instance_model.specs.Rules.{IsFeasible}
 use Rattle.instance_model.proofs.EntryLemmas.{is_allowed_facts}
-use Rattle.lagrange_bound.specs.declared.span.Span.{Span}
 use Rattle.lagrange_bound.specs.Prices.{PriceList, IsPriceList}
 use Rattle.lagrange_bound.specs.Goals.{risk_base, risk_value}
 use Rattle.lagrange_bound.specs.Boxes.{IsPlanIn}
 use Rattle.lagrange_bound.specs.Worth.{WorthBoundsPlans}
-use Rattle.certificate_lines.specs.declared.line.Bound.{Bound}
-use Rattle.certificate_lines.specs.declared.line.Bound.TheVariants.{NoPlan, Least}
+use Rattle.certificate_lines.specs.declared.line.Bound.TheVariants.{Least}
 use Rattle.branch_tree.specs.declared.node.Node.{Node}
-use Rattle.branch_tree.specs.declared.node.Node.TheVariants.{Split, Cost, Point, Band, Excl, Empty}
+use Rattle.branch_tree.specs.declared.node.Node.TheVariants.{Cost}
 use Rattle.branch_tree.specs.declared.certificate.Certificate.{Certificate}
-use Rattle.branch_tree.specs.Trees.{Tree, Leaf, leaf, split, leaves, below, above, root_box}
+use Rattle.branch_tree.specs.Trees.{Tree, leaf, split, leaves, below, above, root_box}
 use Rattle.branch_tree.specs.Holding.{list_at}
 use Rattle.branch_tree.proofs.RootLemmas.{root_at}
 use Rattle.branch_tree.proofs.Refuting.{feasible_allowed}

@@ -1,6 +1,6 @@
 -- What was made of an instance is an answer to it.
-use Rattle.std.proofs.Common.{◌≡◌, ℕ, ◌+◌, ◌≤◌, ◌<◌, refl, sym, ◌∙◌, ap, subst, arith, ℤ, pos, ◌-ℤ◌, List, [], ◌∷◌}
-use Rattle.std.proofs.Common.{length, map, Option, Some, None, All, IsTrue}
+use Rattle.std.proofs.Common.{◌≡◌, ℕ, ◌≤◌, refl, sym, subst, arith, ℤ, pos, ◌-ℤ◌, List, [], ◌∷◌}
+use Rattle.std.proofs.Common.{length, map, Option, Some, None}
 use Rattle.std.specs.Prelude.{IfSome}
 use Rattle.fixed_num.proofs.SignedLemmas.{signed_arith}
 use Rattle.std.proofs.lemmas.List.Elements.{All-nil, All-cons}
@@ -18,7 +18,7 @@ use Rattle.certificate_lines.specs.declared.line.Bound.{Bound}
 use Rattle.certificate_lines.specs.declared.line.Bound.TheVariants.{NoPlan, Least}
 use Rattle.branch_tree.specs.declared.node.Node.TheVariants.{Empty}
 use Rattle.branch_tree.specs.declared.certificate.Certificate.{Certificate}
-use Rattle.branch_tree.specs.Trees.{Leaf, leaf, root_box}
+use Rattle.branch_tree.specs.Trees.{leaf, root_box}
 use Rattle.branch_tree.specs.Ranges.{HasPricesOf, IsInRange}
 use Rattle.branch_tree.specs.Validity.{CertLeafHolds}
 use Rattle.certificate_text.specs.Laws.{TextsFitFiles}
@@ -26,12 +26,11 @@ use Rattle.branch_search.specs.declared.tree_end.TreeEnd.{TreeEnd}
 use Rattle.command_frame.specs.declared.report.Report.{Report}
 use Rattle.command_frame.specs.Ending.{Writing}
 use Rattle.command_check.proofs.CheckRun.{best_plan}
-use Rattle.command_solve.specs.declared.solution.Solution.{Solution}
-use Rattle.command_solve.specs.Solved.{IsSolved, IsWithoutStart, empty_certificate}
+use Rattle.command_solve.specs.Solved.{IsWithoutStart, empty_certificate}
 use Rattle.command_solve.specs.Solving.{SolveFiles, none_report, cert_write, trail_write, IsReplayable, IsFound, Solves}
 use Rattle.command_solve.specs.Solving.Solves.{found, nothing, none, no_start}
 use Rattle.command_solve.specs.Made.{AreWritable, IsShortValid, IsMade, IsAcceptable, CanReport, IsReportOf}
-use Rattle.command_solve.specs.Made.{plan_writes, solution_writes, answer_of, IsWritablePlan, IsSolution}
+use Rattle.command_solve.specs.Made.{plan_writes, IsWritablePlan, IsSolution}
 use Rattle.command_solve.proofs.AnswerLemmas.{some_has_bound, best_feasible, gap_is_spent, enough_meets, is_nothing}
 use Rattle.command_solve.proofs.PlanLemmas.{writable_plan, evaluable}
 

@@ -1,6 +1,6 @@
 -- What a run of `solve` promises follows from its end.
-use Rattle.std.proofs.Common.{◌≡◌, ◌≢◌, ◌⊎◌, inl, inr, ℕ, ◌≤◌, refl, sym, ◌∙◌, ap, subst, arith, ℤ, List, [], ◌∷◌}
-use Rattle.std.proofs.Common.{length, map, Option, Some, None, All, IsTrue}
+use Rattle.std.proofs.Common.{◌≡◌, ◌≢◌, ◌⊎◌, inl, inr, ℕ, ◌≤◌, refl, sym, ◌∙◌, ap, subst, arith, List, [], ◌∷◌}
+use Rattle.std.proofs.Common.{map, Option, Some, None}
 use Rattle.std.proofs.lemmas.List.{length-map}
 use Rattle.std.proofs.lemmas.List.Elements.{All-nil, All-cons}
 use Rattle.plan_desk.specs.Desk.{Shown, Output, TellsNames}
@@ -9,7 +9,6 @@ use Rattle.plan_desk.specs.FileWrites.{FileWrite, after_writes}
 use Rattle.instance_model.specs.declared.limits.Limits.{Limits}
 use Rattle.instance_model.specs.Limits.{standard_limits}
 use Rattle.instance_model.specs.Tables.{Tables}
-use Rattle.instance_model.specs.Rules.{KeepsRules}
 use Rattle.plan_moves.specs.declared.change.Change.{Change}
 use Rattle.certificate_lines.specs.declared.line.Bound.{Bound}
 use Rattle.certificate_lines.specs.declared.line.Bound.TheVariants.{NoPlan, Least}
@@ -17,25 +16,24 @@ use Rattle.branch_tree.specs.declared.certificate.Certificate.{Certificate}
 use Rattle.certificate_text.specs.Text.{certificate_text}
 use Rattle.command_frame.specs.Sources.{Source}
 use Rattle.command_frame.specs.Reports.{accepted_report}
-use Rattle.command_frame.specs.Ending.{Writing, Answer, files_of, reply, OrMemory, Ends, IsAllowed, IsAnswered, NoFault}
+use Rattle.command_frame.specs.Ending.{Writing, Answer, files_of, reply, Ends}
 use Rattle.command_frame.specs.Ending.OrMemory.{answers, no_memory}
 use Rattle.command_frame.specs.Ending.Ends.{done, unsaid, unwritten}
 use Rattle.command_frame.specs.Bytes.{TakesOne, RefusesInstance}
 use Rattle.command_frame.specs.Bytes.RefusesInstance.{long_instance, faulty_instance}
-use Rattle.command_frame.specs.Files.{Meeting, reading, by_bytes, OnInstance, OnGiven, OnPlan, OnCertificate}
+use Rattle.command_frame.specs.Files.{Meeting, reading, by_bytes}
 use Rattle.command_frame.specs.Files.{ReadsInstance}
 use Rattle.command_frame.specs.Files.OnFile.{unread, refused, stands}
 use Rattle.command_frame.specs.declared.refusal.Refusal.{Refusal}
 use Rattle.command_frame.specs.Refusals.{KeepsLast, IsInstanceCause, SaysRefused}
 use Rattle.command_frame.proofs.ReadLemmas.{refuses_instance, after_instance}
-use Rattle.command_frame.proofs.FileLemmas.{Carries, on_other, Goes, later_reading, exact_reading, OrUnread}
+use Rattle.command_frame.proofs.FileLemmas.{Carries, on_other, later_reading, exact_reading, OrUnread}
 use Rattle.command_frame.proofs.FileLemmas.{missing_file, then_next, say_refusal}
 use Rattle.command_frame.proofs.AnswerLemmas.{instance_status}
 use Rattle.command_frame.proofs.TakenLemmas.{on_taken, bad_instance}
 use Rattle.command_frame.proofs.EndLemmas.{Stays, memory_ends, refusal_ends, ends_quiet, ends_allowed, ends_exact}
 use Rattle.command_frame.proofs.WriteLemmas.{told_ends, told_later, wrote_behind}
-use Rattle.command_evaluate.specs.Evaluating.{Judges, AnswersEvaluate}
-use Rattle.command_check.specs.Checking.{IsKeptPlan, BoundsEveryPlan, Checks, AnswersCheck}
+use Rattle.command_check.specs.Checking.{IsKeptPlan, BoundsEveryPlan, AnswersCheck}
 use Rattle.command_solve.specs.Solved.{AreEnough, IsWithoutStart, empty_certificate}
 use Rattle.command_solve.specs.Solving.{SolveFiles, AreDistinct, cert_write, trail_write, plan_write, IsCheckable}
 use Rattle.command_solve.specs.Solving.{Solves, AnswersSolve, DueSolve, BehindSolve, ExpectsSolve, KeepsOthers, Opens}
@@ -49,7 +47,7 @@ use Rattle.command_solve.specs.Solving.ExpectsSolve.{a_plan, no_plan}
 use Rattle.command_solve.specs.Made.{TellsSolution}
 use Rattle.command_solve.specs.Made.TellsSolution.{told, no_memory as no_memory_left}
 use Rattle.command_solve.proofs.AnswerLemmas.{best_feasible}
-use Rattle.command_solve.proofs.HoldLemmas.{IsNamed, IsNoneOf, named_output, named_after, others_after, held_after}
+use Rattle.command_solve.proofs.HoldLemmas.{IsNoneOf, named_output, named_after, others_after, held_after}
 use Rattle.command_solve.proofs.HoldLemmas.{held_alike, others_stopped, at_name}
 
 -- ---- from one way of meeting the instance file to another
@@ -136,7 +134,7 @@ module _ (limits : Limits) (source : Source) (files : SolveFiles) (turns : ℕ) 
     two_held writes =
         let named = named_output old names in
         let same : (f : FileWrite) → HoldsBytes (after_writes (c ∷ t ∷ []) old) f.name f.bytes
-            → HoldsBytes new f.name f.bytes =
+        → HoldsBytes new f.name f.bytes =
         λ f. held_alike (after_writes (c ∷ t ∷ []) old).output.holds new.output.holds f.name f.bytes
         (same_holding (after_writes (c ∷ t ∷ []) old) new f.name writes) in (
           same c (held_after c (t ∷ []) old named
@@ -150,7 +148,7 @@ module _ (limits : Limits) (source : Source) (files : SolveFiles) (turns : ℕ) 
     three_held p p_is writes =
         let named = named_output old names in
         let same : (f : FileWrite) → HoldsBytes (after_writes (c ∷ t ∷ p ∷ []) old) f.name f.bytes
-            → HoldsBytes new f.name f.bytes =
+        → HoldsBytes new f.name f.bytes =
         λ f. held_alike (after_writes (c ∷ t ∷ p ∷ []) old).output.holds new.output.holds f.name f.bytes
         (same_holding (after_writes (c ∷ t ∷ p ∷ []) old) new f.name writes) in (
           same c (held_after c (t ∷ p ∷ []) old named

@@ -1,9 +1,9 @@
 -- What a descent from the opening plan came to.
-use Rattle.std.proofs.Common.{◌≡◌, ◌⊎◌, inl, inr, ℕ, ◌+◌, ◌-◌, ◌<◌, ◌≤◌, ◌^◌, refl, sym, ◌∙◌, ap, subst, arith, lit≤}
-use Rattle.std.proofs.Common.{List, [], ◌∷◌, ◌++◌, length, All, Some, Bool, true, false, IsTrue, ◌↔◌, pos, map, ℤ}
+use Rattle.std.proofs.Common.{◌≡◌, ◌⊎◌, inl, inr, ℕ, ◌-◌, ◌<◌, ◌^◌, refl, sym, ◌∙◌, ap, subst, arith}
+use Rattle.std.proofs.Common.{List, [], ◌∷◌, length, All, Some, Bool, true, false, IsTrue, ◌↔◌, pos, map, ℤ}
 use Rattle.std.specs.Bool.{OnFalse}
 use Rattle.std.proofs.lemmas.List.Elements.{All-nil, All-cons}
-use Rattle.instance_model.specs.Tables.{Tables, is_allowed, tmax}
+use Rattle.instance_model.specs.Tables.{Tables, is_allowed}
 use Rattle.instance_model.specs.Fitting.{IsFitting}
 use Rattle.instance_model.specs.Plans.{AreAllowedStarts}
 use Rattle.instance_model.specs.Rules.{IsFeasible}
@@ -16,7 +16,7 @@ use Rattle.plan_moves.specs.Changing.{after_change}
 use Rattle.plan_moves.specs.KeptPlans.{KeptPlans, AreKeptPlans, present, present_key}
 use Rattle.plan_moves.specs.Scripts.{NamesKnown, line_of}
 use Rattle.move_script.specs.Spelling.{HasSmallStart}
-use Rattle.local_search.specs.Descents.{AllLower, IsDescent, IsLocalOptimum, plans_after}
+use Rattle.local_search.specs.Descents.{AllLower, IsDescent, IsLocalOptimum}
 use Rattle.command_solve.specs.Solved.{end_of, IsTrail}
 
 -- ---- a descent

@@ -32,7 +32,6 @@ use Rattle.command_check.specs.Checking.{IsAccepted}
 use Rattle.command_solve.specs.declared.opening.Opening.{Opening}
 use Rattle.command_solve.specs.declared.opening.Opening.TheVariants.{From, Without}
 use Rattle.command_solve.specs.declared.making.Descended.{Descended}
-use Rattle.command_solve.specs.declared.making.Made.{Made}
 use Rattle.command_solve.specs.declared.solution.Solution.{Solution}
 use Rattle.command_solve.specs.declared.solve.SolveFiles.{SolveFiles as SolveNames}
 use Rattle.command_solve.specs.Solved.{end_of, IsTrail, IsSolved, AreEnough, IsWithoutStart}

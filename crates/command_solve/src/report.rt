@@ -5,9 +5,7 @@ ghost use Rattle.command_solve.specs.Solving.{count_line, counts_text, nothing_r
 ghost use Rattle.command_solve.specs.Made.{values_report};
 
 use branch_certificate::{Certificate, Node};
-use command_frame::{
-    Text, push_bound_line, push_gap_line, push_ranges, push_rounded, push_score,
-};
+use command_frame::{Text, push_bound_line, push_gap_line, push_ranges, push_rounded, push_score};
 use instance_model::Instance;
 use plan_moves::Moves;
 use plan_score::Values;

@@ -60,7 +60,11 @@ fn solution_from<R: Row>(
     valid_is_accepted(inst);
     let made = make::<R>(alloc, inst, opening, turns)?;
     let report = report_on(alloc, inst, &made.answer, &made.moves)?;
-    let TreeEnd { cert, best, unfinished: _ } = made.answer;
+    let TreeEnd {
+        cert,
+        best,
+        unfinished: _,
+    } = made.answer;
     Ok(Solution {
         report,
         certificate: cert,

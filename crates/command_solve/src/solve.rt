@@ -72,7 +72,11 @@ fn tell<D: Desk>(inst: &Instance, files: &SolveFiles<'_>, solution: &Solution, d
         (D.shows desk.new) result }
 {
     match write_files(inst, files, solution, desk) {
-        Ok(()) => say(desk, solution.report.status, solution.report.text.as_slice()),
+        Ok(()) => say(
+            desk,
+            solution.report.status,
+            solution.report.text.as_slice(),
+        ),
         Err(word) => say_numbered(desk, 8, WRITE_WORDS, word),
     }
 }

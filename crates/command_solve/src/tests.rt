@@ -28,7 +28,19 @@ const STARTLESS: &str = r#"{"Resources":{},"Seasons":{},
 const EMPTY: &str = r#"{"Resources":{},"Seasons":{},"Interventions":{},
 "Exclusions":{},"T":1,"Scenarios_number":[1],"Quantile":1,"Alpha":1}"#;
 
-const FOUND: &str = "plan found\nscore 2000000000000000000\nbound 2000000000000000000\ngap 0\ncost 1.000000000000 1.000000000000\nmean 1.000000000000 1.000000000000\nexcess 0.000000000000 0.000000000000\nsplits 1\nmoves 1\nrounded 0\n";
+/// The report on the best plan of two interventions, without its last lines.
+const FOUND: &[u8] = b"plan found\nscore 2000000000000000000\nbound 2000000000000000000\ngap 0\n\
+cost 1.000000000000 1.000000000000\nmean 1.000000000000 1.000000000000\n\
+excess 0.000000000000 0.000000000000\nsplits ";
+
+/// The report on the plan without starts, whole.
+const FOUND_EMPTY: &[u8] = b"plan found\nscore 0\nbound 0\ngap 0\n\
+cost 0.000000000000 0.000000000000\nmean 0.000000000000 0.000000000000\n\
+excess 0.000000000000 0.000000000000\nsplits 0\nmoves 0\nrounded 0\n";
+
+const NONE: &[u8] = b"no plan exists\nsplits 0\nmoves 0\nrounded 0\n";
+
+const NO_START: &[u8] = b"mpcert 2\nbound none\nlists 0\ntree\nempty 1\n";
 
 // A desk with an instance as the file I.
 fn desk(alloc: Global, instance: &str) -> Result<MemDesk, AllocError> {
@@ -48,17 +60,85 @@ fn solve(alloc: Global, turns: u32, desk: &mut MemDesk) -> u8 {
         certificate: "C",
         trail: "M",
     };
+    if turns > 1_000_000 {
+        return 2;
+    }
     solve_files::<TreeRow, MemDesk>(alloc, &source, &files, turns, desk)
 }
 
 #[test]
-fn a_plan_is_found(rt: HostRuntime) -> Result<(), Fail> {
+fn a_best_plan_is_found(rt: HostRuntime) -> Result<(), Fail> {
     let alloc = rt.alloc();
     let mut desk = desk(alloc, BANDED)?;
     assert_eq!(rt; solve(alloc, 3, &mut desk), 0);
-    assert_eq!(rt; str::from_utf8(desk.spoken()).unwrap_or("?"), FOUND);
-    assert_eq!(rt; str::from_utf8(desk.file("P").unwrap_or(b"")).unwrap_or("?"), "I1 1\nI2 2\n");
-    assert_eq!(rt; str::from_utf8(desk.file("C").unwrap_or(b"")).unwrap_or("?"), "");
-    assert_eq!(rt; str::from_utf8(desk.file("M").unwrap_or(b"")).unwrap_or("?"), "");
+    assert!(rt; desk.spoken().starts_with(FOUND));
+    assert_eq!(rt; desk.file("P"), Some(b"I1 1\nI2 2\n".as_slice()));
+    assert!(rt;
+        desk.file("C").is_some_and(|text| text.starts_with(
+            b"mpcert 2\nbound 2000000000000000000\nlists 1\n"
+        ))
+    );
+    assert!(rt; desk.file("M").is_some_and(|text| !text.is_empty()));
+    Ok(())
+}
+
+#[test]
+fn without_turns_nothing_is_found(rt: HostRuntime) -> Result<(), Fail> {
+    let alloc = rt.alloc();
+    let mut desk = desk(alloc, BANDED)?;
+    assert_eq!(rt; solve(alloc, 0, &mut desk), 9);
+    assert!(rt; desk.spoken().starts_with(b"nothing found\nbound "));
+    assert!(rt; desk.spoken().ends_with(b"\nsplits 0\nmoves 0\nrounded 0\n"));
+    assert_eq!(rt; desk.file("M"), Some(b"".as_slice()));
+    assert_eq!(rt; desk.file("P"), None);
+    Ok(())
+}
+
+#[test]
+fn no_plan_exists_without_a_start(rt: HostRuntime) -> Result<(), Fail> {
+    let alloc = rt.alloc();
+    let mut desk = desk(alloc, STARTLESS)?;
+    assert_eq!(rt; solve(alloc, 3, &mut desk), 10);
+    assert_eq!(rt; desk.spoken(), NONE);
+    assert_eq!(rt; desk.file("C"), Some(NO_START));
+    assert_eq!(rt; desk.file("M"), Some(b"".as_slice()));
+    assert_eq!(rt; desk.file("P"), None);
+    Ok(())
+}
+
+#[test]
+fn the_plan_without_starts_is_found(rt: HostRuntime) -> Result<(), Fail> {
+    let alloc = rt.alloc();
+    let mut desk = desk(alloc, EMPTY)?;
+    assert_eq!(rt; solve(alloc, 0, &mut desk), 0);
+    assert_eq!(rt; desk.spoken(), FOUND_EMPTY);
+    assert_eq!(rt; desk.file("P"), Some(b"".as_slice()));
+    assert_eq!(rt; desk.file("M"), Some(b"".as_slice()));
+    Ok(())
+}
+
+#[test]
+fn a_write_that_fails_is_told(rt: HostRuntime) -> Result<(), Fail> {
+    let alloc = rt.alloc();
+    let mut desk = desk(alloc, STARTLESS)?;
+    desk.fail_at(DeskCall::Write, 2)?;
+    assert_eq!(rt; solve(alloc, 3, &mut desk), 8);
+    assert_eq!(rt; desk.spoken(), b"refused write 4\n".as_slice());
+    assert!(rt;
+        desk.file("C").is_some_and(|text| NO_START.starts_with(text) && text.len() < NO_START.len())
+    );
+    assert_eq!(rt; desk.file("M"), None);
+    Ok(())
+}
+
+#[test]
+fn a_file_that_does_not_open_is_told(rt: HostRuntime) -> Result<(), Fail> {
+    let alloc = rt.alloc();
+    let mut desk = desk(alloc, STARTLESS)?;
+    desk.fail_at(DeskCall::PutOut, 2)?;
+    assert_eq!(rt; solve(alloc, 3, &mut desk), 8);
+    assert_eq!(rt; desk.spoken(), b"refused write 5\n".as_slice());
+    assert_eq!(rt; desk.file("C"), Some(NO_START));
+    assert_eq!(rt; desk.file("M"), None);
     Ok(())
 }

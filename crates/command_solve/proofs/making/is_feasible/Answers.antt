@@ -4,7 +4,6 @@ use Rattle.std.proofs.lemmas.Bool.Decides.{nat_tests}
 use Rattle.std.proofs.lemmas.Int.{to_z-of_z}
 use mir.Syntax.{w128}
 use mir.Val.{SFits, of_z, to_z}
-use Rattle.plan_moves.specs.KeptPlans.{present_key}
 use Rattle.command_solve.proofs.TrailLemmas.{present_feasible}
 use Rattle.command_solve.proofs.making.is_feasible.Goals as goal
 

@@ -1,4 +1,4 @@
-use Rattle.std.proofs.Common.{◌≡◌, ◌<◌, ℕ, List, length, sym, subst, arith}
+use Rattle.std.proofs.Common.{◌≡◌, ℕ, length, sym, subst, arith}
 use Rattle.instance_model.specs.Keys.{IsOpening}
 use Rattle.duration_calendar.specs.Calendar.{IsAllowedIn}
 use Rattle.command_solve.proofs.OpeningLemmas.{AreFirst, first_opens, first_without}

@@ -1,4 +1,4 @@
-use Rattle.std.proofs.Common.{◌≡◌, ℕ, arith}
+use Rattle.std.proofs.Common.{arith}
 use Rattle.branch_tree.specs.declared.node.Node.TheVariants.{Split}
 use Rattle.command_solve.proofs.SplitLemmas.{split_more}
 use Rattle.command_solve.proofs.report.split_count.Goals as goal

@@ -1,4 +1,4 @@
-use Rattle.std.proofs.Common.{List, ◌∷◌, ℕ, Option, Some, Err, sym, subst}
+use Rattle.std.proofs.Common.{List, ◌∷◌, ℕ, Option, Err, sym, subst}
 use Rattle.command_frame.specs.Writing.{PutsFiles}
 use Rattle.command_frame.proofs.WriteLemmas.{puts_first, puts_more}
 use Rattle.command_solve.specs.Solving.{cert_write, trail_write}
