@@ -4,8 +4,10 @@ use Rattle.std.proofs.Common.{arith, codes}
 use Rattle.std.specs.Prelude.{bytes_eq, ◌&&◌, if◌then◌else◌}
 use Rattle.std.proofs.lemmas.Slice.Eq.{bytes_eq-Decides}
 use Rattle.instance_model.specs.Rules.{or_else}
-use Rattle.planner_cli.specs.Words.{Command, evaluate, replay, check, is_file_word, slack_of, given_plan, evaluation}
-use Rattle.planner_cli.specs.Words.{replaying, checking, evaluate_of, replay_of, check_of, IsOneCommand}
+use Rattle.command_solve.specs.Solving.{SolveFiles}
+use Rattle.planner_cli.specs.Words.{Command, evaluate, replay, check, solve, is_file_word, are_file_words, are_distinct}
+use Rattle.planner_cli.specs.Words.{slack_of, turns_of, given_plan, solve_files, evaluation, replaying, checking, solving}
+use Rattle.planner_cli.specs.Words.{evaluate_of, replay_of, check_of, solve_of, IsOneCommand}
 
 -- ---- too few words, and too many
 
@@ -55,6 +57,26 @@ many_check (a ∷ b ∷ d ∷ e ∷ []) h = absurd (omega (arith, h))
 many_check (a ∷ b ∷ d ∷ e ∷ f ∷ []) h = absurd (omega (arith, h))
 many_check (a ∷ b ∷ d ∷ e ∷ f ∷ k ∷ words) h = refl
 
+pub few_solve : (words : List (List ℕ)) → length words < 6 → solve_of words ≡ None
+few_solve [] h = refl
+few_solve (a ∷ []) h = refl
+few_solve (a ∷ b ∷ []) h = refl
+few_solve (a ∷ b ∷ d ∷ []) h = refl
+few_solve (a ∷ b ∷ d ∷ e ∷ []) h = refl
+few_solve (a ∷ b ∷ d ∷ e ∷ f ∷ []) h = refl
+few_solve (a ∷ b ∷ d ∷ e ∷ f ∷ k ∷ words) h = absurd (omega (arith, h))
+
+pub many_solve : (words : List (List ℕ)) → 7 < length words → solve_of words ≡ None
+many_solve [] h = refl
+many_solve (a ∷ []) h = refl
+many_solve (a ∷ b ∷ []) h = refl
+many_solve (a ∷ b ∷ d ∷ []) h = refl
+many_solve (a ∷ b ∷ d ∷ e ∷ []) h = refl
+many_solve (a ∷ b ∷ d ∷ e ∷ f ∷ []) h = refl
+many_solve (a ∷ b ∷ d ∷ e ∷ f ∷ k ∷ []) h = absurd (omega (arith, h))
+many_solve (a ∷ b ∷ d ∷ e ∷ f ∷ k ∷ l ∷ []) h = absurd (omega (arith, h))
+many_solve (a ∷ b ∷ d ∷ e ∷ f ∷ k ∷ l ∷ m ∷ words) h = refl
+
 -- ---- a parser answers where word 1 is its command
 
 first : List (List ℕ) → List ℕ
@@ -93,6 +115,14 @@ checking_named name instance plan cert (Some slack) c e =
     if_four (bytes_eq name (codes "check")) (is_file_word instance) (is_file_word plan) (is_file_word cert)
     (check (record { instance = instance; slack = slack }) (given_plan plan) cert) c e
 
+solving_named : (name instance : List ℕ) (files : SolveFiles) (turns slack : Option ℕ) (c : Command)
+    → solving name instance files turns slack ≡ Some c → bytes_eq name (codes "solve") ≡ true
+solving_named name instance files None slack c e = absurd (no_answer c e)
+solving_named name instance files (Some turns) None c e = absurd (no_answer c e)
+solving_named name instance files (Some turns) (Some slack) c e =
+    if_four (bytes_eq name (codes "solve")) (is_file_word instance) (are_file_words files) (are_distinct instance files)
+    (solve (record { instance = instance; slack = slack }) files turns) c e
+
 evaluate_named : (words : List (List ℕ)) (c : Command) → evaluate_of words ≡ Some c
     → bytes_eq (first words) (codes "evaluate") ≡ true
 unfolding first
@@ -125,6 +155,21 @@ check_named (a ∷ b ∷ d ∷ f ∷ []) c e = checking_named a b d f (Some 0) c
 check_named (a ∷ b ∷ d ∷ f ∷ k ∷ []) c e = checking_named a b d f (slack_of k) c e
 check_named (a ∷ b ∷ d ∷ f ∷ k ∷ l ∷ words) c e = absurd (no_answer c e)
 
+solve_named : (words : List (List ℕ)) (c : Command) → solve_of words ≡ Some c
+    → bytes_eq (first words) (codes "solve") ≡ true
+unfolding first
+solve_named [] c e = absurd (no_answer c e)
+solve_named (a ∷ []) c e = absurd (no_answer c e)
+solve_named (a ∷ b ∷ []) c e = absurd (no_answer c e)
+solve_named (a ∷ b ∷ d ∷ []) c e = absurd (no_answer c e)
+solve_named (a ∷ b ∷ d ∷ f ∷ []) c e = absurd (no_answer c e)
+solve_named (a ∷ b ∷ d ∷ f ∷ k ∷ []) c e = absurd (no_answer c e)
+solve_named (a ∷ b ∷ d ∷ f ∷ k ∷ l ∷ []) c e =
+    solving_named a b (solve_files d f k) (turns_of l) (Some 0) c e
+solve_named (a ∷ b ∷ d ∷ f ∷ k ∷ l ∷ m ∷ []) c e =
+    solving_named a b (solve_files d f k) (turns_of l) (slack_of m) c e
+solve_named (a ∷ b ∷ d ∷ f ∷ k ∷ l ∷ m ∷ o ∷ words) c e = absurd (no_answer c e)
+
 -- a word is one name
 one_name : (word a b : List ℕ) → bytes_eq word a ≡ true → bytes_eq word b ≡ true → a ≡ b
 one_name word a b x y = sym ((bytes_eq-Decides word a).0 x) ∙ (bytes_eq-Decides word b).0 y
@@ -146,23 +191,39 @@ found_later : (o p : Option Command) (c : Command) → ((d : Command) → o ≡ 
 found_later None p c none e = e
 found_later (Some x) p c none e = absurd (none x refl)
 
+-- the words of one command are not those of another
+apart : (words : List (List ℕ)) (a b : List ℕ) → bytes_eq a b ≡ false → bytes_eq (first words) a ≡ true
+    → bytes_eq (first words) b ≡ true → ⊥
+apart words a b n x y = differ a b n (one_name (first words) a b x y)
+
 pub one_command : (words : List (List ℕ)) → IsOneCommand words
 one_command words =
+    let last = or_else (check_of words) (solve_of words) in
+    let later = or_else (replay_of words) last in
     record {
-      evaluates = λ c e. found (evaluate_of words) (or_else (replay_of words) (check_of words)) c e;
+      evaluates = λ c e. found (evaluate_of words) later c e;
       replays = λ c e.
-          found_later (evaluate_of words) (or_else (replay_of words) (check_of words)) c
-          (λ d also. differ (codes "evaluate") (codes "replay") refl
-          (one_name (first words) (codes "evaluate") (codes "replay") (evaluate_named words d also)
-          (replay_named words c e)))
-          (found (replay_of words) (check_of words) c e);
+          found_later (evaluate_of words) later c
+          (λ d also. apart words (codes "evaluate") (codes "replay") refl (evaluate_named words d also)
+          (replay_named words c e))
+          (found (replay_of words) last c e);
       checks = λ c e.
-          found_later (evaluate_of words) (or_else (replay_of words) (check_of words)) c
-          (λ d also. differ (codes "evaluate") (codes "check") refl
-          (one_name (first words) (codes "evaluate") (codes "check") (evaluate_named words d also)
-          (check_named words c e)))
-          (found_later (replay_of words) (check_of words) c
-          (λ d also. differ (codes "replay") (codes "check") refl
-          (one_name (first words) (codes "replay") (codes "check") (replay_named words d also) (check_named words c e)))
-          e);
+          found_later (evaluate_of words) later c
+          (λ d also. apart words (codes "evaluate") (codes "check") refl (evaluate_named words d also)
+          (check_named words c e))
+          (found_later (replay_of words) last c
+          (λ d also. apart words (codes "replay") (codes "check") refl (replay_named words d also)
+          (check_named words c e))
+          (found (check_of words) (solve_of words) c e));
+      solves = λ c e.
+          found_later (evaluate_of words) later c
+          (λ d also. apart words (codes "evaluate") (codes "solve") refl (evaluate_named words d also)
+          (solve_named words c e))
+          (found_later (replay_of words) last c
+          (λ d also. apart words (codes "replay") (codes "solve") refl (replay_named words d also)
+          (solve_named words c e))
+          (found_later (check_of words) (solve_of words) c
+          (λ d also. apart words (codes "check") (codes "solve") refl (check_named words d also)
+          (solve_named words c e))
+          e));
     }

@@ -1,22 +1,26 @@
 -- The command line. A word is the list of its bytes; words count from 1, and the command is word 1.
 use Rattle.std.specs.Prelude.{◌≡◌, ℕ, ◌-◌, ◌*◌, ◌^◌, List, [], ◌∷◌, length, take, drop, codes, bytes_eq, nat_le, nat_lt}
-use Rattle.std.specs.Prelude.{◌&&◌, Bool, Option, Some, None, if◌then◌else◌}
+use Rattle.std.specs.Prelude.{◌&&◌, not, Bool, Option, Some, None, if◌then◌else◌, decimal}
+use Rattle.std.specs.Str.Parse.{digits_value}
 use Rattle.instance_model.specs.Rules.{or_else}
 use Rattle.instance_shape.specs.Keys.{all_bytes, is_digit, number_of}
 use Rattle.command_frame.specs.Sources.{Source}
+use Rattle.command_solve.specs.Solving.{SolveFiles}
 
--- what a command line asks for, with the names of its files: the plan is word 3, the script or the certificate word 4.
--- A check may be without a plan.
+-- what a command line asks for, with the names of its files: the plan is word 3, the script or the certificate word 4,
+-- the trail word 5. A check may be without a plan.
 pub data Command : Type 0 where
   evaluate : (source : Source) (plan : List ℕ) → Command
   replay : (source : Source) (plan script : List ℕ) → Command
   check : (source : Source) (plan : Option (List ℕ)) (certificate : List ℕ) → Command
+  solve : (source : Source) (files : SolveFiles) (turns : ℕ) → Command
 
 -- how far the bands of a command's instance are widened, in 10^-12
 abbrev pub slack_in : Command → ℕ
 slack_in (evaluate source plan) = source.slack
 slack_in (replay source plan script) = source.slack
 slack_in (check source plan certificate) = source.slack
+slack_in (solve source files turns) = source.slack
 
 -- a file word is a text that is not empty
 abbrev pub is_file_word : List ℕ → Bool
@@ -74,6 +78,36 @@ checking name instance plan certificate (Some slack) =
     then Some (check (record { instance = instance; slack = slack }) (given_plan plan) certificate)
     else None
 
+-- the turns of a word: at most 1,000,000, in decimal digits without a needless zero in front
+abbrev pub turns_of : List ℕ → Option ℕ
+turns_of word =
+    if bytes_eq word (decimal (digits_value 10 word)) && nat_le (digits_value 10 word) 1_000_000
+    then Some (digits_value 10 word)
+    else None
+
+-- the words of files that are written are file words
+abbrev pub are_file_words : SolveFiles → Bool
+are_file_words files = is_file_word files.plan && is_file_word files.cert && is_file_word files.trail
+
+-- two file words differ
+abbrev pub differ : List ℕ → List ℕ → Bool
+differ a b = not (bytes_eq a b)
+
+-- the words of files that are written differ from each other, and from that of the file that is read
+abbrev pub are_distinct : List ℕ → SolveFiles → Bool
+are_distinct instance files =
+    differ instance files.plan && differ instance files.cert && differ instance files.trail
+    && differ files.plan files.cert && differ files.plan files.trail && differ files.cert files.trail
+
+-- `solve INSTANCE PLAN CERTIFICATE TRAIL TURNS` with a slack
+abbrev pub solving : List ℕ → List ℕ → SolveFiles → Option ℕ → Option ℕ → Option Command
+solving name instance files None slack = None
+solving name instance files (Some turns) None = None
+solving name instance files (Some turns) (Some slack) =
+    if bytes_eq name (codes "solve") && is_file_word instance && are_file_words files && are_distinct instance files
+    then Some (solve (record { instance = instance; slack = slack }) files turns)
+    else None
+
 -- ---- a parser for each command, whose words may end with one word `slack=D`
 
 abbrev pub evaluate_of : List (List ℕ) → Option Command
@@ -91,12 +125,25 @@ check_of (name ∷ instance ∷ plan ∷ cert ∷ []) = checking name instance p
 check_of (name ∷ instance ∷ plan ∷ cert ∷ slack ∷ []) = checking name instance plan cert (slack_of slack)
 check_of words = None
 
+-- the names of the files that `solve` writes
+abbrev pub solve_files : (plan cert trail : List ℕ) → SolveFiles
+solve_files plan cert trail = record { plan = plan; cert = cert; trail = trail }
+
+abbrev pub solve_of : List (List ℕ) → Option Command
+solve_of (name ∷ instance ∷ plan ∷ cert ∷ trail ∷ turns ∷ []) =
+    solving name instance (solve_files plan cert trail) (turns_of turns) (Some 0)
+solve_of (name ∷ instance ∷ plan ∷ cert ∷ trail ∷ turns ∷ slack ∷ []) =
+    solving name instance (solve_files plan cert trail) (turns_of turns) (slack_of slack)
+solve_of words = None
+
 -- the command of these words; none where they are not in the grammar
 abbrev pub command_of : List (List ℕ) → Option Command
-command_of words = or_else (evaluate_of words) (or_else (replay_of words) (check_of words))
+command_of words =
+    or_else (evaluate_of words) (or_else (replay_of words) (or_else (check_of words) (solve_of words)))
 
 -- At most one parser answers: the command is what any of them answers.
 pub record IsOneCommand (words : List (List ℕ)) : Type 0 where
   pub evaluates : (c : Command) → evaluate_of words ≡ Some c → command_of words ≡ Some c
   pub replays : (c : Command) → replay_of words ≡ Some c → command_of words ≡ Some c
   pub checks : (c : Command) → check_of words ≡ Some c → command_of words ≡ Some c
+  pub solves : (c : Command) → solve_of words ≡ Some c → command_of words ≡ Some c

@@ -1,18 +1,25 @@
 //! The command line.
 ghost use Rattle.std.specs.Prelude.{◌≡◌, ◌≤◌, map, string_bytes, option_copied, IfSome, IfNone, Some, None, IsTrue};
 ghost use Rattle.std.specs.Prelude.{false};
-ghost use Rattle.planner_cli.specs.Words.{command_of, evaluate_of, replay_of, check_of, IsOneCommand, evaluation};
-ghost use Rattle.planner_cli.specs.Words.{replaying, checking, given_plan, slack_in, slack_of, slack_count, fraction};
-ghost use Rattle.planner_cli.specs.Words.{are_decimals};
+ghost use Rattle.planner_cli.specs.Words.{command_of, evaluate_of, replay_of, check_of, solve_of, IsOneCommand};
+ghost use Rattle.planner_cli.specs.Words.{evaluation, replaying, checking, solving, given_plan, turns_of, slack_in};
+ghost use Rattle.planner_cli.specs.Words.{slack_of, slack_count, fraction, are_decimals, are_file_words, are_distinct};
 ghost use Rattle.instance_model.specs.Rules.{or_else};
-ghost use Rattle.planner_cli.specs.Asked.{command_view};
+ghost use Rattle.command_solve.specs.Made.{files_view};
+ghost use Rattle.planner_cli.specs.Asked.{command_view, CanSolve};
 
 use command_frame::Source;
+use command_solve::SolveFiles;
+use text_lines::numeral;
 
 /// How many counts of 10^-12 a slack has at most.
 const MOST_SLACK: u64 = 1_000_000_000;
 
-/// What the words ask for, with the names of its files: the plan is word 3, the script or the certificate word 4.
+/// How many turns there are at most.
+const MOST_TURNS: u64 = 1_000_000;
+
+/// What the words ask for, with the names of its files: the plan is word 3, the script or the certificate word 4, the
+/// trail word 5.
 #[derive(Clone, Copy)]
 pub enum Command<'a> {
     Evaluate {
@@ -30,6 +37,11 @@ pub enum Command<'a> {
         plan: Option<&'a str>,
         certificate: &'a str,
     },
+    Solve {
+        source: Source<'a>,
+        files: SolveFiles<'a>,
+        turns: u32,
+    },
 }
 
 /// The command of the words, if they are in the grammar.
@@ -37,6 +49,7 @@ pub fn command_of(words: &[String]) -> Option<Command<'_>>
     ensures found { IfSome result (λ asked. command_of (map string_bytes words.now) ≡ Some (command_view asked)) }
     ensures none { IfNone result (command_of (map string_bytes words.now) ≡ None) }
     ensures small { IfSome result (λ asked. slack_in (command_view asked) ≤ 1_000_000_000) }
+    ensures can { IfSome result (λ asked. CanSolve (command_view asked)) }
 
     // No other parser answers.
     ensures one { IsOneCommand (map string_bytes words.now) }
@@ -49,16 +62,33 @@ pub fn command_of(words: &[String]) -> Option<Command<'_>>
 
 // The command of words that are not those of `evaluate`.
 fn of_three_files(words: &[String]) -> Option<Command<'_>>
-    ensures found { IfSome result
-        (λ asked. or_else (replay_of (map string_bytes words.now)) (check_of (map string_bytes words.now))
+    ensures found { IfSome result (λ asked. or_else (replay_of (map string_bytes words.now))
+        (or_else (check_of (map string_bytes words.now)) (solve_of (map string_bytes words.now)))
         ≡ Some (command_view asked)) }
-    ensures none { IfNone result
-        (or_else (replay_of (map string_bytes words.now)) (check_of (map string_bytes words.now)) ≡ None) }
+    ensures none { IfNone result (or_else (replay_of (map string_bytes words.now))
+        (or_else (check_of (map string_bytes words.now)) (solve_of (map string_bytes words.now))) ≡ None) }
     ensures small { IfSome result (λ asked. slack_in (command_view asked) ≤ 1_000_000_000) }
+    ensures can { IfSome result (λ asked. CanSolve (command_view asked)) }
 {
     match replay_of(words) {
         Some(command) => Some(command),
-        None => check_of(words),
+        None => with_certificate(words),
+    }
+}
+
+// The command of words that are those of `check` or `solve`.
+fn with_certificate(words: &[String]) -> Option<Command<'_>>
+    ensures found { IfSome result
+        (λ asked. or_else (check_of (map string_bytes words.now)) (solve_of (map string_bytes words.now))
+        ≡ Some (command_view asked)) }
+    ensures none { IfNone result
+        (or_else (check_of (map string_bytes words.now)) (solve_of (map string_bytes words.now)) ≡ None) }
+    ensures small { IfSome result (λ asked. slack_in (command_view asked) ≤ 1_000_000_000) }
+    ensures can { IfSome result (λ asked. CanSolve (command_view asked)) }
+{
+    match check_of(words) {
+        Some(command) => Some(command),
+        None => solve_of(words),
     }
 }
 
@@ -67,6 +97,7 @@ fn evaluate_of(words: &[String]) -> Option<Command<'_>>
     ensures found { IfSome result (λ asked. evaluate_of (map string_bytes words.now) ≡ Some (command_view asked)) }
     ensures none { IfNone result (evaluate_of (map string_bytes words.now) ≡ None) }
     ensures small { IfSome result (λ asked. slack_in (command_view asked) ≤ 1_000_000_000) }
+    ensures can { IfSome result (λ asked. CanSolve (command_view asked)) }
 {
     match words {
         [name, instance, plan] => {
@@ -87,6 +118,7 @@ fn replay_of(words: &[String]) -> Option<Command<'_>>
     ensures found { IfSome result (λ asked. replay_of (map string_bytes words.now) ≡ Some (command_view asked)) }
     ensures none { IfNone result (replay_of (map string_bytes words.now) ≡ None) }
     ensures small { IfSome result (λ asked. slack_in (command_view asked) ≤ 1_000_000_000) }
+    ensures can { IfSome result (λ asked. CanSolve (command_view asked)) }
 {
     match words {
         [name, instance, plan, script] => replaying(
@@ -112,6 +144,7 @@ fn check_of(words: &[String]) -> Option<Command<'_>>
     ensures found { IfSome result (λ asked. check_of (map string_bytes words.now) ≡ Some (command_view asked)) }
     ensures none { IfNone result (check_of (map string_bytes words.now) ≡ None) }
     ensures small { IfSome result (λ asked. slack_in (command_view asked) ≤ 1_000_000_000) }
+    ensures can { IfSome result (λ asked. CanSolve (command_view asked)) }
 {
     match words {
         [name, instance, plan, certificate] => checking(
@@ -132,6 +165,40 @@ fn check_of(words: &[String]) -> Option<Command<'_>>
     }
 }
 
+// `solve` of these words.
+fn solve_of(words: &[String]) -> Option<Command<'_>>
+    ensures found { IfSome result (λ asked. solve_of (map string_bytes words.now) ≡ Some (command_view asked)) }
+    ensures none { IfNone result (solve_of (map string_bytes words.now) ≡ None) }
+    ensures small { IfSome result (λ asked. slack_in (command_view asked) ≤ 1_000_000_000) }
+    ensures can { IfSome result (λ asked. CanSolve (command_view asked)) }
+{
+    match words {
+        [name, instance, plan, certificate, trail, turns] => solving(
+            name.as_str(),
+            instance.as_str(),
+            SolveFiles {
+                plan: plan.as_str(),
+                certificate: certificate.as_str(),
+                trail: trail.as_str(),
+            },
+            turns_of(turns.as_str()),
+            Some(0),
+        ),
+        [name, instance, plan, certificate, trail, turns, slack] => solving(
+            name.as_str(),
+            instance.as_str(),
+            SolveFiles {
+                plan: plan.as_str(),
+                certificate: certificate.as_str(),
+                trail: trail.as_str(),
+            },
+            turns_of(turns.as_str()),
+            slack_of(slack.as_str()),
+        ),
+        _ => None,
+    }
+}
+
 // `evaluate` of these files, with this slack.
 fn evaluation<'a>(
     name: &str,
@@ -144,6 +211,7 @@ fn evaluation<'a>(
         (λ asked. evaluation name.now instance.now plan.now slack ≡ Some (command_view asked)) }
     ensures none { IfNone result (evaluation name.now instance.now plan.now slack ≡ None) }
     ensures small { IfSome result (λ asked. slack_in (command_view asked) ≤ 1_000_000_000) }
+    ensures can { IfSome result (λ asked. CanSolve (command_view asked)) }
 {
     let slack = slack?;
     if name != "evaluate" || instance.is_empty() || plan.is_empty() {
@@ -168,6 +236,7 @@ fn replaying<'a>(
         (λ asked. replaying name.now instance.now plan.now script.now slack ≡ Some (command_view asked)) }
     ensures none { IfNone result (replaying name.now instance.now plan.now script.now slack ≡ None) }
     ensures small { IfSome result (λ asked. slack_in (command_view asked) ≤ 1_000_000_000) }
+    ensures can { IfSome result (λ asked. CanSolve (command_view asked)) }
 {
     let slack = slack?;
     if name != "replay" || instance.is_empty() || plan.is_empty() || script.is_empty() {
@@ -193,6 +262,7 @@ fn checking<'a>(
         (λ asked. checking name.now instance.now plan.now certificate.now slack ≡ Some (command_view asked)) }
     ensures none { IfNone result (checking name.now instance.now plan.now certificate.now slack ≡ None) }
     ensures small { IfSome result (λ asked. slack_in (command_view asked) ≤ 1_000_000_000) }
+    ensures can { IfSome result (λ asked. CanSolve (command_view asked)) }
 {
     let slack = slack?;
     if name != "check" || instance.is_empty() || plan.is_empty() || certificate.is_empty() {
@@ -203,6 +273,66 @@ fn checking<'a>(
         plan: given_plan(plan),
         certificate,
     })
+}
+
+// `solve` of these files, with so many turns and this slack.
+fn solving<'a>(
+    name: &str,
+    instance: &'a str,
+    files: SolveFiles<'a>,
+    turns: Option<u32>,
+    slack: Option<u32>,
+) -> Option<Command<'a>>
+    requires turns { IfSome turns (λ count. count ≤ 1_000_000) }
+    requires small { IfSome slack (λ count. count ≤ 1_000_000_000) }
+    ensures found { IfSome result
+        (λ asked. solving name.now instance.now (files_view files) turns slack ≡ Some (command_view asked)) }
+    ensures none { IfNone result (solving name.now instance.now (files_view files) turns slack ≡ None) }
+    ensures small { IfSome result (λ asked. slack_in (command_view asked) ≤ 1_000_000_000) }
+    ensures can { IfSome result (λ asked. CanSolve (command_view asked)) }
+{
+    let turns = turns?;
+    let slack = slack?;
+    if name != "solve" || instance.is_empty() || !are_file_words(files) || !are_distinct(instance, files) {
+        return None;
+    }
+    Some(Command::Solve {
+        source: Source { instance, slack },
+        files,
+        turns,
+    })
+}
+
+// Whether no name of a file that is written is empty.
+fn are_file_words(files: SolveFiles<'_>) -> bool
+    ensures { result ≡ are_file_words (files_view files) }
+{
+    !files.plan.is_empty() && !files.certificate.is_empty() && !files.trail.is_empty()
+}
+
+// Whether the names of the files that are written differ from each other, and from that of the file that is read.
+fn are_distinct(instance: &str, files: SolveFiles<'_>) -> bool
+    ensures { result ≡ are_distinct instance.now (files_view files) }
+{
+    instance != files.plan
+        && instance != files.certificate
+        && instance != files.trail
+        && files.plan != files.certificate
+        && files.plan != files.trail
+        && files.certificate != files.trail
+}
+
+// The turns of a word.
+fn turns_of(word: &str) -> Option<u32>
+    ensures value { result ≡ turns_of word.now }
+    ensures small { IfSome result (λ count. count ≤ 1_000_000) }
+{
+    let turns = numeral(word.as_bytes(), 7)?;
+    if turns <= MOST_TURNS {
+        Some(turns as u32)
+    } else {
+        None
+    }
 }
 
 // The plan of a check: the word `-` stands for none.
