@@ -1,25 +1,20 @@
 -- Settled leaves: whatever plan was handed in, and when the best plan gets better.
-use Rattle.std.proofs.Common.{◌≡◌, ℕ, ◌<◌, ◌≤◌, ◌⊎◌, inl, inr, refl, sym, ◌∙◌, subst, arith, ℤ, ◌≤ℤ◌, ◌<ℤ◌, List, length}
+use Rattle.std.proofs.Common.{◌≡◌, ℕ, inl, inr, refl, sym, ◌∙◌, subst, arith, ℤ, ◌≤ℤ◌, ◌<ℤ◌, List}
 use Rattle.std.proofs.Common.{Option, Some, None}
 use Rattle.fixed_num.proofs.SignedLemmas.{signed_arith}
 use Rattle.instance_model.specs.Tables.{Tables}
-use Rattle.instance_model.specs.Fitting.{IsFitting}
 use Rattle.lagrange_bound.specs.declared.span.Span.{Span}
-use Rattle.lagrange_bound.specs.Prices.{PriceList, IsPriceList}
-use Rattle.lagrange_bound.specs.Goals.{Bases, PlanValue}
-use Rattle.lagrange_bound.specs.Boxes.{IsPlanIn, span_of}
+use Rattle.lagrange_bound.specs.Boxes.{span_of}
 use Rattle.branch_tree.specs.declared.node.Node.{Node}
 use Rattle.branch_tree.specs.declared.node.Node.TheVariants.{Split, Cost, Point, Band, Excl, Empty}
 use Rattle.branch_tree.specs.Trees.{below, above, IsSplit}
 use Rattle.branch_tree.specs.Holding.{first_starts}
-use Rattle.branch_tree.specs.Ranges.{IsLeafInRange}
 use Rattle.branch_tree.proofs.StartLemmas.{has_start_from}
 use Rattle.branch_search.specs.declared.settling.Settled.{Settled}
-use Rattle.branch_search.specs.Best.{IsReached, IsShort, IsFeasiblePlan, IsNoWorse, IsBestOver}
-use Rattle.branch_search.specs.Boxes.{IsUnrefuted}
-use Rattle.branch_search.specs.Tasks.{Task, freed, worth_in}
+use Rattle.branch_search.specs.Best.{IsReached, IsBestOver}
+use Rattle.branch_search.specs.Tasks.{Task, freed}
 use Rattle.branch_search.specs.Growing.{IsLeafNode}
-use Rattle.branch_search.specs.Settled.{IsWaitingBox, IsSettled, IsWorthOf, IsBetterIn, IsImprovedIn, IsLeafOf, ArePartsOf}
+use Rattle.branch_search.specs.Settled.{IsSettled, IsWorthOf, IsBetterIn, IsImprovedIn, IsLeafOf, ArePartsOf}
 use Rattle.branch_search.specs.Refuting.{IsRefuting}
 use Rattle.branch_search.proofs.WorthLemmas.{IsPart, plan_of_part, below_is_part, above_is_part}
 

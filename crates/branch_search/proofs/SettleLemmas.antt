@@ -1,10 +1,10 @@
 -- The leaf of a box that waits, and that of a single plan.
-use Rattle.std.proofs.Common.{◌≡◌, ℕ, zero, suc, ◌+◌, ◌<◌, ◌≤◌, inl, inr, refl, sym, ◌∙◌, ap, subst, arith, ℤ, ◌^◌}
-use Rattle.std.proofs.Common.{◌≤ℤ◌, ◌<ℤ◌, List, [], ◌∷◌, length, map, get_or, All, Option, Some, None, is_some, Bool, true, false}
+use Rattle.std.proofs.Common.{◌≡◌, ℕ, zero, suc, ◌<◌, ◌≤◌, refl, sym, ◌∙◌, ap, subst, arith, ℤ, ◌^◌}
+use Rattle.std.proofs.Common.{◌≤ℤ◌, ◌<ℤ◌, List, [], ◌∷◌, length, map, get_or, Option, Some, None, is_some}
+use Rattle.std.proofs.Common.{Bool, true, false}
 use Rattle.std.proofs.Common.{unsigned_abs}
 use Rattle.std.proofs.lemmas.Bool.{true≢false}
 use Rattle.std.proofs.lemmas.List.{get_or_default}
-use Rattle.fixed_num.proofs.SignedLemmas.{signed_arith}
 use Rattle.instance_model.specs.declared.rule.Rule.{Rule}
 use Rattle.instance_model.specs.Tables.{Tables}
 use Rattle.instance_model.specs.Plans.{AreAllowedStarts}
@@ -13,16 +13,14 @@ use Rattle.lagrange_bound.specs.declared.span.Span.{Span}
 use Rattle.lagrange_bound.specs.Prices.{PriceList, zero_list}
 use Rattle.lagrange_bound.specs.Goals.{Bases, PlanValue}
 use Rattle.lagrange_bound.specs.Boxes.{span_of, IsBox, HasStarts, IsPlanIn}
-use Rattle.lagrange_bound.specs.Tabulated.{PriceRows, IsPricedBox}
+use Rattle.lagrange_bound.specs.Tabulated.{PriceRows}
 use Rattle.branch_tree.specs.declared.node.Node.TheVariants.{Cost}
 use Rattle.branch_tree.specs.Holding.{IsSingle, first_starts, list_at}
 use Rattle.branch_tree.specs.Trees.{AreStartsIn}
 use Rattle.branch_tree.proofs.Refuting.{feasible_allowed, length-first_starts}
-use Rattle.branch_search.specs.declared.settling.Settled.{Settled}
 use Rattle.branch_search.specs.declared.worths.Worths.{Worths}
-use Rattle.branch_search.specs.Best.{IsFeasiblePlan}
 use Rattle.branch_search.specs.Boxes.{IsUnrefuted, worth_by, IsGreatest}
-use Rattle.branch_search.specs.Tasks.{free_task, worth_in}
+use Rattle.branch_search.specs.Tasks.{free_task}
 use Rattle.branch_search.specs.Settled.{IsLeafOf}
 use Rattle.branch_search.specs.Pricing.{IsTableOf, IsGivenTable, AreWorthsOf, IsPricedByGiven, last_table, given_worth}
 use Rattle.branch_search.specs.Pricing.{table_worth}

@@ -1,6 +1,6 @@
 -- The state of a search as it is kept: what its calls need, and what a step leaves.
-use Rattle.std.proofs.Common.{◌≡◌, ℕ, zero, suc, ◌+◌, ◌<◌, ◌≤◌, ◌⊎◌, inl, inr, refl, sym, ◌∙◌, ap, subst, arith, ℤ, ◌^◌}
-use Rattle.std.proofs.Common.{◌≤ℤ◌, ◌<ℤ◌, List, [], ◌∷◌, length, get_or, All, Contains, IfSome, Option, Some, None, unsigned_abs}
+use Rattle.std.proofs.Common.{◌≡◌, ℕ, ◌+◌, ◌<◌, ◌≤◌, ◌⊎◌, inl, inr, sym, ◌∙◌, ap, subst, arith, ℤ}
+use Rattle.std.proofs.Common.{◌≤ℤ◌, ◌<ℤ◌, List, [], ◌∷◌, length, get_or, All, Contains, IfSome, Option, Some, None}
 use Rattle.std.proofs.Common.{true, false}
 use Rattle.std.specs.Prelude.{IsPermutation}
 use Rattle.std.proofs.lemmas.Bool.{cases_Bool}
@@ -88,7 +88,8 @@ pub popped_several : (task : Task) (growth : Growth) (g : IsGrowth task growth) 
     → IsSingle spans → ⊥
 popped_several task growth g rest y n spans p e s =
     let x = popped_entry task growth g rest y n p in
-    (waits_at task (plan_in growth.best) (box_at g.state.boxes n) (node_at growth.cells.items n) x.list x.node (g.state.settled n x.within)).several
+    (waits_at task (plan_in growth.best) (box_at g.state.boxes n)
+    (node_at growth.cells.items n) x.list x.node (g.state.settled n x.within)).several
     (subst IsSingle e s)
 
 pub popped_unrefuted : (task : Task) (growth : Growth) (g : IsGrowth task growth) (rest : List (ℤ × ℕ)) (y : ℤ) (n : ℕ)

@@ -1,5 +1,5 @@
 -- The state of a search. Cited by private functions only: no part of any promise.
-use Rattle.std.specs.Prelude.{◌≡◌, ◌^◌, ℕ, ◌+◌, ◌<◌, ◌≤◌, ℤ, ◌≤ℤ◌, ⊤, List, [], ◌∷◌, length, Option, Some, None}
+use Rattle.std.specs.Prelude.{◌≡◌, ◌^◌, ℕ, ◌<◌, ◌≤◌, ℤ, ◌≤ℤ◌, List, length, Option, Some, None}
 use Rattle.std.specs.Prelude.{All, Contains, cond, ◌==◌, map, is_some, IfSome, IfNone, unsigned_abs}
 use Rattle.std.specs.List.{sum_by}
 use Rattle.lagrange_bound.specs.declared.span.Span.{Span}
@@ -7,7 +7,6 @@ use Rattle.lagrange_bound.specs.Prices.{PriceList}
 use Rattle.certificate_lines.specs.declared.line.Bound.{Bound}
 use Rattle.certificate_lines.specs.declared.line.Bound.TheVariants.{NoPlan, Least}
 use Rattle.certificate_lines.specs.declared.line.Version.TheVariants.{Two}
-use Rattle.branch_tree.specs.declared.node.Node.{Node}
 use Rattle.branch_tree.specs.declared.node.Node.TheVariants.{Split, Cost}
 use Rattle.branch_search.specs.declared.best.Best.{Best}
 use Rattle.branch_search.specs.declared.cell.Cell.{Cell}
@@ -16,7 +15,7 @@ use Rattle.branch_search.specs.declared.tree_end.TreeEnd.{TreeEnd}
 use Rattle.branch_search.specs.Best.{IsBestOver}
 use Rattle.branch_search.specs.Valued.{plan_in, IsValued, IsSmallValue, IsBelow}
 use Rattle.branch_search.specs.Tasks.{Task, worth_in}
-use Rattle.branch_search.specs.Growing.{cell_at, node_at, box_at, AreBoxesOf}
+use Rattle.branch_search.specs.Growing.{node_at, box_at, AreBoxesOf}
 use Rattle.branch_search.specs.Shapes.{Shape, forks, numbers, IsShapeOf}
 use Rattle.branch_search.specs.Settled.{IsSettled}
 use Rattle.branch_search.specs.Hands.{IsHand}

@@ -5,8 +5,8 @@ use crate::choice::Chooser;
 use crate::hand::Hand;
 use crate::waiting::Waiting;
 
-/// The nodes by number, the leaves that may be split, the best plan, if there is one, and how many splits were made; and
-/// the box that was split last, with what the next choice begins from.
+/// The nodes by number, the leaves that may be split, the best plan, if there is one, and how many splits were made;
+/// and the box that was split last, with what the next choice begins from.
 #[derive(Drop)]
 pub(crate) struct Growth {
     pub(crate) cells: Vec<Cell>,

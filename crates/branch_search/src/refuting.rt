@@ -57,8 +57,8 @@ pub(crate) fn refuting_leaf(inst: &Instance, hand: &Hand) -> Option<Node>
     }
 }
 
-/// The same where no leaf refuted the box while the interval of intervention `i` was `whole`, of which it is a part now.
-/// Tests that interval, the bands in the periods of its runs, and the exclusions that name the intervention.
+/// The same where no leaf refuted the box while the interval of intervention `i` was `whole`, of which it is a part
+/// now. Tests that interval, the bands in the periods of its runs, and the exclusions that name the intervention.
 pub(crate) fn refuting_part(inst: &Instance, hand: &Hand, i: u32, whole: Span) -> Option<Node>
     requires hand { IsHand inst.now hand.now }
     requires number { i < length inst.now.names }

@@ -38,7 +38,8 @@ pub(crate) struct Parts {
     pub(crate) right: Settled,
 }
 
-/// The leaf of a box, given one that refutes it, or none. The plan of a box that is a single one may become the best plan.
+/// The leaf of a box, given one that refutes it, or none. The plan of a box that is a single one may become the best
+/// plan.
 pub(crate) fn settle<G: Goal>(
     alloc: Global,
     goal: &G,
@@ -103,7 +104,16 @@ pub(crate) fn settle_root<G: Goal>(
     let root = BoxPath::root(alloc, inst)?;
     let hand = Hand::make(alloc, inst, root.spans())?;
     let refuting = refuting_leaf(inst, &hand);
-    let leaf = settle(alloc, goal, inst, lists, worths, hand.boxes.spans(), refuting, best)?;
+    let leaf = settle(
+        alloc,
+        goal,
+        inst,
+        lists,
+        worths,
+        hand.boxes.spans(),
+        refuting,
+        best,
+    )?;
     Ok((hand, leaf))
 }
 

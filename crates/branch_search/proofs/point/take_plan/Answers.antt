@@ -2,7 +2,7 @@ use Rattle.std.proofs.Common.{◌≡◌, ◌∙◌, sym, subst, inr, refl, arith
 use Rattle.lagrange_bound.specs.Boxes.{IsPlanIn}
 use Rattle.fixed_num.proofs.SignedLemmas.{back_from_abs}
 use Rattle.branch_search.specs.Valued.{IsBelow}
-use Rattle.branch_search.proofs.SettleLemmas.{allowed_of_feasible, plan_feasible, plan_broken, plan_within}
+use Rattle.branch_search.proofs.SettleLemmas.{allowed_of_feasible, plan_feasible, plan_within}
 use Rattle.branch_search.proofs.StateLemmas.{better_than}
 use Rattle.branch_search.proofs.point.take_plan.Goals as goal
 

@@ -1,6 +1,6 @@
 use Rattle.std.proofs.Common.{◌<◌, length, sym, subst, arith}
 use Rattle.std.proofs.lemmas.Grind.{common_steps}
-use Rattle.lagrange_bound.specs.Boxes.{HasStarts, span_of, starts_in}
+use Rattle.lagrange_bound.specs.Boxes.{span_of, starts_in}
 use Rattle.box_state.specs.Exclusions.{NoOtherHolds, NoExclusionHolds}
 use Rattle.branch_search.proofs.RefutingLemmas.{starts_of_part}
 use Rattle.branch_search.proofs.refuting.refuting_part.Goals as goal
@@ -10,7 +10,7 @@ holding_exclusion_by-requires-clause-others c =
     let inst = c.args.inst.now in
     let box = c.args.hand.now.boxes.spans in
     let others : NoOtherHolds inst box c.args.i = λ e l n h. c.requires.before.excls e l
-        ((c.others_are_kept.ensures.kept inst box c.args.i c.args.whole e n).0 h) in
+    ((c.others_are_kept.ensures.kept inst box c.args.i c.args.whole e n).0 h) in
     subst (λ box. NoOtherHolds inst box c.args.i) (sym c.spans-spans.ensures) others
 
 pub returns-in-None-clause-none : goal.returns-in-None-clause-none

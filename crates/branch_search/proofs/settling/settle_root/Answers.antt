@@ -9,11 +9,13 @@ use Rattle.branch_search.specs.Valued.{plan_in}
 use Rattle.branch_search.proofs.settling.settle_root.Goals as goal
 
 pub make-requires-clause-each : goal.make-requires-clause-each
-make-requires-clause-each g c = (subst (IsBox c.args.inst.now) (sym (c.spans.ensures ∙ ap first_box c.in_ok-root.ensures))
+make-requires-clause-each g c =
+    (subst (IsBox c.args.inst.now) (sym (c.spans.ensures ∙ ap first_box c.in_ok-root.ensures))
     (root_is_box c.args.inst.now c.fits.ensures)).each
 
 pub make-requires-clause-ends : goal.make-requires-clause-ends
-make-requires-clause-ends g c = (subst (IsBox c.args.inst.now) (sym (c.spans.ensures ∙ ap first_box c.in_ok-root.ensures))
+make-requires-clause-ends g c =
+    (subst (IsBox c.args.inst.now) (sym (c.spans.ensures ∙ ap first_box c.in_ok-root.ensures))
     (root_is_box c.args.inst.now c.fits.ensures)).to
 
 pub settle-requires-clause-spans : goal.settle-requires-clause-spans
