@@ -1,7 +1,7 @@
 #!/usr/bin/env python3
 """Times how a price list is raised on drawn instances, and sets its bound beside that of zeros and of the relaxation.
 
-    bench/ladder.py TOOLS [--call raise_plainly] [--cases "10-a1 20-a1"] [--turns 1000] [--seconds 600] [--linear 60]
+    bench/ladder.py TOOLS [--call raise_prices] [--cases "10-a1 20-a1"] [--turns 1000] [--seconds 600] [--linear 60]
 
 TOOLS is a folder with `draw_case.py` and `cases.txt`, as of `descend.py`, and with `mip.py`, which solves the linear
 relaxation of the problem where --linear gives it seconds above 0. A program over the crates is proved and built first.
@@ -127,7 +127,7 @@ def row(name, said, linear):
 def main():
     parser = argparse.ArgumentParser(description=__doc__.split("\n")[0])
     parser.add_argument("tools")
-    parser.add_argument("--call", default="raise_plainly")
+    parser.add_argument("--call", default="raise_prices")
     parser.add_argument("--cases", default="")
     parser.add_argument("--turns", default="1000")
     parser.add_argument("--seconds", type=float, default=600)

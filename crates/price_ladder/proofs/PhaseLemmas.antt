@@ -55,7 +55,8 @@ AreAllowedStarts-set inst starts i s l a h = record {
   allowed = λ k m. at k (omega (arith, m, length-set starts i s)) (eqb k i) refl;
 }
   where
-    at : (k : ℕ) → k < length starts → (e : Bool) → eqb k i ≡ e → IsTrue (is_allowed inst k (get_or (set starts i s) k 0))
+    at : (k : ℕ) → k < length starts → (e : Bool) → eqb k i ≡ e
+        → IsTrue (is_allowed inst k (get_or (set starts i s) k 0))
     at k m true q =
         let here : i ≡ k = grind (arith, nat_tests) in
         let now : get_or (set starts i s) i 0 ≡ s = get_or-set_same starts i s 0 (omega (arith, l, h.each)) in

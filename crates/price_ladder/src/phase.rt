@@ -43,8 +43,8 @@ fn switch_tails(
     Ok(())
 }
 
-/// An ascent from a list, in which these exclusions may get prices. It first aims above the worth by so many thousandths
-/// of the range of bases.
+/// An ascent from a list, in which these exclusions may get prices. It first aims above the worth by so many
+/// thousandths of the range of bases.
 fn ascend(
     alloc: Global,
     inst: &Instance,

@@ -1,6 +1,6 @@
-//! Worked rows: the list that the plain ladder raises for a plan, with its worth, on instances small enough to find them
-//! by hand. The fast ladder's list is one of several: its worth is at least as great here, and no greater than the least
-//! score of a plan.
+//! Worked rows: the list that the plain ladder raises for a plan, with its worth, on instances small enough to find
+//! them by hand. The fast ladder's list is one of several: its worth is at least as great here, and at most that of
+//! the best list.
 
 ghost use Rattle.instance_model.specs.Plans.{AreAllowedStarts};
 ghost use Rattle.lagrange_bound.specs.Prices.{IsPriceList};

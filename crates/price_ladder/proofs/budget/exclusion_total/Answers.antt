@@ -27,7 +27,8 @@ loop-x-preserved c =
     }
 
 pub returns-clause-value : goal.returns-clause-value
-returns-clause-value c = ex_total_all c.ex_prices-x-items.result.now c.args.prices.now.ex c.loop-x.x-index c.loop-x.total
+returns-clause-value c =
+    ex_total_all c.ex_prices-x-items.result.now c.args.prices.now.ex c.loop-x.x-index c.loop-x.total
     c.loop-x.invariant.value (omega arith) c.ex_prices-x-items.ensures
 
 pub returns-clause-small : goal.returns-clause-small

@@ -8,7 +8,8 @@ pub root_worth-requires-clause-starts : goal.root_worth-requires-clause-starts
 root_worth-requires-clause-starts c = root_has_starts c.args.inst.now c.args.starts.now c.requires.starts
 
 pub returns : goal.returns
-returns c = fixed_is c.args.inst.now c.args.prices.now c.args.entries.now c.in_ok-choice.choice.items c.in_ok-worth.worth
+returns c =
+    fixed_is c.args.inst.now c.args.prices.now c.args.entries.now c.in_ok-choice.choice.items c.in_ok-worth.worth
     c.entry_sum.result c.requires.values c.in_ok-choice.ensures c.in_ok-worth.ensures.value
     (c.entry_sum.ensures.value
     ∙ ap (λ (xs : List ℕ). sum_over c.args.inst.now (kept_at c.args.inst.now c.args.entries.now) xs)
