@@ -4,11 +4,11 @@ ghost use Rattle.std.specs.Prelude.{IsTrue};
 ghost use Rattle.small_instances.specs.Sketches.{is_fitting};
 
 use crate::is_feasible;
-use instance_model::Exclusion;
+use instance_model::{Exclusion, Instance};
 use plan_desk::MemDesk;
 use plan_table::{period_report, say_report};
 use small_instances::{Sketch, are_allowed, instance};
-use std::alloc::Global;
+use std::alloc::{AllocError, Global};
 use std::process::Abort;
 use std::test::Fail;
 
@@ -68,24 +68,29 @@ const ROUNDED: Sketch<'static> = Sketch {
     soft: &[true],
 };
 
-/// The report of period `t`, as it is said, and whether the plan is feasible.
-fn said(
+/// Whether the report of period `t` says this text; none where there is no such report.
+fn report_says(
     alloc: Global,
-    sketch: &Sketch,
+    inst: &Instance,
     starts: &[u32],
     t: u32,
-) -> Result<Option<(MemDesk, bool)>, Fail>
-    requires { IsTrue (is_fitting sketch.now) }
-{
-    let inst = instance(alloc, sketch)?;
-    if !are_allowed(&inst, starts) || t < 1 || t > inst.periods() {
+    text: &[u8],
+) -> Result<Option<bool>, Fail> {
+    if !are_allowed(inst, starts) || t < 1 || t > inst.periods() {
         return Ok(None);
     }
-    let report = period_report(alloc, &inst, starts, t)?;
+    let report = period_report(alloc, inst, starts, t)?;
     let mut desk = MemDesk::make(alloc);
-    say_report(&inst, &report, &mut desk)?;
-    let feasible = is_feasible(alloc, &inst, starts)?;
-    Ok(Some((desk, feasible)))
+    say_report(inst, &report, &mut desk)?;
+    Ok(Some(desk.spoken() == text))
+}
+
+/// Whether the plan is feasible; none where a start isn't allowed.
+fn judged(alloc: Global, inst: &Instance, starts: &[u32]) -> Result<Option<bool>, AllocError> {
+    if !are_allowed(inst, starts) {
+        return Ok(None);
+    }
+    Ok(Some(is_feasible(alloc, inst, starts)?))
 }
 
 /// The report says this text, and the plan is feasible or not.
@@ -100,11 +105,13 @@ fn says(
 ) -> Result<(), Fail>
     requires { IsTrue (is_fitting sketch.now) }
 {
-    let Some((desk, kept)) = said(alloc, sketch, starts, t)? else {
-        return Err(Fail::new("no such report"));
-    };
-    assert_eq!(rt; desk.spoken(), text, "{starts:?} in {t}");
-    assert_eq!(rt; kept, feasible);
+    let inst = instance(alloc, sketch)?;
+    assert_eq!(rt;
+        report_says(alloc, &inst, starts, t, text)?,
+        Some(true),
+        "{starts:?} in {t}"
+    );
+    assert_eq!(rt; judged(alloc, &inst, starts)?, Some(feasible), "{starts:?}");
     Ok(())
 }
 
