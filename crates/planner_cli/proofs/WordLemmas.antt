@@ -1,12 +1,11 @@
 -- The words of a command: their number, and that at most one parser answers.
 use Rattle.std.proofs.Common.{◌≡◌, ◌<◌, ℕ, List, [], ◌∷◌, length, Bool, true, false, Option, Some, None, refl, sym, ◌∙◌}
-use Rattle.std.proofs.Common.{ap, arith, codes}
+use Rattle.std.proofs.Common.{arith, codes}
 use Rattle.std.specs.Prelude.{bytes_eq, ◌&&◌, if◌then◌else◌}
 use Rattle.std.proofs.lemmas.Slice.Eq.{bytes_eq-Decides}
 use Rattle.instance_model.specs.Rules.{or_else}
-use Rattle.command_frame.specs.Sources.{Source}
 use Rattle.planner_cli.specs.Words.{Command, evaluate, replay, check, is_file_word, slack_of, given_plan, evaluation}
-use Rattle.planner_cli.specs.Words.{replaying, checking, evaluate_of, replay_of, check_of, command_of, IsOneCommand}
+use Rattle.planner_cli.specs.Words.{replaying, checking, evaluate_of, replay_of, check_of, IsOneCommand}
 
 -- ---- too few words, and too many
 
