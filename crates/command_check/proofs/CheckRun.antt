@@ -8,7 +8,7 @@ use Rattle.fixed_num.proofs.SumLemmas.{*ℤ-+ℤ}
 use Rattle.instance_model.proofs.DeviationLemmas.{scale_mono}
 use Rattle.instance_model.proofs.QuotientLemmas.{turn}
 use Rattle.plan_desk.specs.Desk.{Shown}
-use Rattle.plan_desk.specs.Contents.{TellsSuch, Says, KeepsFiles}
+use Rattle.plan_desk.specs.Contents.{Says, KeepsFiles}
 use Rattle.instance_model.specs.declared.limits.Limits.{Limits}
 use Rattle.instance_model.specs.Tables.{Tables}
 use Rattle.instance_model.specs.Values.{score_of}
@@ -20,12 +20,11 @@ use Rattle.certificate_lines.specs.declared.line.Bound.TheVariants.{NoPlan, Leas
 use Rattle.branch_tree.specs.declared.certificate.Certificate.{Certificate}
 use Rattle.branch_tree.specs.Validity.{IsValid, IsFirstFailing}
 use Rattle.command_frame.specs.Sources.{Source}
-use Rattle.command_frame.specs.Ending.{Answer, OrMemory, Ends}
-use Rattle.command_frame.specs.Bytes.{TakesOne, RefusesInstance, Spells, IsRefusedPlan, RefusesPlan, SpellsCertificate}
-use Rattle.command_frame.specs.Bytes.{SpellsOne, IsRefusedCertificate, RefusesCertificate}
-use Rattle.command_frame.specs.Files.{Meeting, reading, by_bytes, OnInstance, OnPlan, OnGiven, OnCertificate}
-use Rattle.command_frame.specs.Files.{ReadsInstance, ReadsGiven, ReadsCertificate, SaysUnread, SaysRefusal}
-use Rattle.command_frame.specs.Files.{TellsMissing, TellsInstance, TellsGiven, TellsCertificate}
+use Rattle.command_frame.specs.Ending.{Answer, Ends}
+use Rattle.command_frame.specs.Bytes.{TakesOne, RefusesInstance, Spells, RefusesPlan, SpellsCertificate, SpellsOne}
+use Rattle.command_frame.specs.Bytes.{IsRefusedCertificate, RefusesCertificate}
+use Rattle.command_frame.specs.Files.{Meeting, reading, by_bytes, OnPlan, OnGiven, OnCertificate, ReadsInstance}
+use Rattle.command_frame.specs.Files.{ReadsGiven, TellsInstance, TellsGiven}
 use Rattle.command_frame.specs.Files.OnFile.{unread, refused, stands}
 use Rattle.command_check.specs.Checking.{BoundsEveryPlan, exact_cost, IsBest, GivenKeeps, IsAccepted, Checks}
 use Rattle.command_check.specs.Checking.{AnswersCheck, DueCheck, ReadsCheck, BehindCheck, CheckedPlan, TellsChecked}
@@ -47,9 +46,9 @@ use Rattle.command_check.specs.Checking.ExpectsCheck.{refused_certificate as exp
 use Rattle.command_check.specs.Checking.ExpectsCheck.{refused_instance as expects_refused_instance}
 use Rattle.command_check.specs.Checking.ExpectsCheck.{refused_plan as expects_refused_plan}
 use Rattle.command_check.specs.Checking.ExpectsCheck.{valid_certificate as expects_valid_certificate}
-use Rattle.command_frame.proofs.FileLemmas.{Carries, CarriesGiven, on_other, on_given_other, Goes, later_reading}
-use Rattle.command_frame.proofs.FileLemmas.{later_given, exact_reading, exact_given, OrUnread, missing_file}
-use Rattle.command_frame.proofs.FileLemmas.{refused_file, told_file, then_next, then_more, say_refusal}
+use Rattle.command_frame.proofs.FileLemmas.{Carries, CarriesGiven, on_other, on_given_other, later_reading, later_given}
+use Rattle.command_frame.proofs.FileLemmas.{exact_reading, exact_given, OrUnread, missing_file, refused_file, told_file}
+use Rattle.command_frame.proofs.FileLemmas.{then_next, then_more, say_refusal}
 use Rattle.command_frame.proofs.AnswerLemmas.{instance_status, plan_status, certificate_status, text_accepted}
 use Rattle.command_frame.proofs.AnswerLemmas.{refused_apart}
 use Rattle.command_check.proofs.CheckAnswers.{kept_or_broken, checked_files_once}

@@ -1,8 +1,8 @@
 -- What a run of `replay` promises follows from its end.
-use Rattle.std.proofs.Common.{◌≡◌, ◌≢◌, ℕ, ◌≤◌, ◌⊎◌, inl, inr, List, Option, Some, None, refl, sym, subst}
+use Rattle.std.proofs.Common.{◌≡◌, ℕ, ◌≤◌, ◌⊎◌, inl, inr, List, Option, Some, None, refl, sym, subst}
 use Rattle.std.specs.Prelude.{IsSome}
 use Rattle.plan_desk.specs.Desk.{Shown}
-use Rattle.plan_desk.specs.Contents.{TellsSuch, Says, KeepsFiles}
+use Rattle.plan_desk.specs.Contents.{Says, KeepsFiles}
 use Rattle.plan_moves.specs.declared.script_line.ScriptLine.{ScriptLine}
 use Rattle.plan_moves.specs.Scripts.{Succeeds, FailsAt}
 use Rattle.move_script.specs.Replays.{FailsByStart, FailsByUndo}
@@ -10,11 +10,11 @@ use Rattle.instance_model.specs.declared.limits.Limits.{Limits}
 use Rattle.instance_model.specs.Tables.{Tables}
 use Rattle.instance_model.specs.Rules.{first_start_rule}
 use Rattle.command_frame.specs.Sources.{Source}
-use Rattle.command_frame.specs.Ending.{Answer, OrMemory, Ends}
+use Rattle.command_frame.specs.Ending.{Answer, Ends}
 use Rattle.command_frame.specs.Bytes.{TakesOne, RefusesInstance, Spells, RefusesPlan, SpellsScript, IsRefusedScript}
 use Rattle.command_frame.specs.Bytes.{RefusesScript}
-use Rattle.command_frame.specs.Files.{Meeting, reading, by_bytes, OnInstance, OnPlan, OnScript, ReadsInstance}
-use Rattle.command_frame.specs.Files.{ReadsPlan, ReadsScript, TellsInstance, TellsPlan, TellsScript}
+use Rattle.command_frame.specs.Files.{Meeting, reading, by_bytes, OnPlan, OnScript, ReadsInstance, ReadsPlan}
+use Rattle.command_frame.specs.Files.{ReadsScript, TellsInstance, TellsPlan}
 use Rattle.command_frame.specs.Files.OnFile.{unread, refused, stands}
 use Rattle.command_frame.specs.Openings.{IsOpeningOf}
 use Rattle.command_replay.specs.Replaying.{Replays, AnswersReplay, DueReplay, ReadsReplay, BehindReplay, ScriptedPlan}
@@ -32,8 +32,8 @@ use Rattle.command_replay.specs.Replaying.BehindReplay.{unread_script as behind_
 use Rattle.command_replay.specs.Replaying.ExpectsReplay.{no_instance, refused_instance, no_plan, refused_plan}
 use Rattle.command_replay.specs.Replaying.ExpectsReplay.{no_script, refused_script, broken_opening, done_script}
 use Rattle.command_replay.specs.Replaying.ExpectsReplay.{failing_line}
-use Rattle.command_frame.proofs.FileLemmas.{Carries, on_other, Goes, later_reading, exact_reading, OrUnread}
-use Rattle.command_frame.proofs.FileLemmas.{missing_file, refused_file, told_file, then_next, then_more, say_refusal}
+use Rattle.command_frame.proofs.FileLemmas.{Carries, on_other, later_reading, exact_reading, OrUnread, missing_file}
+use Rattle.command_frame.proofs.FileLemmas.{refused_file, told_file, then_next, then_more, say_refusal}
 use Rattle.command_frame.proofs.AnswerLemmas.{instance_status, plan_status, same_script, script_sound}
 use Rattle.command_frame.proofs.AnswerLemmas.{refused_script_bytes, script_status}
 use Rattle.command_replay.proofs.ReplayAnswers.{same_opening, no_broken_start, no_failure, replayed_files_once}

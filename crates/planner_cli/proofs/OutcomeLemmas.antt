@@ -4,13 +4,14 @@ use Rattle.plan_desk.specs.Desk.{Shown}
 use Rattle.plan_desk.specs.Contents.{Says, KeepsFiles}
 use Rattle.instance_model.specs.Limits.{standard_limits}
 use Rattle.command_frame.specs.Sources.{Source}
-use Rattle.planner_cli.specs.Words.{Command, evaluate, replay, check, command_of}
+use Rattle.planner_cli.specs.Words.{Command, evaluate, replay, check, solve, command_of}
 use Rattle.command_frame.specs.Lines.{words_line}
 use Rattle.command_frame.specs.Ending.{Answer, reply, Ends}
 use Rattle.command_frame.specs.Ending.Ends.{done, unsaid, unwritten}
 use Rattle.command_evaluate.specs.Evaluating.{RunsEvaluate}
 use Rattle.command_replay.specs.Replaying.{RunsReplay}
 use Rattle.command_check.specs.Checking.{RunsCheck}
+use Rattle.command_solve.specs.Solving.{SolveFiles, RunsSolve}
 use Rattle.planner_cli.specs.Outcome.{Asks, DueRefusal, BehindRefusal, RefusesWords, Outcome}
 use Rattle.planner_cli.specs.Outcome.BehindRefusal.{refused as behind_refused, unsaid as behind_unsaid}
 use Rattle.command_frame.specs.Refusals.{SaysOrFails}
@@ -61,6 +62,7 @@ OfCommand : Command → (old new : Shown) → ℕ → Type 0
 OfCommand (evaluate source plan) old new status = RunsEvaluate standard_limits source plan old new status
 OfCommand (replay source plan script) old new status = RunsReplay standard_limits source plan script old new status
 OfCommand (check source plan cert) old new status = RunsCheck standard_limits source plan cert old new status
+OfCommand (solve source files turns) old new status = RunsSolve standard_limits source files turns old new status
 
 pub outcome_refused : (words : List (List ℕ)) (old new : Shown) (status : ℕ) → command_of words ≡ None
     → KeepsFiles old new → SaysOrFails 2 words_line old new status → Outcome words old new status
@@ -71,6 +73,7 @@ outcome_refused words old new status none keeps says =
       evaluates = λ source plan asks. absurd (apart words (evaluate source plan) none asks);
       replays = λ source plan script asks. absurd (apart words (replay source plan script) none asks);
       checks = λ source plan cert asks. absurd (apart words (check source plan cert) none asks);
+      solves = λ source files turns asks. absurd (apart words (solve source files turns) none asks);
       quiet = run.quiet;
       later = run.later;
     }
@@ -87,6 +90,7 @@ outcome_evaluate words source name old new status asked run =
       evaluates = λ source plan asks. one (evaluate source plan) asks;
       replays = λ source plan script asks. one (replay source plan script) asks;
       checks = λ source plan cert asks. one (check source plan cert) asks;
+      solves = λ source files turns asks. one (solve source files turns) asks;
       quiet = run.quiet;
       later = run.later;
     }
@@ -104,6 +108,7 @@ outcome_replay words source name script_name old new status asked run =
       evaluates = λ source plan asks. one (evaluate source plan) asks;
       replays = λ source plan script asks. one (replay source plan script) asks;
       checks = λ source plan cert asks. one (check source plan cert) asks;
+      solves = λ source files turns asks. one (solve source files turns) asks;
       quiet = run.quiet;
       later = run.later;
     }
@@ -121,6 +126,24 @@ outcome_check words source name cert_name old new status asked run =
       evaluates = λ source plan asks. one (evaluate source plan) asks;
       replays = λ source plan script asks. one (replay source plan script) asks;
       checks = λ source plan cert asks. one (check source plan cert) asks;
+      solves = λ source files turns asks. one (solve source files turns) asks;
+      quiet = run.quiet;
+      later = run.later;
+    }
+
+pub outcome_solve : (words : List (List ℕ)) (source : Source) (files : SolveFiles) (turns : ℕ) (old new : Shown)
+    (status : ℕ) → Asks words (solve source files turns)
+    → RunsSolve standard_limits source files turns old new status → Outcome words old new status
+unfolding OfCommand
+outcome_solve words source files turns old new status asked run =
+    let one : (c : Command) → Asks words c → OfCommand c old new status = λ c asks. subst
+    (λ (x : Command). OfCommand x old new status) (same words (solve source files turns) c asked asks) run in
+    record {
+      no_command = λ is. absurd (apart words (solve source files turns) is asked);
+      evaluates = λ source plan asks. one (evaluate source plan) asks;
+      replays = λ source plan script asks. one (replay source plan script) asks;
+      checks = λ source plan cert asks. one (check source plan cert) asks;
+      solves = λ source files turns asks. one (solve source files turns) asks;
       quiet = run.quiet;
       later = run.later;
     }

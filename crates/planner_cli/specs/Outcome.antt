@@ -6,12 +6,13 @@ use Rattle.plan_desk.specs.Desk.{Shown}
 use Rattle.plan_desk.specs.Contents.{Says}
 use Rattle.instance_model.specs.Limits.{standard_limits}
 use Rattle.command_frame.specs.Sources.{Source}
-use Rattle.planner_cli.specs.Words.{Command, evaluate, replay, check, command_of}
+use Rattle.planner_cli.specs.Words.{Command, evaluate, replay, check, solve, command_of}
 use Rattle.command_frame.specs.Lines.{words_line}
 use Rattle.command_frame.specs.Ending.{Answer, reply, IsQuiet, SayFails, IsUnsaid, Ends}
 use Rattle.command_evaluate.specs.Evaluating.{RunsEvaluate}
 use Rattle.command_replay.specs.Replaying.{RunsReplay}
 use Rattle.command_check.specs.Checking.{RunsCheck}
+use Rattle.command_solve.specs.Solving.{SolveFiles, RunsSolve}
 
 -- the words ask for this command
 abbrev pub Asks : List (List ℕ) → Command → Type 0
@@ -45,6 +46,8 @@ pub record Outcome (words : List (List ℕ)) (old new : Shown) (status : ℕ) : 
       → RunsReplay standard_limits source plan script old new status
   pub checks : (source : Source) (plan : Option (List ℕ)) (cert : List ℕ) → Asks words (check source plan cert)
       → RunsCheck standard_limits source plan cert old new status
+  pub solves : (source : Source) (files : SolveFiles) (turns : ℕ) → Asks words (solve source files turns)
+      → RunsSolve standard_limits source files turns old new status
   -- the last fault is what it was, but at 7 and 8, and faults never fall
   pub quiet : IsQuiet status old new
   pub later : old.faults ≤ new.faults

@@ -7,16 +7,18 @@ use command_check::check_files;
 use command_evaluate::evaluate_files;
 use command_frame::{WORDS_LINE, say};
 use command_replay::replay_files;
+use command_solve::solve_files;
 use plan_desk::Desk;
 use quantile_index::{Row, TreeRow};
 use std::alloc::Global;
 
 /// Runs the command of these words, which are those after the program's name, and answers the status.
 ///
-/// 0: done; of `evaluate`, the plan is feasible; of `check`, the certificate is valid. 1: the plan breaks a rule; of
-/// `replay`, one on starts. 2: the words are not in the grammar. 3: the instance is refused. 4: the plan's text is
-/// refused. 5: the certificate is refused. 6: the script is refused. 7: a file could not be read. 8: what was due
-/// could not be said. 11: memory ran out, and nothing was said before.
+/// 0: done; of `evaluate`, the plan is feasible; of `check`, the certificate is valid; of `solve`, a plan was found. 1:
+/// the plan breaks a rule; of `replay`, one on starts. 2: the words are not in the grammar. 3: the instance is refused.
+/// 4: the plan's text is refused. 5: the certificate is refused. 6: the script is refused. 7: a file could not be read.
+/// 8: a file could not be written, or what was due could not be said. 9: no plan was found, and there may be one. 10:
+/// there is no plan. 11: memory ran out, and nothing was written or said before.
 pub fn run<D: Desk>(alloc: Global, words: &[String], desk: &mut D) -> u8
     ensures { Outcome (map string_bytes words.now) (D.shows desk.old) (D.shows desk.new) result }
 {
@@ -44,5 +46,12 @@ pub fn run_with<R: Row, D: Desk>(alloc: Global, words: &[String], desk: &mut D) 
                 certificate,
             },
         ) => check_files(alloc, &source, plan, certificate, desk),
+        Some(
+            Command::Solve {
+                source,
+                files,
+                turns,
+            },
+        ) => solve_files::<R, D>(alloc, &source, &files, turns, desk),
     }
 }

@@ -1,16 +1,23 @@
 //! The command line.
 ghost use Rattle.std.specs.Prelude.{◌≡◌, ◌≤◌, map, string_bytes, option_copied, IfSome, IfNone, Some, None, IsTrue};
-ghost use Rattle.std.specs.Prelude.{false};
+ghost use Rattle.std.specs.Prelude.{false, ◌&&◌, nat_le, length};
 ghost use Rattle.planner_cli.specs.Words.{command_of, evaluate_of, replay_of, check_of, IsOneCommand, evaluation};
 ghost use Rattle.planner_cli.specs.Words.{replaying, checking, given_plan, slack_in, slack_of, slack_count, fraction};
-ghost use Rattle.planner_cli.specs.Words.{are_decimals};
+ghost use Rattle.planner_cli.specs.Words.{are_decimals, solve_of, solving, turns_of, is_numeral, are_file_words};
+ghost use Rattle.planner_cli.specs.Words.{are_apart};
+ghost use Rattle.instance_shape.specs.Keys.{all_bytes, is_digit, number_of};
+ghost use Rattle.command_solve.specs.Made.{files_view};
 ghost use Rattle.instance_model.specs.Rules.{or_else};
-ghost use Rattle.planner_cli.specs.Asked.{command_view};
+ghost use Rattle.planner_cli.specs.Asked.{command_view, CanSolve};
 
 use command_frame::Source;
+use command_solve::SolveFiles;
 
 /// How many counts of 10^-12 a slack has at most.
 const MOST_SLACK: u64 = 1_000_000_000;
+
+/// How many turns a solution has at most.
+const MOST_TURNS: u64 = 1_000_000;
 
 /// What the words ask for, with the names of its files: the plan is word 3, the script or the certificate word 4.
 #[derive(Clone, Copy)]
@@ -30,6 +37,12 @@ pub enum Command<'a> {
         plan: Option<&'a str>,
         certificate: &'a str,
     },
+    /// A solution also has a trail, word 5, and turns, word 6.
+    Solve {
+        source: Source<'a>,
+        files: SolveFiles<'a>,
+        turns: u32,
+    },
 }
 
 /// The command of the words, if they are in the grammar.
@@ -37,6 +50,7 @@ pub fn command_of(words: &[String]) -> Option<Command<'_>>
     ensures found { IfSome result (λ asked. command_of (map string_bytes words.now) ≡ Some (command_view asked)) }
     ensures none { IfNone result (command_of (map string_bytes words.now) ≡ None) }
     ensures small { IfSome result (λ asked. slack_in (command_view asked) ≤ 1_000_000_000) }
+    ensures can { IfSome result (λ asked. CanSolve (command_view asked)) }
 
     // No other parser answers.
     ensures one { IsOneCommand (map string_bytes words.now) }
@@ -50,15 +64,34 @@ pub fn command_of(words: &[String]) -> Option<Command<'_>>
 // The command of words that are not those of `evaluate`.
 fn of_three_files(words: &[String]) -> Option<Command<'_>>
     ensures found { IfSome result
-        (λ asked. or_else (replay_of (map string_bytes words.now)) (check_of (map string_bytes words.now))
+        (λ asked. or_else (replay_of (map string_bytes words.now))
+        (or_else (check_of (map string_bytes words.now)) (solve_of (map string_bytes words.now)))
         ≡ Some (command_view asked)) }
     ensures none { IfNone result
-        (or_else (replay_of (map string_bytes words.now)) (check_of (map string_bytes words.now)) ≡ None) }
+        (or_else (replay_of (map string_bytes words.now))
+        (or_else (check_of (map string_bytes words.now)) (solve_of (map string_bytes words.now))) ≡ None) }
     ensures small { IfSome result (λ asked. slack_in (command_view asked) ≤ 1_000_000_000) }
+    ensures can { IfSome result (λ asked. CanSolve (command_view asked)) }
 {
     match replay_of(words) {
         Some(command) => Some(command),
-        None => check_of(words),
+        None => of_certificates(words),
+    }
+}
+
+// The command of words that are neither those of `evaluate` nor those of `replay`.
+fn of_certificates(words: &[String]) -> Option<Command<'_>>
+    ensures found { IfSome result
+        (λ asked. or_else (check_of (map string_bytes words.now)) (solve_of (map string_bytes words.now))
+        ≡ Some (command_view asked)) }
+    ensures none { IfNone result
+        (or_else (check_of (map string_bytes words.now)) (solve_of (map string_bytes words.now)) ≡ None) }
+    ensures small { IfSome result (λ asked. slack_in (command_view asked) ≤ 1_000_000_000) }
+    ensures can { IfSome result (λ asked. CanSolve (command_view asked)) }
+{
+    match check_of(words) {
+        Some(command) => Some(command),
+        None => solve_of(words),
     }
 }
 
@@ -67,6 +100,7 @@ fn evaluate_of(words: &[String]) -> Option<Command<'_>>
     ensures found { IfSome result (λ asked. evaluate_of (map string_bytes words.now) ≡ Some (command_view asked)) }
     ensures none { IfNone result (evaluate_of (map string_bytes words.now) ≡ None) }
     ensures small { IfSome result (λ asked. slack_in (command_view asked) ≤ 1_000_000_000) }
+    ensures can { IfSome result (λ asked. CanSolve (command_view asked)) }
 {
     match words {
         [name, instance, plan] => {
@@ -87,6 +121,7 @@ fn replay_of(words: &[String]) -> Option<Command<'_>>
     ensures found { IfSome result (λ asked. replay_of (map string_bytes words.now) ≡ Some (command_view asked)) }
     ensures none { IfNone result (replay_of (map string_bytes words.now) ≡ None) }
     ensures small { IfSome result (λ asked. slack_in (command_view asked) ≤ 1_000_000_000) }
+    ensures can { IfSome result (λ asked. CanSolve (command_view asked)) }
 {
     match words {
         [name, instance, plan, script] => replaying(
@@ -112,6 +147,7 @@ fn check_of(words: &[String]) -> Option<Command<'_>>
     ensures found { IfSome result (λ asked. check_of (map string_bytes words.now) ≡ Some (command_view asked)) }
     ensures none { IfNone result (check_of (map string_bytes words.now) ≡ None) }
     ensures small { IfSome result (λ asked. slack_in (command_view asked) ≤ 1_000_000_000) }
+    ensures can { IfSome result (λ asked. CanSolve (command_view asked)) }
 {
     match words {
         [name, instance, plan, certificate] => checking(
@@ -132,6 +168,40 @@ fn check_of(words: &[String]) -> Option<Command<'_>>
     }
 }
 
+// `solve` of these words.
+fn solve_of(words: &[String]) -> Option<Command<'_>>
+    ensures found { IfSome result (λ asked. solve_of (map string_bytes words.now) ≡ Some (command_view asked)) }
+    ensures none { IfNone result (solve_of (map string_bytes words.now) ≡ None) }
+    ensures small { IfSome result (λ asked. slack_in (command_view asked) ≤ 1_000_000_000) }
+    ensures can { IfSome result (λ asked. CanSolve (command_view asked)) }
+{
+    match words {
+        [name, instance, plan, certificate, trail, turns] => solving(
+            name.as_str(),
+            instance.as_str(),
+            SolveFiles {
+                plan: plan.as_str(),
+                certificate: certificate.as_str(),
+                trail: trail.as_str(),
+            },
+            turns_of(turns.as_str()),
+            Some(0),
+        ),
+        [name, instance, plan, certificate, trail, turns, slack] => solving(
+            name.as_str(),
+            instance.as_str(),
+            SolveFiles {
+                plan: plan.as_str(),
+                certificate: certificate.as_str(),
+                trail: trail.as_str(),
+            },
+            turns_of(turns.as_str()),
+            slack_of(slack.as_str()),
+        ),
+        _ => None,
+    }
+}
+
 // `evaluate` of these files, with this slack.
 fn evaluation<'a>(
     name: &str,
@@ -144,6 +214,7 @@ fn evaluation<'a>(
         (λ asked. evaluation name.now instance.now plan.now slack ≡ Some (command_view asked)) }
     ensures none { IfNone result (evaluation name.now instance.now plan.now slack ≡ None) }
     ensures small { IfSome result (λ asked. slack_in (command_view asked) ≤ 1_000_000_000) }
+    ensures can { IfSome result (λ asked. CanSolve (command_view asked)) }
 {
     let slack = slack?;
     if name != "evaluate" || instance.is_empty() || plan.is_empty() {
@@ -168,6 +239,7 @@ fn replaying<'a>(
         (λ asked. replaying name.now instance.now plan.now script.now slack ≡ Some (command_view asked)) }
     ensures none { IfNone result (replaying name.now instance.now plan.now script.now slack ≡ None) }
     ensures small { IfSome result (λ asked. slack_in (command_view asked) ≤ 1_000_000_000) }
+    ensures can { IfSome result (λ asked. CanSolve (command_view asked)) }
 {
     let slack = slack?;
     if name != "replay" || instance.is_empty() || plan.is_empty() || script.is_empty() {
@@ -193,6 +265,7 @@ fn checking<'a>(
         (λ asked. checking name.now instance.now plan.now certificate.now slack ≡ Some (command_view asked)) }
     ensures none { IfNone result (checking name.now instance.now plan.now certificate.now slack ≡ None) }
     ensures small { IfSome result (λ asked. slack_in (command_view asked) ≤ 1_000_000_000) }
+    ensures can { IfSome result (λ asked. CanSolve (command_view asked)) }
 {
     let slack = slack?;
     if name != "check" || instance.is_empty() || plan.is_empty() || certificate.is_empty() {
@@ -203,6 +276,56 @@ fn checking<'a>(
         plan: given_plan(plan),
         certificate,
     })
+}
+
+// `solve` of these files, with these turns and this slack.
+fn solving<'a>(
+    name: &str,
+    instance: &'a str,
+    files: SolveFiles<'a>,
+    turns: Option<u32>,
+    slack: Option<u32>,
+) -> Option<Command<'a>>
+    requires few { IfSome turns (λ count. count ≤ 1_000_000) }
+    requires small { IfSome slack (λ count. count ≤ 1_000_000_000) }
+    ensures found { IfSome result
+        (λ asked. solving name.now instance.now (files_view files.entry) turns slack ≡ Some (command_view asked)) }
+    ensures none { IfNone result (solving name.now instance.now (files_view files.entry) turns slack ≡ None) }
+    ensures small { IfSome result (λ asked. slack_in (command_view asked) ≤ 1_000_000_000) }
+    ensures can { IfSome result (λ asked. CanSolve (command_view asked)) }
+{
+    let turns = turns?;
+    let slack = slack?;
+    if name != "solve" || instance.is_empty() || !are_file_words(&files) {
+        return None;
+    }
+    if !are_apart(instance, &files) {
+        return None;
+    }
+    Some(Command::Solve {
+        source: Source { instance, slack },
+        files,
+        turns,
+    })
+}
+
+// Whether none of the three names is empty.
+fn are_file_words(files: &SolveFiles<'_>) -> bool
+    ensures { result ≡ are_file_words (files_view files.now) }
+{
+    !files.plan.is_empty() && !files.certificate.is_empty() && !files.trail.is_empty()
+}
+
+// Whether the four names differ.
+fn are_apart(instance: &str, files: &SolveFiles<'_>) -> bool
+    ensures { result ≡ are_apart instance.now (files_view files.now) }
+{
+    instance != files.plan
+        && instance != files.certificate
+        && instance != files.trail
+        && files.plan != files.certificate
+        && files.plan != files.trail
+        && files.certificate != files.trail
 }
 
 // The plan of a check: the word `-` stands for none.
@@ -239,6 +362,49 @@ fn slack_count(bytes: &[u8]) -> Option<u32>
         }
         _ => None,
     }
+}
+
+// The turns of a word.
+fn turns_of(word: &str) -> Option<u32>
+    ensures value { result ≡ turns_of word.now }
+    ensures small { IfSome result (λ count. count ≤ 1_000_000) }
+{
+    let count = numeral(word.as_bytes())?;
+    if count <= MOST_TURNS {
+        Some(count as u32)
+    } else {
+        None
+    }
+}
+
+// 1 to 7 digits, the first of which is no needless zero.
+fn numeral(digits: &[u8]) -> Option<u64>
+    ensures found { IfSome result (λ count. IsTrue (is_numeral digits.now) × (count ≡ number_of digits.now)) }
+    ensures none { IfNone result (is_numeral digits.now ≡ false) }
+{
+    match digits {
+        [] | [b'0', _, ..] => None,
+        _ => short_number(digits),
+    }
+}
+
+// At most 7 digits.
+fn short_number(digits: &[u8]) -> Option<u64>
+    ensures found { IfSome result (λ count. IsTrue (nat_le (length digits.now) 7 && all_bytes is_digit digits.now)
+        × (count ≡ number_of digits.now)) }
+    ensures none { IfNone result ((nat_le (length digits.now) 7 && all_bytes is_digit digits.now) ≡ false) }
+{
+    if digits.len() > 7 {
+        return None;
+    }
+    let mut number: u64 = 0;
+    for digit in digits {
+        if *digit < b'0' || *digit > b'9' {
+            return None;
+        }
+        number = number * 10 + (*digit - b'0') as u64;
+    }
+    Some(number)
 }
 
 // 1 to 12 digits behind the point, in 10^-12.

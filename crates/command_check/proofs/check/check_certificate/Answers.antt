@@ -7,7 +7,6 @@ use Rattle.command_frame.specs.Sources.{source_view}
 use Rattle.command_frame.specs.Ending.{reply}
 use Rattle.command_frame.specs.Files.{reading, OnGiven}
 use Rattle.command_frame.proofs.FileLemmas.{is_read}
-use Rattle.command_frame.proofs.EndLemmas.{reads_more}
 use Rattle.command_frame.proofs.ReadLemmas.{kept_before, refuses_instance}
 use Rattle.command_check.proofs.CheckReading.{OnChecked, check_refuses_plan, check_refuses_certificate, check_answers}
 use Rattle.command_check.proofs.check.check_certificate.Goals as goal
