@@ -131,16 +131,15 @@ outcome_check words source name cert_name old new status asked run =
       later = run.later;
     }
 
-pub outcome_solve : (words : List (List ℕ)) (source : Source) (names : SolveFiles) (most : ℕ)
-    (old new : Shown) (status : ℕ)
-    → Asks words (solve source names most) → RunsSolve standard_limits source names most old new status
-    → Outcome words old new status
+pub outcome_solve : (words : List (List ℕ)) (source : Source) (files : SolveFiles) (turns : ℕ) (old new : Shown)
+    (status : ℕ) → Asks words (solve source files turns)
+    → RunsSolve standard_limits source files turns old new status → Outcome words old new status
 unfolding OfCommand
-outcome_solve words source names most old new status asked run =
+outcome_solve words source files turns old new status asked run =
     let one : (c : Command) → Asks words c → OfCommand c old new status = λ c asks. subst
-    (λ (x : Command). OfCommand x old new status) (same words (solve source names most) c asked asks) run in
+    (λ (x : Command). OfCommand x old new status) (same words (solve source files turns) c asked asks) run in
     record {
-      no_command = λ is. absurd (apart words (solve source names most) is asked);
+      no_command = λ is. absurd (apart words (solve source files turns) is asked);
       evaluates = λ source plan asks. one (evaluate source plan) asks;
       replays = λ source plan script asks. one (replay source plan script) asks;
       checks = λ source plan cert asks. one (check source plan cert) asks;

@@ -4,10 +4,8 @@ use Rattle.std.proofs.Common.{arith, codes}
 use Rattle.std.specs.Prelude.{bytes_eq, ◌&&◌, if◌then◌else◌}
 use Rattle.std.proofs.lemmas.Slice.Eq.{bytes_eq-Decides}
 use Rattle.instance_model.specs.Rules.{or_else}
-use Rattle.command_solve.specs.Solving.{SolveFiles}
-use Rattle.planner_cli.specs.Words.{Command, evaluate, replay, check, solve, is_file_word, are_file_words, are_distinct}
-use Rattle.planner_cli.specs.Words.{slack_of, turns_of, given_plan, solve_files, evaluation, replaying, checking, solving}
-use Rattle.planner_cli.specs.Words.{evaluate_of, replay_of, check_of, solve_of, IsOneCommand}
+use Rattle.planner_cli.specs.Words.{Command, evaluate, replay, check, is_file_word, slack_of, given_plan, evaluation}
+use Rattle.planner_cli.specs.Words.{replaying, checking, evaluate_of, replay_of, check_of, IsOneCommand}
 
 -- ---- too few words, and too many
 
@@ -120,7 +118,7 @@ solving_named : (name instance : List ℕ) (files : SolveFiles) (turns slack : O
 solving_named name instance files None slack c e = absurd (no_answer c e)
 solving_named name instance files (Some turns) None c e = absurd (no_answer c e)
 solving_named name instance files (Some turns) (Some slack) c e =
-    if_four (bytes_eq name (codes "solve")) (is_file_word instance) (are_file_words files) (are_distinct instance files)
+    if_four (bytes_eq name (codes "solve")) (is_file_word instance) (are_file_words files) (are_apart instance files)
     (solve (record { instance = instance; slack = slack }) files turns) c e
 
 evaluate_named : (words : List (List ℕ)) (c : Command) → evaluate_of words ≡ Some c
@@ -168,7 +166,7 @@ solve_named (a ∷ b ∷ d ∷ f ∷ k ∷ l ∷ []) c e =
     solving_named a b (solve_files d f k) (turns_of l) (Some 0) c e
 solve_named (a ∷ b ∷ d ∷ f ∷ k ∷ l ∷ m ∷ []) c e =
     solving_named a b (solve_files d f k) (turns_of l) (slack_of m) c e
-solve_named (a ∷ b ∷ d ∷ f ∷ k ∷ l ∷ m ∷ o ∷ words) c e = absurd (no_answer c e)
+solve_named (a ∷ b ∷ d ∷ f ∷ k ∷ l ∷ m ∷ n ∷ words) c e = absurd (no_answer c e)
 
 -- a word is one name
 one_name : (word a b : List ℕ) → bytes_eq word a ≡ true → bytes_eq word b ≡ true → a ≡ b
@@ -191,39 +189,43 @@ found_later : (o p : Option Command) (c : Command) → ((d : Command) → o ≡ 
 found_later None p c none e = e
 found_later (Some x) p c none e = absurd (none x refl)
 
--- the words of one command are not those of another
-apart : (words : List (List ℕ)) (a b : List ℕ) → bytes_eq a b ≡ false → bytes_eq (first words) a ≡ true
+-- what the parsers behind `replay`, and behind `evaluate`, answer
+abbrev after_replay : List (List ℕ) → Option Command
+after_replay words = or_else (check_of words) (solve_of words)
+
+abbrev after_evaluate : List (List ℕ) → Option Command
+after_evaluate words = or_else (replay_of words) (after_replay words)
+
+-- two parsers whose commands have other names don't both answer
+two_names : (words : List (List ℕ)) (a b : List ℕ) → bytes_eq a b ≡ false → bytes_eq (first words) a ≡ true
     → bytes_eq (first words) b ≡ true → ⊥
-apart words a b n x y = differ a b n (one_name (first words) a b x y)
+two_names words a b apart x y = differ a b apart (one_name (first words) a b x y)
 
 pub one_command : (words : List (List ℕ)) → IsOneCommand words
 one_command words =
-    let last = or_else (check_of words) (solve_of words) in
-    let later = or_else (replay_of words) last in
     record {
-      evaluates = λ c e. found (evaluate_of words) later c e;
+      evaluates = λ c e. found (evaluate_of words) (after_evaluate words) c e;
       replays = λ c e.
-          found_later (evaluate_of words) later c
-          (λ d also. apart words (codes "evaluate") (codes "replay") refl (evaluate_named words d also)
+          found_later (evaluate_of words) (after_evaluate words) c
+          (λ d also. two_names words (codes "evaluate") (codes "replay") refl (evaluate_named words d also)
           (replay_named words c e))
-          (found (replay_of words) last c e);
+          (found (replay_of words) (after_replay words) c e);
       checks = λ c e.
-          found_later (evaluate_of words) later c
-          (λ d also. apart words (codes "evaluate") (codes "check") refl (evaluate_named words d also)
+          found_later (evaluate_of words) (after_evaluate words) c
+          (λ d also. two_names words (codes "evaluate") (codes "check") refl (evaluate_named words d also)
           (check_named words c e))
-          (found_later (replay_of words) last c
-          (λ d also. apart words (codes "replay") (codes "check") refl (replay_named words d also)
+          (found_later (replay_of words) (after_replay words) c
+          (λ d also. two_names words (codes "replay") (codes "check") refl (replay_named words d also)
           (check_named words c e))
           (found (check_of words) (solve_of words) c e));
       solves = λ c e.
-          found_later (evaluate_of words) later c
-          (λ d also. apart words (codes "evaluate") (codes "solve") refl (evaluate_named words d also)
+          found_later (evaluate_of words) (after_evaluate words) c
+          (λ d also. two_names words (codes "evaluate") (codes "solve") refl (evaluate_named words d also)
           (solve_named words c e))
-          (found_later (replay_of words) last c
-          (λ d also. apart words (codes "replay") (codes "solve") refl (replay_named words d also)
+          (found_later (replay_of words) (after_replay words) c
+          (λ d also. two_names words (codes "replay") (codes "solve") refl (replay_named words d also)
           (solve_named words c e))
           (found_later (check_of words) (solve_of words) c
-          (λ d also. apart words (codes "check") (codes "solve") refl (check_named words d also)
-          (solve_named words c e))
-          e));
+          (λ d also. two_names words (codes "check") (codes "solve") refl (check_named words d also)
+          (solve_named words c e)) e));
     }

@@ -1,5 +1,5 @@
 -- What the code has of the words, as the grammar has it. No part of any promise.
-use Rattle.std.specs.Prelude.{◌≤◌, ⊤, option_copied}
+use Rattle.std.specs.Prelude.{ℕ, ◌≤◌, ⊤, option_copied}
 use Rattle.planner_cli.specs.declared.words.Command.{Command as CommandWords}
 use Rattle.planner_cli.specs.declared.words.Command.TheVariants.{Evaluate, Replay, Check, Solve}
 use Rattle.planner_cli.specs.Words.{Command, evaluate, replay, check, solve}
@@ -13,7 +13,7 @@ command_view (Replay source plan script) = replay (source_view source) plan.now 
 command_view (Check source plan certificate) = check (source_view source) (option_copied plan) certificate.now
 command_view (Solve source files turns) = solve (source_view source) (files_view files) turns
 
--- what `solve` asks of its words beside the slack
+-- what `solve` needs of its words: not too many turns, and names that differ
 abbrev pub CanSolve : Command → Type 0
 CanSolve (evaluate source plan) = ⊤
 CanSolve (replay source plan script) = ⊤

@@ -1,14 +1,13 @@
 -- The command line. A word is the list of its bytes; words count from 1, and the command is word 1.
 use Rattle.std.specs.Prelude.{◌≡◌, ℕ, ◌-◌, ◌*◌, ◌^◌, List, [], ◌∷◌, length, take, drop, codes, bytes_eq, nat_le, nat_lt}
-use Rattle.std.specs.Prelude.{◌&&◌, not, Bool, Option, Some, None, if◌then◌else◌, decimal}
-use Rattle.std.specs.Str.Parse.{digits_value}
+use Rattle.std.specs.Prelude.{◌&&◌, not, Bool, Option, Some, None, if◌then◌else◌}
 use Rattle.instance_model.specs.Rules.{or_else}
 use Rattle.instance_shape.specs.Keys.{all_bytes, is_digit, number_of}
 use Rattle.command_frame.specs.Sources.{Source}
 use Rattle.command_solve.specs.Solving.{SolveFiles}
 
--- what a command line asks for, with the names of its files: the plan is word 3, the script or the certificate word 4,
--- the trail word 5. A check may be without a plan.
+-- What a command line asks for, with the names of its files: the plan is word 3, the script or the certificate word 4,
+-- and the trail of a solution word 5. A check may be without a plan.
 pub data Command : Type 0 where
   evaluate : (source : Source) (plan : List ℕ) → Command
   replay : (source : Source) (plan script : List ℕ) → Command
@@ -78,33 +77,33 @@ checking name instance plan certificate (Some slack) =
     then Some (check (record { instance = instance; slack = slack }) (given_plan plan) certificate)
     else None
 
--- the turns of a word: at most 1,000,000, in decimal digits without a needless zero in front
-abbrev pub turns_of : List ℕ → Option ℕ
-turns_of word =
-    if bytes_eq word (decimal (digits_value 10 word)) && nat_le (digits_value 10 word) 1_000_000
-    then Some (digits_value 10 word)
-    else None
+-- 1 to 7 digits, the first of which is no needless zero
+abbrev pub is_numeral : List ℕ → Bool
+is_numeral word =
+    nat_le 1 (length word) && nat_le (length word) 7 && not (nat_lt 1 (length word) && bytes_eq (take 1 word) (codes "0"))
+    && all_bytes is_digit word
 
--- the words of files that are written are file words
+-- turns: such a numeral, at most 1,000,000
+abbrev pub turns_of : List ℕ → Option ℕ
+turns_of word = if is_numeral word && nat_le (number_of word) 1_000_000 then Some (number_of word) else None
+
+-- the four names of a solution differ
+abbrev pub are_apart : List ℕ → SolveFiles → Bool
+are_apart instance files =
+    not (bytes_eq instance files.plan) && not (bytes_eq instance files.cert) && not (bytes_eq instance files.trail)
+    && not (bytes_eq files.plan files.cert) && not (bytes_eq files.plan files.trail)
+    && not (bytes_eq files.cert files.trail)
+
+-- the three names are file words
 abbrev pub are_file_words : SolveFiles → Bool
 are_file_words files = is_file_word files.plan && is_file_word files.cert && is_file_word files.trail
 
--- two file words differ
-abbrev pub differ : List ℕ → List ℕ → Bool
-differ a b = not (bytes_eq a b)
-
--- the words of files that are written differ from each other, and from that of the file that is read
-abbrev pub are_distinct : List ℕ → SolveFiles → Bool
-are_distinct instance files =
-    differ instance files.plan && differ instance files.cert && differ instance files.trail
-    && differ files.plan files.cert && differ files.plan files.trail && differ files.cert files.trail
-
--- `solve INSTANCE PLAN CERTIFICATE TRAIL TURNS` with a slack
+-- `solve INSTANCE PLAN CERT TRAIL TURNS` with a slack
 abbrev pub solving : List ℕ → List ℕ → SolveFiles → Option ℕ → Option ℕ → Option Command
 solving name instance files None slack = None
 solving name instance files (Some turns) None = None
 solving name instance files (Some turns) (Some slack) =
-    if bytes_eq name (codes "solve") && is_file_word instance && are_file_words files && are_distinct instance files
+    if bytes_eq name (codes "solve") && is_file_word instance && are_file_words files && are_apart instance files
     then Some (solve (record { instance = instance; slack = slack }) files turns)
     else None
 
@@ -125,7 +124,7 @@ check_of (name ∷ instance ∷ plan ∷ cert ∷ []) = checking name instance p
 check_of (name ∷ instance ∷ plan ∷ cert ∷ slack ∷ []) = checking name instance plan cert (slack_of slack)
 check_of words = None
 
--- the names of the files that `solve` writes
+-- the files of words 3 to 5
 abbrev pub solve_files : (plan cert trail : List ℕ) → SolveFiles
 solve_files plan cert trail = record { plan = plan; cert = cert; trail = trail }
 
@@ -138,8 +137,7 @@ solve_of words = None
 
 -- the command of these words; none where they are not in the grammar
 abbrev pub command_of : List (List ℕ) → Option Command
-command_of words =
-    or_else (evaluate_of words) (or_else (replay_of words) (or_else (check_of words) (solve_of words)))
+command_of words = or_else (evaluate_of words) (or_else (replay_of words) (or_else (check_of words) (solve_of words)))
 
 -- At most one parser answers: the command is what any of them answers.
 pub record IsOneCommand (words : List (List ℕ)) : Type 0 where

@@ -6,7 +6,7 @@ use std::alloc::{AllocError, Global};
 use std::test::Fail;
 
 /// Two interventions that are too much together, and one scenario a period.
-const SURE_BANDED: &str = r#"{"Resources":{"c":{"max":[10,10],"min":[0,0]}},"Seasons":{},
+pub(crate) const SURE_BANDED: &str = r#"{"Resources":{"c":{"max":[10,10],"min":[0,0]}},"Seasons":{},
 "Interventions":{
 "I1":{"tmax":2,"Delta":[1,1],
 "workload":{"c":{"1":{"1":6},"2":{"2":6}}},

@@ -9,6 +9,8 @@ mod check_tests;
 mod replay_tests;
 mod run;
 #[cfg(test)]
+mod solve_tests;
+#[cfg(test)]
 mod tests;
 mod words;
 

@@ -17,8 +17,8 @@ use std::alloc::Global;
 /// 0: done; of `evaluate`, the plan is feasible; of `check`, the certificate is valid; of `solve`, a plan was found. 1:
 /// the plan breaks a rule; of `replay`, one on starts. 2: the words are not in the grammar. 3: the instance is refused.
 /// 4: the plan's text is refused. 5: the certificate is refused. 6: the script is refused. 7: a file could not be read.
-/// 8: what was due could not be written or said. 9: `solve` found no plan in so many turns. 10: no plan keeps the rules.
-/// 11: memory ran out, nothing was said before, and no file was opened for writing.
+/// 8: a file could not be written, or what was due could not be said. 9: no plan was found, and there may be one. 10:
+/// there is no plan. 11: memory ran out, and nothing was written or said before.
 pub fn run<D: Desk>(alloc: Global, words: &[String], desk: &mut D) -> u8
     ensures { Outcome (map string_bytes words.now) (D.shows desk.old) (D.shows desk.new) result }
 {

@@ -1,25 +1,25 @@
 //! The command line.
 ghost use Rattle.std.specs.Prelude.{◌≡◌, ◌≤◌, map, string_bytes, option_copied, IfSome, IfNone, Some, None, IsTrue};
-ghost use Rattle.std.specs.Prelude.{false};
-ghost use Rattle.planner_cli.specs.Words.{command_of, evaluate_of, replay_of, check_of, solve_of, IsOneCommand};
-ghost use Rattle.planner_cli.specs.Words.{evaluation, replaying, checking, solving, given_plan, turns_of, slack_in};
-ghost use Rattle.planner_cli.specs.Words.{slack_of, slack_count, fraction, are_decimals, are_file_words, are_distinct};
-ghost use Rattle.instance_model.specs.Rules.{or_else};
+ghost use Rattle.std.specs.Prelude.{false, ◌&&◌, nat_le, length};
+ghost use Rattle.planner_cli.specs.Words.{command_of, evaluate_of, replay_of, check_of, IsOneCommand, evaluation};
+ghost use Rattle.planner_cli.specs.Words.{replaying, checking, given_plan, slack_in, slack_of, slack_count, fraction};
+ghost use Rattle.planner_cli.specs.Words.{are_decimals, solve_of, solving, turns_of, is_numeral, are_file_words};
+ghost use Rattle.planner_cli.specs.Words.{are_apart};
+ghost use Rattle.instance_shape.specs.Keys.{all_bytes, is_digit, number_of};
 ghost use Rattle.command_solve.specs.Made.{files_view};
+ghost use Rattle.instance_model.specs.Rules.{or_else};
 ghost use Rattle.planner_cli.specs.Asked.{command_view, CanSolve};
 
 use command_frame::Source;
 use command_solve::SolveFiles;
-use text_lines::numeral;
 
 /// How many counts of 10^-12 a slack has at most.
 const MOST_SLACK: u64 = 1_000_000_000;
 
-/// How many turns there are at most.
+/// How many turns a solution has at most.
 const MOST_TURNS: u64 = 1_000_000;
 
-/// What the words ask for, with the names of its files: the plan is word 3, the script or the certificate word 4, the
-/// trail word 5.
+/// What the words ask for, with the names of its files: the plan is word 3, the script or the certificate word 4.
 #[derive(Clone, Copy)]
 pub enum Command<'a> {
     Evaluate {
@@ -37,6 +37,7 @@ pub enum Command<'a> {
         plan: Option<&'a str>,
         certificate: &'a str,
     },
+    /// A solution also has a trail, word 5, and turns, word 6.
     Solve {
         source: Source<'a>,
         files: SolveFiles<'a>,
@@ -62,22 +63,24 @@ pub fn command_of(words: &[String]) -> Option<Command<'_>>
 
 // The command of words that are not those of `evaluate`.
 fn of_three_files(words: &[String]) -> Option<Command<'_>>
-    ensures found { IfSome result (λ asked. or_else (replay_of (map string_bytes words.now))
+    ensures found { IfSome result
+        (λ asked. or_else (replay_of (map string_bytes words.now))
         (or_else (check_of (map string_bytes words.now)) (solve_of (map string_bytes words.now)))
         ≡ Some (command_view asked)) }
-    ensures none { IfNone result (or_else (replay_of (map string_bytes words.now))
+    ensures none { IfNone result
+        (or_else (replay_of (map string_bytes words.now))
         (or_else (check_of (map string_bytes words.now)) (solve_of (map string_bytes words.now))) ≡ None) }
     ensures small { IfSome result (λ asked. slack_in (command_view asked) ≤ 1_000_000_000) }
     ensures can { IfSome result (λ asked. CanSolve (command_view asked)) }
 {
     match replay_of(words) {
         Some(command) => Some(command),
-        None => with_certificate(words),
+        None => of_certificates(words),
     }
 }
 
-// The command of words that are those of `check` or `solve`.
-fn with_certificate(words: &[String]) -> Option<Command<'_>>
+// The command of words that are neither those of `evaluate` nor those of `replay`.
+fn of_certificates(words: &[String]) -> Option<Command<'_>>
     ensures found { IfSome result
         (λ asked. or_else (check_of (map string_bytes words.now)) (solve_of (map string_bytes words.now))
         ≡ Some (command_view asked)) }
@@ -275,7 +278,7 @@ fn checking<'a>(
     })
 }
 
-// `solve` of these files, with so many turns and this slack.
+// `solve` of these files, with these turns and this slack.
 fn solving<'a>(
     name: &str,
     instance: &'a str,
@@ -283,17 +286,20 @@ fn solving<'a>(
     turns: Option<u32>,
     slack: Option<u32>,
 ) -> Option<Command<'a>>
-    requires turns { IfSome turns (λ count. count ≤ 1_000_000) }
+    requires few { IfSome turns (λ count. count ≤ 1_000_000) }
     requires small { IfSome slack (λ count. count ≤ 1_000_000_000) }
     ensures found { IfSome result
-        (λ asked. solving name.now instance.now (files_view files) turns slack ≡ Some (command_view asked)) }
-    ensures none { IfNone result (solving name.now instance.now (files_view files) turns slack ≡ None) }
+        (λ asked. solving name.now instance.now (files_view files.entry) turns slack ≡ Some (command_view asked)) }
+    ensures none { IfNone result (solving name.now instance.now (files_view files.entry) turns slack ≡ None) }
     ensures small { IfSome result (λ asked. slack_in (command_view asked) ≤ 1_000_000_000) }
     ensures can { IfSome result (λ asked. CanSolve (command_view asked)) }
 {
     let turns = turns?;
     let slack = slack?;
-    if name != "solve" || instance.is_empty() || !are_file_words(files) || !are_distinct(instance, files) {
+    if name != "solve" || instance.is_empty() || !are_file_words(&files) {
+        return None;
+    }
+    if !are_apart(instance, &files) {
         return None;
     }
     Some(Command::Solve {
@@ -303,16 +309,16 @@ fn solving<'a>(
     })
 }
 
-// Whether no name of a file that is written is empty.
-fn are_file_words(files: SolveFiles<'_>) -> bool
-    ensures { result ≡ are_file_words (files_view files) }
+// Whether none of the three names is empty.
+fn are_file_words(files: &SolveFiles<'_>) -> bool
+    ensures { result ≡ are_file_words (files_view files.now) }
 {
     !files.plan.is_empty() && !files.certificate.is_empty() && !files.trail.is_empty()
 }
 
-// Whether the names of the files that are written differ from each other, and from that of the file that is read.
-fn are_distinct(instance: &str, files: SolveFiles<'_>) -> bool
-    ensures { result ≡ are_distinct instance.now (files_view files) }
+// Whether the four names differ.
+fn are_apart(instance: &str, files: &SolveFiles<'_>) -> bool
+    ensures { result ≡ are_apart instance.now (files_view files.now) }
 {
     instance != files.plan
         && instance != files.certificate
@@ -320,19 +326,6 @@ fn are_distinct(instance: &str, files: SolveFiles<'_>) -> bool
         && files.plan != files.certificate
         && files.plan != files.trail
         && files.certificate != files.trail
-}
-
-// The turns of a word.
-fn turns_of(word: &str) -> Option<u32>
-    ensures value { result ≡ turns_of word.now }
-    ensures small { IfSome result (λ count. count ≤ 1_000_000) }
-{
-    let turns = numeral(word.as_bytes(), 7)?;
-    if turns <= MOST_TURNS {
-        Some(turns as u32)
-    } else {
-        None
-    }
 }
 
 // The plan of a check: the word `-` stands for none.
@@ -369,6 +362,49 @@ fn slack_count(bytes: &[u8]) -> Option<u32>
         }
         _ => None,
     }
+}
+
+// The turns of a word.
+fn turns_of(word: &str) -> Option<u32>
+    ensures value { result ≡ turns_of word.now }
+    ensures small { IfSome result (λ count. count ≤ 1_000_000) }
+{
+    let count = numeral(word.as_bytes())?;
+    if count <= MOST_TURNS {
+        Some(count as u32)
+    } else {
+        None
+    }
+}
+
+// 1 to 7 digits, the first of which is no needless zero.
+fn numeral(digits: &[u8]) -> Option<u64>
+    ensures found { IfSome result (λ count. IsTrue (is_numeral digits.now) × (count ≡ number_of digits.now)) }
+    ensures none { IfNone result (is_numeral digits.now ≡ false) }
+{
+    match digits {
+        [] | [b'0', _, ..] => None,
+        _ => short_number(digits),
+    }
+}
+
+// At most 7 digits.
+fn short_number(digits: &[u8]) -> Option<u64>
+    ensures found { IfSome result (λ count. IsTrue (nat_le (length digits.now) 7 && all_bytes is_digit digits.now)
+        × (count ≡ number_of digits.now)) }
+    ensures none { IfNone result ((nat_le (length digits.now) 7 && all_bytes is_digit digits.now) ≡ false) }
+{
+    if digits.len() > 7 {
+        return None;
+    }
+    let mut number: u64 = 0;
+    for digit in digits {
+        if *digit < b'0' || *digit > b'9' {
+            return None;
+        }
+        number = number * 10 + (*digit - b'0') as u64;
+    }
+    Some(number)
 }
 
 // 1 to 12 digits behind the point, in 10^-12.

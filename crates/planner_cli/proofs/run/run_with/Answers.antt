@@ -4,7 +4,6 @@ use Rattle.std.specs.Prelude.{option_copied}
 use Rattle.command_frame.specs.Sources.{source_view}
 use Rattle.command_frame.specs.Refusals.{SaysOrFails}
 use Rattle.planner_cli.proofs.OutcomeLemmas.{outcome_refused, outcome_evaluate, outcome_replay, outcome_check}
-use Rattle.planner_cli.proofs.OutcomeLemmas.{outcome_solve}
 use Rattle.planner_cli.proofs.run.run_with.Goals as goal
 
 pub returns-in-None : goal.returns-in-None
