@@ -1,17 +1,25 @@
 #!/usr/bin/env python3
 """Times descents from the opening plans of drawn instances, and how many neighbours are judged a second.
 
-    bench/descend.py TOOLS [--cases "10-a1 20-a1"] [--turns "1000 10000"] [--places 20000] [--seconds 600]
+    bench/descend.py TOOLS [--cases "10-a1 20-a1"] [--line "NAME OPTIONS"] [--turns "1000 10000"] [--places 20000]
+        [--seconds 600] [--instructions]
 
 TOOLS is a folder with `draw_case.py`, which draws an instance with a plan that keeps all its rules, and `cases.txt`,
 whose lines are the name of a case and the words that draw it. A program over the crates is proved and built first.
 
 The opening plan has each intervention at its least allowed start. A row has the violation and the score of the plan at
 the descent's end, the number of its changes, whether that is all turns, and the processor seconds that it took. Then
-moves and exchanges of that plan are judged at so many places, each of which names one that may be allowed.
+moves and exchanges of that plan are judged at so many places, each of which names one that may be allowed. --line has
+a further case, in the form of a line of `cases.txt`.
+
+With --instructions a row has the instructions of a judged change in place of times: what valgrind counts in a run that
+judges at all places, less what it counts in a run that judges at none, over the number of changes that were judged.
+Under valgrind a program is some 50 times slower, so take few turns.
 """
 import argparse
 import os
+import re
+import subprocess
 from tempfile import TemporaryDirectory
 
 import scratch
@@ -243,32 +251,68 @@ def rate(said, judged, first, last):
     return f"{int(said[judged][0]) / seconds:.0f}" if seconds > 0 else "-"
 
 
+def row(name, turns, said):
+    """The row of a run: where it ended, and how long it took."""
+    (violation, score), (changes, spent) = said["end"], said["changes"]
+    took = seconds_between(said, "made", "descended")
+    moves = rate(said, "moves", "judging", "judged_moves")
+    swaps = rate(said, "swaps", "judged_moves", "judged_swaps")
+    return (f"| {name} | {turns} | {int(violation) / 10 ** 12:g} | {int(score) / 10 ** 18:.3f} | {changes} | {spent} | "
+            f"{took:.2f} | {moves} | {swaps} |")
+
+
+def counted(words):
+    """How many instructions a program takes, and what it prints, as `scratch.answers` has it."""
+    tool = ["valgrind", "--tool=cachegrind", "--cache-sim=no", "--cachegrind-out-file=/dev/null"]
+    ran = subprocess.run(tool + words, stdin=subprocess.DEVNULL, stdout=subprocess.PIPE, stderr=subprocess.PIPE,
+                         check=True)
+    count = re.search(rb"I *refs: *([0-9,]+)", ran.stderr)[1]
+    return int(count.replace(b",", b"")), scratch.lines_by_word(ran.stdout)
+
+
+def counted_row(name, turns, program, path, places):
+    """The row of two runs under valgrind, with and without judged changes."""
+    none, _ = counted([program, path, turns, "0"])
+    all_places, said = counted([program, path, turns, str(places)])
+    (moves, lower_moves), (swaps, lower_swaps) = said["moves"], said["swaps"]
+    judged = int(moves) + int(swaps)
+    lower = int(lower_moves) + int(lower_swaps)
+    return f"| {name} | {turns} | {moves} | {swaps} | {lower} | {(all_places - none) / max(judged, 1):.0f} |"
+
+
+def measure(words, cases, program, folder):
+    path = os.path.join(folder, "instance")
+    for name, drawn in cases.items():
+        scratch.draw(words.tools, drawn, path)
+        for turns in words.turns.split():
+            if words.instructions:
+                print(counted_row(name, turns, program, path, words.places), flush=True)
+                continue
+            said = scratch.answers([program, path, turns, str(words.places)], words.seconds)
+            late = f"| {name} | {turns} | | | | | above {words.seconds:.0f} | | |"
+            print(late if said is None else row(name, turns, said), flush=True)
+
+
 def main():
     parser = argparse.ArgumentParser(description=__doc__.split("\n")[0])
     parser.add_argument("tools")
     parser.add_argument("--cases", default="")
+    parser.add_argument("--line", action="append", default=[])
     parser.add_argument("--turns", default="1000 10000")
     parser.add_argument("--places", type=int, default=20_000)
     parser.add_argument("--seconds", type=float, default=600)
+    parser.add_argument("--instructions", action="store_true")
     words = parser.parse_args()
-    cases = scratch.cases(words.tools, words.cases.split())
+    cases = scratch.cases(words.tools, words.cases.split(), words.line)
     with scratch.program("bench_descent", USES, SOURCE, PROOFS) as program, TemporaryDirectory() as folder:
-        print("| case | turns | violation | score | changes | spent | seconds | moves judged a second | exchanges |")
-        print("|---|--:|--:|--:|--:|---|--:|--:|--:|")
-        path = os.path.join(folder, "instance")
-        for name, drawn in cases.items():
-            scratch.draw(words.tools, drawn, path)
-            for turns in words.turns.split():
-                said = scratch.answers([program, path, turns, str(words.places)], words.seconds)
-                if said is None:
-                    print(f"| {name} | {turns} | | | | | above {words.seconds:.0f} | | |", flush=True)
-                    continue
-                (violation, score), (changes, spent) = said["end"], said["changes"]
-                took = seconds_between(said, "made", "descended")
-                moves = rate(said, "moves", "judging", "judged_moves")
-                swaps = rate(said, "swaps", "judged_moves", "judged_swaps")
-                print(f"| {name} | {turns} | {int(violation) / 10 ** 12:g} | {int(score) / 10 ** 18:.3f} | {changes} | "
-                      f"{spent} | {took:.2f} | {moves} | {swaps} |", flush=True)
+        if words.instructions:
+            print("| case | turns | moves judged | exchanges | that lower the key | instructions each |")
+            print("|---|--:|--:|--:|--:|--:|")
+        else:
+            print("| case | turns | violation | score | changes | spent | seconds | moves judged a second | "
+                  "exchanges |")
+            print("|---|--:|--:|--:|--:|---|--:|--:|--:|")
+        measure(words, cases, program, folder)
 
 
 if __name__ == "__main__":

@@ -18,15 +18,15 @@ import sys
 from tempfile import TemporaryDirectory
 
 import scratch
-from descend import READING, seconds_between
+from descend import READING, READING_PROOFS, seconds_between
 
 USES = ["worked_ladders", "price_ladder", "lagrange_bound", "local_search", "plan_moves", "quantile_index",
-        "small_instances", "instance_read", "instance_model", "fixed_num", "anyhow"]
+        "instance_read", "instance_model", "fixed_num", "anyhow"]
 
 SOURCE = '''//! Raises a price list for the plan at the end of a descent.
 #![tactic(auto)]
 
-ghost use Rattle.std.specs.Prelude.{◌<◌, length};
+ghost use Rattle.std.specs.Prelude.{◌<◌, length, IsTrue};
 ghost use Rattle.instance_model.specs.Plans.{AreAllowedStarts};
 
 use anyhow::{Result, bail};
@@ -38,7 +38,6 @@ use local_search::descend;
 use plan_moves::Kept;
 use price_ladder::CALL;
 use quantile_index::{Row, TreeRow};
-use small_instances::are_allowed;
 use std::alloc::{AllocError, Global};
 use std::time::CpuClock;
 use std::{env, fs};
@@ -135,7 +134,7 @@ def main():
     words = parser.parse_args()
     cases = scratch.cases(words.tools, words.cases.split())
     source = SOURCE.replace("CALL", words.call)
-    with scratch.program("bench_ladder", USES, source) as program, TemporaryDirectory() as folder:
+    with scratch.program("bench_ladder", USES, source, READING_PROOFS) as program, TemporaryDirectory() as folder:
         print("| case | seconds | worth by zeros | worth by the raised list | relaxation | score | % of the way |")
         print("|---|--:|--:|--:|--:|--:|--:|")
         path = os.path.join(folder, "instance")

@@ -43,7 +43,8 @@ pub few_cells : (inst : Tables) (i : ℕ) → IsFitting inst → i < length inst
     → length (get_or inst.loads i []) ≤ 32_000_000
 few_cells inst i f l =
     let sizes : ℕ → ℕ = λ j. length (get_or inst.loads j []) in
-    omega (arith, f.loads_few, count_sum_more i sizes, count_sum_le (i + 1) (length inst.names) sizes (omega (arith, l)))
+    let all = count_sum_le (i + 1) (length inst.names) sizes (omega (arith, l)) in
+    omega (arith, f.loads_few, count_sum_more i sizes, all)
 
 no_cell : LoadCell
 no_cell = record { start = 0; period = 0; resource = 0; load = pos 0 }
