@@ -23,7 +23,7 @@ const FALL: i128 = 15;
 /// Up to how many turns the number of tries grows, and how many tries of a cycle stand for a turn.
 const MOST_TURNS: u32 = 50_000;
 
-const TRIES: u32 = 10;
+const TRIES: u32 = 20;
 
 /// The best plan met so far.
 #[derive(Drop)]

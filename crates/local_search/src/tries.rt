@@ -10,7 +10,7 @@ use quantile_index::Row;
 const STRIDE: u64 = 1_000_003;
 
 /// One try in this many is an exchange.
-const EXCHANGES: u64 = 5;
+const EXCHANGES: u64 = 2;
 
 /// The exchange at this place, where it may be made.
 fn exchange_at<R: Row>(kept: &Kept<'_, R>, count: u32, place: u64) -> Option<Change>
