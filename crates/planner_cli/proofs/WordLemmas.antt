@@ -6,6 +6,8 @@ use Rattle.std.proofs.lemmas.Slice.Eq.{bytes_eq-Decides}
 use Rattle.instance_model.specs.Rules.{or_else}
 use Rattle.planner_cli.specs.Words.{Command, evaluate, replay, check, is_file_word, slack_of, given_plan, evaluation}
 use Rattle.planner_cli.specs.Words.{replaying, checking, evaluate_of, replay_of, check_of, IsOneCommand}
+use Rattle.planner_cli.specs.Words.{solve, turns_of, are_file_words, are_apart, solving, solve_files, solve_of}
+use Rattle.command_solve.specs.Solving.{SolveFiles}
 
 -- ---- too few words, and too many
 
