@@ -1,5 +1,5 @@
 -- What the code has of the words, as the grammar has it. No part of any promise.
-use Rattle.std.specs.Prelude.{ℕ, ◌≤◌, ⊤, option_copied}
+use Rattle.std.specs.Prelude.{◌≤◌, ⊤, option_copied}
 use Rattle.planner_cli.specs.declared.words.Command.{Command as CommandWords}
 use Rattle.planner_cli.specs.declared.words.Command.TheVariants.{Evaluate, Replay, Check, Solve}
 use Rattle.planner_cli.specs.Words.{Command, evaluate, replay, check, solve}

@@ -1,9 +1,7 @@
 -- What a run of the words promises, command by command.
 use Rattle.std.proofs.Common.{List, ℕ, map, string_bytes, subst}
-use Rattle.std.specs.Prelude.{option_copied}
-use Rattle.command_frame.specs.Sources.{source_view}
 use Rattle.command_frame.specs.Refusals.{SaysOrFails}
-use Rattle.planner_cli.proofs.OutcomeLemmas.{outcome_refused, outcome_evaluate, outcome_replay, outcome_check}
+use Rattle.planner_cli.proofs.OutcomeLemmas.{outcome_refused}
 use Rattle.planner_cli.proofs.run.run_with.Goals as goal
 
 pub returns-in-None : goal.returns-in-None
