@@ -171,7 +171,10 @@ fn full_resources_get_a_price(rt: HostRuntime) -> Result<(), Fail> {
         weight: 0,
         scenario: 0,
     };
-    assert!(rt; are_as_wanted(rows, wanted, 666_666_666_666_666_667), "{rows:?}");
+    assert!(rt;
+        are_as_wanted(rows, wanted, 666_666_666_666_666_667),
+        "{rows:?}"
+    );
     Ok(())
 }
 
@@ -221,7 +224,10 @@ fn greatest_scenario_gets_the_tail(rt: HostRuntime) -> Result<(), Fail> {
         weight: 1000,
         scenario: 2,
     };
-    assert!(rt; are_as_wanted(rows, wanted, 1_500_000_000_000_000_000), "{rows:?}");
+    assert!(rt;
+        are_as_wanted(rows, wanted, 1_500_000_000_000_000_000),
+        "{rows:?}"
+    );
     Ok(())
 }
 
