@@ -1,0 +1,9 @@
+pub mod Listed
+pub mod Cells
+pub mod Tokens
+pub mod Digits
+pub mod Placing
+pub mod Fine
+pub mod Keys
+pub mod Leaves
+pub mod Parts

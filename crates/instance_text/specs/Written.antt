@@ -62,7 +62,7 @@ resource_value style inst c = object_of (
 
 -- the periods of a season, in ascending order
 abbrev pub season_periods : Tables → ℕ → List ℕ
-season_periods inst q = lists_below inst.periods (λ k. cond (in_season_of inst q (k + 1)) (k + 1 ∷ []) [])
+season_periods inst q = lists_below inst.periods (λ k. cond (in_season_of inst q (k + 1)) ((k + 1) ∷ []) [])
 
 abbrev pub season_value : Tables → ℕ → Value
 season_value inst q = whole_list (season_periods inst q)
