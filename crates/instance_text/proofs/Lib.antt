@@ -7,3 +7,4 @@ pub mod Fine
 pub mod Keys
 pub mod Leaves
 pub mod Parts
+pub mod Whole

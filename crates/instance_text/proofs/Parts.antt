@@ -1,15 +1,16 @@
--- Each part of the value of an instance is fine at its spot, and so is the whole.
+-- Objects with required keys, and what objects of names and of periods and starts take at the spots of an instance.
 use Rattle.std.proofs.Common.{◌≡◌, ℕ, suc, ◌+◌, ◌-◌, ◌*◌, ◌<◌, ◌≤◌, ◌^◌, Bool, true, false, not, cond, ◌&&◌, List, [], ◌∷◌}
 use Rattle.std.proofs.Common.{map, length, get_or, Option, Some, None, refl, sym, ◌∙◌, ap, subst, arith, ℤ, pos, find}
 use Rattle.std.proofs.Common.{IsTrue}
-use Rattle.std.specs.Prelude.{All, slice_index_or, option_map, codes, nat_lt}
-use Rattle.std.proofs.lemmas.Bool.{lt-ltb, ne_eqb, and_parts}
+use Rattle.std.specs.Prelude.{All, slice_index_or, option_map, codes, nat_lt, nat_le}
+use Rattle.std.proofs.lemmas.Bool.{lt-ltb, ne_eqb, and_parts, leb-true, ltb-true}
 use Rattle.std.proofs.lemmas.List.{nil_from_length}
 use Rattle.std.proofs.lemmas.List.Elements.{All-nil, All-cons, All-head, All-tail, All-weaker, All-get_or}
-use Rattle.std.proofs.lemmas.List.Elements.{All-from_get_or, All-map}
+use Rattle.std.proofs.lemmas.List.Elements.{All-from_get_or, All-map, All-from_recursion}
 use Rattle.std.proofs.lemmas.Str.{IsUtf8-from_ascii}
+use Rattle.std.proofs.lemmas.Str.Ascii.{IsAscii-from_all}
 use Rattle.json_grammar.specs.Tree.{Node}
-use Rattle.json_spelling.specs.Value.{Value, values_of, field}
+use Rattle.json_spelling.specs.Value.{Value, Field}
 use Rattle.json_spelling.specs.Spellable.{IsSpellableText}
 use Rattle.fixed_num.specs.Sums.{list_of}
 use Rattle.fixed_num.proofs.SumLemmas.{get_or-list_of, length-list_of}
@@ -29,8 +30,8 @@ use Rattle.instance_shape.specs.declared.fault.Which.{Which}
 use Rattle.instance_shape.specs.declared.fault.Which.TheVariants as which
 use Rattle.instance_shape.specs.declared.spot.Spot.{Spot}
 use Rattle.instance_shape.specs.declared.spot.Spot.TheVariants as spot
-use Rattle.instance_shape.specs.Keys.{text_of}
-use Rattle.instance_shape.specs.Shape.{element}
+use Rattle.instance_shape.specs.Keys.{text_of, all_bytes}
+use Rattle.instance_shape.specs.Shape as Shape
 use Rattle.instance_shape.specs.ShapeFaults.{first_past}
 use Rattle.instance_shape.specs.FileTables.{lists_below}
 use Rattle.instance_shape.proofs.ListsBelow.{all_lists, all_cond}
@@ -40,7 +41,7 @@ use Rattle.instance_text.specs.Written.{object_of, filled, numbered, named, whol
 use Rattle.instance_text.specs.Written.{count_list, resource_value, season_periods, season_value, exclusion_words}
 use Rattle.instance_text.specs.Written.{exclusion_value, load_value, workload_of, workload_value, risks_of, risk_value}
 use Rattle.instance_text.specs.Written.{intervention_value, instance_value}
-use Rattle.instance_text.specs.Written as written
+use Rattle.instance_text.specs.Written.{under}
 use Rattle.instance_text.proofs.Fine.{IsFine, IsFineField, deeper_fine, list_fine, object_fine, no_fault}
 use Rattle.instance_text.proofs.Keys.{TakesNumbers, TakesNames, numbered_fine, filled_fine, named_fine}
 use Rattle.instance_text.proofs.Leaves.{max_fine, min_fine, risks_fine, load_fine, season_fine, delta_fine, tmax_fine}
@@ -48,13 +49,39 @@ use Rattle.instance_text.proofs.Leaves.{periods_fine, scenarios_fine, quantile_f
 
 -- ---- required keys
 
--- the ASCII text of a required key
+-- printed ASCII
+is_plain : ℕ → Bool
+is_plain b = nat_le 32 b && nat_lt b 128
+
+plain_all : (bs : List ℕ) → all_bytes is_plain bs ≡ true → All (λ b. (32 ≤ b) × (b < 128)) bs
+unfolding is_plain
+plain_all [] h = All-nil (λ b. (32 ≤ b) × (b < 128))
+plain_all (b ∷ bs) h =
+    let both = and_parts (nat_le 32 b && nat_lt b 128) (all_bytes is_plain bs) h in
+    let sizes = and_parts (nat_le 32 b) (nat_lt b 128) both.0 in
+    All-cons (λ b. (32 ≤ b) × (b < 128)) b bs (leb-true 32 b sizes.0, ltb-true b 128 sizes.1) (plain_all bs both.1)
+
+plain_spelled : (bs : List ℕ) → all_bytes is_plain bs ≡ true → IsSpellableText bs
+plain_spelled bs h =
+    let each = plain_all bs h in
+    record {
+      utf8 = IsUtf8-from_ascii bs (IsAscii-from_all bs
+          (All-weaker (λ b. (32 ≤ b) × (b < 128)) (λ b. b < 128) (λ b p. p.1) bs each));
+      printable = All-weaker (λ b. (32 ≤ b) × (b < 128)) (λ b. 32 ≤ b) (λ b p. p.0) bs each;
+    }
+
+known_plain : (k : Known) → all_bytes is_plain (text_of k) ≡ true
+unfolding is_plain
+known_plain known.Resources = refl
+known_plain _ = refl
+
+-- required keys are printed ASCII
 known_spelled : (k : Known) → IsSpellableText (text_of k)
-known_spelled k = ?
+known_spelled k = plain_spelled (text_of k) (known_plain k)
 
 -- ---- objects of periods and starts
 
-risk_takes : (limits : Limits) → TakesNumbers limits spot.Risk
+pub risk_takes : (limits : Limits) → TakesNumbers limits spot.Risk
 risk_takes limits = record {
   one = λ key. refl;
   no_names = refl;
@@ -64,7 +91,7 @@ risk_takes limits = record {
   plain = refl;
 }
 
-risk_period_takes : (limits : Limits) → TakesNumbers limits spot.RiskPeriod
+pub risk_period_takes : (limits : Limits) → TakesNumbers limits spot.RiskPeriod
 risk_period_takes limits = record {
   one = λ key. refl;
   no_names = refl;
@@ -74,7 +101,7 @@ risk_period_takes limits = record {
   plain = refl;
 }
 
-resource_takes : (limits : Limits) → TakesNumbers limits spot.WorkloadResource
+pub resource_takes : (limits : Limits) → TakesNumbers limits spot.WorkloadResource
 resource_takes limits = record {
   one = λ key. refl;
   no_names = refl;
@@ -84,7 +111,7 @@ resource_takes limits = record {
   plain = refl;
 }
 
-period_takes : (limits : Limits) → TakesNumbers limits spot.WorkloadPeriod
+pub period_takes : (limits : Limits) → TakesNumbers limits spot.WorkloadPeriod
 period_takes limits = record {
   one = λ key. refl;
   no_names = refl;
@@ -99,7 +126,7 @@ period_takes limits = record {
 not_past : (limit : ℕ) (w : Which) (n m at : ℕ) → n ≤ limit → m < n → first_past (Some (limit, w)) m at ≡ []
 not_past limit w n m at l h = no_fault _ at (flaw.Limit w) (ne_eqb m limit (λ e. omega (arith, e)))
 
-resources_take : (limits : Limits) (n : ℕ) → n ≤ limits.resources → TakesNames limits spot.Resources n
+pub resources_take : (limits : Limits) (n : ℕ) → n ≤ limits.resources → TakesNames limits spot.Resources n
 resources_take limits n l = record {
   one = λ key. refl;
   no_numbers = refl;
@@ -109,7 +136,7 @@ resources_take limits n l = record {
   plain = refl;
 }
 
-seasons_take : (limits : Limits) (n : ℕ) → n ≤ limits.seasons → TakesNames limits spot.Seasons n
+pub seasons_take : (limits : Limits) (n : ℕ) → n ≤ limits.seasons → TakesNames limits spot.Seasons n
 seasons_take limits n l = record {
   one = λ key. refl;
   no_numbers = refl;
@@ -119,7 +146,7 @@ seasons_take limits n l = record {
   plain = refl;
 }
 
-interventions_take : (limits : Limits) (n : ℕ) → n ≤ limits.interventions → TakesNames limits spot.Interventions n
+pub interventions_take : (limits : Limits) (n : ℕ) → n ≤ limits.interventions → TakesNames limits spot.Interventions n
 interventions_take limits n l = record {
   one = λ key. refl;
   no_numbers = refl;
@@ -129,7 +156,7 @@ interventions_take limits n l = record {
   plain = refl;
 }
 
-exclusions_take : (limits : Limits) (n : ℕ) → n ≤ limits.exclusions → TakesNames limits spot.Exclusions n
+pub exclusions_take : (limits : Limits) (n : ℕ) → n ≤ limits.exclusions → TakesNames limits spot.Exclusions n
 exclusions_take limits n l = record {
   one = λ key. refl;
   no_numbers = refl;
@@ -139,7 +166,7 @@ exclusions_take limits n l = record {
   plain = refl;
 }
 
-workload_takes : (limits : Limits) (n : ℕ) → TakesNames limits spot.Workload n
+pub workload_takes : (limits : Limits) (n : ℕ) → TakesNames limits spot.Workload n
 workload_takes limits n = record {
   one = λ key. refl;
   no_numbers = refl;
@@ -151,30 +178,78 @@ workload_takes limits n = record {
 
 -- ---- objects with required keys
 
-two_fields : (limits : Limits) (n : ℕ) (v w : Value) → IsFine limits n spot.Max v → IsFine limits n spot.Min w
-    → All (IsFineField limits n spot.Resource) (written.under known.Max v ∷ written.under known.Min w ∷ [])
-two_fields limits n v w h k =
-    All-cons (IsFineField limits n spot.Resource) (written.under known.Max v) (written.under known.Min w ∷ [])
-    (record { key = known_spelled known.Max; value = h })
-    (All-cons (IsFineField limits n spot.Resource) (written.under known.Min w) []
-    (record { key = known_spelled known.Min; value = k }) (All-nil (IsFineField limits n spot.Resource)))
+good_field : (limits : Limits) (n : ℕ) (s : Spot) (k : Known) (v : Value)
+    → IsFine limits n (Shape.under s (text_of k)) v → IsFineField limits n s (under k v)
+good_field limits n s k v h = record { key = known_spelled k; value = h }
 
-resource_fine : (limits : Limits) (n : ℕ) (v w : Value) → IsFine limits n spot.Max v → IsFine limits n spot.Min w
-    → IsFine limits (suc n) spot.Resource (object_of (written.under known.Max v ∷ written.under known.Min w ∷ []))
+pub resource_fine : (limits : Limits) (n : ℕ) (v w : Value) → IsFine limits n spot.Max v → IsFine limits n spot.Min w
+    → IsFine limits (suc n) spot.Resource (object_of (under known.Max v ∷ under known.Min w ∷ []))
 resource_fine limits n v w h k =
-    object_fine limits n spot.Resource (written.under known.Max v ∷ written.under known.Min w ∷ []) (λ at ms. refl) refl
-    (λ k last. refl) (two_fields limits n v w h k)
+    object_fine limits n spot.Resource (under known.Max v ∷ under known.Min w ∷ []) (λ at ms. refl) refl
+    (λ k last. refl)
+    (All-from_recursion (IsFineField limits n spot.Resource) (under known.Max v ∷ under known.Min w ∷ [])
+    (good_field limits n spot.Resource known.Max v h, (good_field limits n spot.Resource known.Min w k, tt)))
 
-intervention_fine : (limits : Limits) (n : ℕ) (a b c d : Value) → IsFine limits n spot.Tmax a
+abbrev intervention_fields : Value → Value → Value → Value → List Field
+intervention_fields a b c d =
+    under known.Tmax a ∷ under known.Delta b ∷ under known.Workload c ∷ under known.Risk d ∷ []
+
+pub intervention_fine : (limits : Limits) (n : ℕ) (a b c d : Value) → IsFine limits n spot.Tmax a
     → IsFine limits n spot.Delta b → IsFine limits n spot.Workload c → IsFine limits n spot.Risk d
-    → IsFine limits (suc n) spot.Intervention (object_of (written.under known.Tmax a ∷ written.under known.Delta b
-    ∷ written.under known.Workload c ∷ written.under known.Risk d ∷ []))
+    → IsFine limits (suc n) spot.Intervention (object_of (under known.Tmax a ∷ under known.Delta b
+    ∷ under known.Workload c ∷ under known.Risk d ∷ []))
 intervention_fine limits n a b c d h i j k =
-    let good = IsFineField limits n spot.Intervention in
-    object_fine limits n spot.Intervention (written.under known.Tmax a ∷ written.under known.Delta b
-    ∷ written.under known.Workload c ∷ written.under known.Risk d ∷ []) (λ at ms. refl) refl (λ k last. refl)
-    (All-cons good (written.under known.Tmax a) _ (record { key = known_spelled known.Tmax; value = h })
-    (All-cons good (written.under known.Delta b) _ (record { key = known_spelled known.Delta; value = i })
-    (All-cons good (written.under known.Workload c) _ (record { key = known_spelled known.Workload; value = j })
-    (All-cons good (written.under known.Risk d) [] (record { key = known_spelled known.Risk; value = k })
-    (All-nil good)))))
+    object_fine limits n spot.Intervention (intervention_fields a b c d) (λ at ms. refl) refl (λ k last. refl)
+    (All-from_recursion (IsFineField limits n spot.Intervention) (intervention_fields a b c d) (
+      good_field limits n spot.Intervention known.Tmax a h,
+      (
+        good_field limits n spot.Intervention known.Delta b i,
+        (
+          good_field limits n spot.Intervention known.Workload c j,
+          (good_field limits n spot.Intervention known.Risk d k, tt),
+        ),
+      ),
+    ))
+
+-- the values of the root
+pub record AreRootValues (limits : Limits) (n : ℕ) (a b c d e f g h : Value) : Type 0 where
+  pub resources : IsFine limits n spot.Resources a
+  pub seasons : IsFine limits n spot.Seasons b
+  pub interventions : IsFine limits n spot.Interventions c
+  pub exclusions : IsFine limits n spot.Exclusions d
+  pub periods : IsFine limits n spot.T e
+  pub scenarios : IsFine limits n spot.ScenariosNumber f
+  pub quantile : IsFine limits n spot.Quantile g
+  pub alpha : IsFine limits n spot.Alpha h
+
+abbrev pub root_fields : Value → Value → Value → Value → Value → Value → Value → Value → List Field
+root_fields a b c d e f g h =
+    under known.Resources a ∷ under known.Seasons b ∷ under known.Interventions c ∷ under known.Exclusions d
+    ∷ under known.T e ∷ under known.ScenariosNumber f ∷ under known.Quantile g ∷ under known.Alpha h ∷ []
+
+pub root_fine : (limits : Limits) (n : ℕ) (a b c d e f g h : Value) → AreRootValues limits n a b c d e f g h
+    → IsFine limits (suc n) spot.Root (object_of (root_fields a b c d e f g h))
+root_fine limits n a b c d e f g h r =
+    object_fine limits n spot.Root (root_fields a b c d e f g h) (λ at ms. refl) refl (λ k last. refl)
+    (All-from_recursion (IsFineField limits n spot.Root) (root_fields a b c d e f g h) (
+      good_field limits n spot.Root known.Resources a r.resources,
+      (
+        good_field limits n spot.Root known.Seasons b r.seasons,
+        (
+          good_field limits n spot.Root known.Interventions c r.interventions,
+          (
+            good_field limits n spot.Root known.Exclusions d r.exclusions,
+            (
+              good_field limits n spot.Root known.T e r.periods,
+              (
+                good_field limits n spot.Root known.ScenariosNumber f r.scenarios,
+                (
+                  good_field limits n spot.Root known.Quantile g r.quantile,
+                  (good_field limits n spot.Root known.Alpha h r.alpha, tt),
+                ),
+              ),
+            ),
+          ),
+        ),
+      ),
+    ))
