@@ -8,3 +8,5 @@ pub mod Keys
 pub mod Leaves
 pub mod Parts
 pub mod Whole
+pub mod Tabled
+pub mod Read

@@ -88,7 +88,7 @@ keys_at fs t h =
 -- ---- the first value under keys that pass a test
 
 -- the first value of fields whose key passes
-pub first_field : (List ℕ → Bool) → List Field → Option Value
+abbrev pub first_field : (List ℕ → Bool) → List Field → Option Value
 first_field p [] = None
 first_field p (f ∷ fs) = cond (p f.key) (Some f.value) (first_field p fs)
 
@@ -101,7 +101,6 @@ IsOptionAt (Some v) (Some t) = IsAt v t
 
 first_at : (p : List ℕ → Bool) (fs : List Field) (es : List Entry) → AllZip IsEntry fs es
     → IsOptionAt (first_field p fs) (first_value p es)
-unfolding first_field
 first_at p [] [] z = tt
 first_at p [] (e ∷ es) z = absurd z
 first_at p (f ∷ fs) [] z = absurd z
@@ -129,13 +128,12 @@ known_at k fs v t e h =
 -- ---- fields by number or name
 
 -- the first of two, where there is one
-first_of_two : Option Value → Option Value → Option Value
+abbrev first_of_two : Option Value → Option Value → Option Value
 first_of_two None o = o
 first_of_two (Some v) o = Some v
 
 first_field-append : (p : List ℕ → Bool) (xs ys : List Field)
     → first_field p (xs ++ ys) ≡ first_of_two (first_field p xs) (first_field p ys)
-unfolding first_field first_of_two
 first_field-append p [] ys = refl
 first_field-append p (x ∷ xs) ys = by (p x.key) (first_field-append p xs ys)
   where
@@ -147,7 +145,6 @@ first_field-append p (x ∷ xs) ys = by (p x.key) (first_field-append p xs ys)
 
 first_optional : (p : List ℕ → Bool) (key : List ℕ) (o : Option Value) → first_field p (optional key o)
     ≡ cond (p key) o None
-unfolding first_field
 first_optional p key None = by (p key)
   where
     by : (b : Bool) → ◌≡◌ {A = Option Value} None (cond b None None)
@@ -156,21 +153,17 @@ first_optional p key None = by (p key)
 first_optional p key (Some v) = refl
 
 or_none : (x : Option Value) → first_of_two x None ≡ x
-unfolding first_of_two
 or_none None = refl
 or_none (Some v) = refl
 
 none_first : (p : List ℕ → Bool) → first_field p [] ≡ None
-unfolding first_field
 none_first p = refl
 
 or_none_first : (y : Option Value) → first_of_two None y ≡ y
-unfolding first_of_two
 or_none_first y = refl
 
 none_passes : (p : List ℕ → Bool) (n : ℕ) (key : ℕ → List ℕ) (o : ℕ → Option Value)
     → ((j : ℕ) → j < n → p (key j) ≡ false) → first_field p (lists_below n (λ j. optional (key j) (o j))) ≡ None
-unfolding first_field first_of_two
 none_passes p zero key o h = refl
 none_passes p (suc n) key o h =
     first_field-append p (lists_below n (λ j. optional (key j) (o j))) (optional (key n) (o n))
