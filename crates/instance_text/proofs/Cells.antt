@@ -25,7 +25,7 @@ one_cell (Some x) = x ∷ []
 abbrev pub is_at : ℕ → ℕ → LoadCell → Bool
 is_at s t x = (x.start == s) && (x.period == t)
 
-key_of : (s t c : ℕ) (x : LoadCell) → is_cell_of s t c x ≡ true
+pub key_of : (s t c : ℕ) (x : LoadCell) → is_cell_of s t c x ≡ true
     → (x.start ≡ s) × (x.period ≡ t) × (x.resource ≡ c)
 key_of s t c x h = grind (arith, nat_tests)
 

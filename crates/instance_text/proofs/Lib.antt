@@ -10,3 +10,6 @@ pub mod Parts
 pub mod Whole
 pub mod Tabled
 pub mod Read
+pub mod Rows
+pub mod Looked
+pub mod Fields

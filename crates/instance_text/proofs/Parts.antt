@@ -190,7 +190,7 @@ resource_fine limits n v w h k =
     (All-from_recursion (IsFineField limits n spot.Resource) (under known.Max v ∷ under known.Min w ∷ [])
     (good_field limits n spot.Resource known.Max v h, (good_field limits n spot.Resource known.Min w k, tt)))
 
-abbrev intervention_fields : Value → Value → Value → Value → List Field
+abbrev pub intervention_fields : Value → Value → Value → Value → List Field
 intervention_fields a b c d =
     under known.Tmax a ∷ under known.Delta b ∷ under known.Workload c ∷ under known.Risk d ∷ []
 

@@ -39,7 +39,7 @@ use Rattle.instance_text.proofs.Parts.{resource_fine, intervention_fine, AreRoot
 
 -- ---- counts
 
-counts_of : (style : Style) (n : ℕ) (f : ℕ → ℤ) → ((k : ℕ) → k < n → SpellsCount style (f k))
+pub counts_of : (style : Style) (n : ℕ) (f : ℕ → ℤ) → ((k : ℕ) → k < n → SpellsCount style (f k))
     → All (SpellsCount style) (list_of n f)
 counts_of style n f h = All-from_get_or (SpellsCount style) (list_of n f) (pos 0)
     (λ i l. let m : i < n = omega (arith, l, length-list_of n f) in
@@ -53,18 +53,18 @@ place_in_row c r k n h l =
 
 module _ (limits : Limits) (style : Style) (inst : Tables) (fits : IsFitting inst) (within : IsWithin limits inst)
     (spells : SpellsNumbers style inst) (texts : HasSpellableNames inst) where
-  few_periods : inst.periods < 1_000_000_000
+  pub few_periods : inst.periods < 1_000_000_000
   few_periods = omega (arith, fits.few_periods)
 
   -- ---- resources
 
-  upper_spelled : (c k : ℕ) → c < length inst.resource_names → k < inst.periods
+  pub upper_spelled : (c k : ℕ) → c < length inst.resource_names → k < inst.periods
       → SpellsCount style (upper_of inst c (k + 1))
   unfolding upper_of
   upper_spelled c k h l = All-get_or (SpellsCount style) inst.upper (c * inst.periods + (k + 1 - 1)) (pos 0)
       (omega (arith, place_in_row c (length inst.resource_names) k inst.periods h l, fits.upper_each)) spells.upper
 
-  lower_spelled : (c k : ℕ) → c < length inst.resource_names → k < inst.periods
+  pub lower_spelled : (c k : ℕ) → c < length inst.resource_names → k < inst.periods
       → SpellsCount style (lower_of inst c (k + 1))
   unfolding lower_of
   lower_spelled c k h l = All-get_or (SpellsCount style) inst.lower (c * inst.periods + (k + 1 - 1)) (pos 0)
@@ -94,7 +94,7 @@ module _ (limits : Limits) (style : Style) (inst : Tables) (fits : IsFitting ins
 
   -- ---- seasons
 
-  periods_small : (q : ℕ) → All (λ m. m < 1_000_000_000) (season_periods inst q)
+  pub periods_small : (q : ℕ) → All (λ m. m < 1_000_000_000) (season_periods inst q)
   periods_small q =
       all_lists (λ m. m < 1_000_000_000) inst.periods (λ k. cond (in_season_of inst q (k + 1)) ((k + 1) ∷ []) [])
       (λ k l. all_cond (λ m. m < 1_000_000_000) (in_season_of inst q (k + 1)) ((k + 1) ∷ [])
@@ -129,7 +129,7 @@ module _ (limits : Limits) (style : Style) (inst : Tables) (fits : IsFitting ins
         ),
       ))
 
-  exclusion_in : (e : ℕ) → e < length inst.exclusion_names → ((exclusion_of inst e).first < length inst.names)
+  pub exclusion_in : (e : ℕ) → e < length inst.exclusion_names → ((exclusion_of inst e).first < length inst.names)
       × ((exclusion_of inst e).second < length inst.names) × ((exclusion_of inst e).season < length inst.season_names)
   unfolding exclusion_of
   exclusion_in e l = All-get_or (λ (x : Exclusion). (x.first < length inst.names) × (x.second < length inst.names)
@@ -145,7 +145,7 @@ module _ (limits : Limits) (style : Style) (inst : Tables) (fits : IsFitting ins
 
   -- ---- workloads
 
-  found_in : (P : LoadCell → Type 0) (p : LoadCell → Bool) (cells : List LoadCell) (x : LoadCell) → All P cells
+  pub found_in : (P : LoadCell → Type 0) (p : LoadCell → Bool) (cells : List LoadCell) (x : LoadCell) → All P cells
       → find p cells ≡ Some x → P x
   found_in P p [] x a e = cc
   found_in P p (y ∷ cells) x a e = by (p y) e (found_in P p cells x (All-tail P y cells a))
@@ -169,7 +169,7 @@ module _ (limits : Limits) (style : Style) (inst : Tables) (fits : IsFitting ins
       one_load (find (is_cell_of s t c) cells) v
       (λ x q. found_in (λ cell. SpellsCount style cell.load) (is_cell_of s t c) cells x (spells.loads i l) q) e
 
-  few_starts : (i : ℕ) → i < length inst.names → tmax inst i < 1_000_000_000
+  pub few_starts : (i : ℕ) → i < length inst.names → tmax inst i < 1_000_000_000
   few_starts i l = omega (arith, few_periods, tmax_small inst i fits l)
 
   workloads_fine : (i : ℕ) → i < length inst.names → IsFine limits 3 spot.Workload (workload_value style inst i)
@@ -185,7 +185,7 @@ module _ (limits : Limits) (style : Style) (inst : Tables) (fits : IsFitting ins
 
   -- ---- risks
 
-  risk_spelled : (i s t k : ℕ) → i < length inst.names → is_allowed inst i s ≡ true → in_run inst i s t ≡ true
+  pub risk_spelled : (i s t k : ℕ) → i < length inst.names → is_allowed inst i s ≡ true → in_run inst i s t ≡ true
       → k < scenarios_of inst t → SpellsCount style (risk_of inst i s t (k + 1))
   unfolding risk_of
   risk_spelled i s t k l a r m = All-get_or (SpellsCount style) inst.risks (risk_place inst i s t (k + 1)) (pos 0)
@@ -213,7 +213,7 @@ module _ (limits : Limits) (style : Style) (inst : Tables) (fits : IsFitting ins
 
   -- ---- interventions, and all of it
 
-  durations_small : (i : ℕ) → i < length inst.names → All (λ m. m < 1_000_000_000) (durations inst i)
+  pub durations_small : (i : ℕ) → i < length inst.names → All (λ m. m < 1_000_000_000) (durations inst i)
   unfolding durations
   durations_small i l = All-get_or (λ ds. All (λ m. m < 1_000_000_000) ds) inst.delta i []
       (omega (arith, l, fits.delta_each)) fits.delta_small
