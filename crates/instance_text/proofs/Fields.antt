@@ -4,6 +4,7 @@ use Rattle.std.proofs.Common.{map, length, get_or, take, drop, Option, Some, Non
 use Rattle.std.proofs.Common.{find, bytes_eq, position, is_some, ◌+ℤ◌, ◌-ℤ◌}
 use Rattle.std.specs.Prelude.{All, AllPairs, slice_index, slice_index_or, ◌==◌}
 use Rattle.std.specs.List.{AllZip}
+use Rattle.std.proofs.lemmas.List.{get_or-map}
 use Rattle.std.proofs.lemmas.List.Elements.{All-get_or, All-weaker}
 use Rattle.json_grammar.specs.Tree.{Tree, tree, Node}
 use Rattle.json_spelling.specs.Value.{Value, values_of, Field, field}
@@ -91,7 +92,7 @@ module _ (limits : Limits) (style : Style) (inst : Tables) (fits : IsFitting ins
 
   -- ---- names
 
-  resources_at : IsAt (object_of (named inst.resource_names (λ c. Some (resource_value style inst c))))
+  pub resources_at : IsAt (object_of (named inst.resource_names (λ c. Some (resource_value style inst c))))
       (known is.Resources root)
   unfolding fields resources
   resources_at = known_at is.Resources fields resources root refl root_is
@@ -100,12 +101,12 @@ module _ (limits : Limits) (style : Style) (inst : Tables) (fits : IsFitting ins
   unfolding fields seasons
   seasons_at = known_at is.Seasons fields seasons root refl root_is
 
-  interventions_at : IsAt (object_of (named inst.names (λ i. Some (intervention_value style inst i))))
+  pub interventions_at : IsAt (object_of (named inst.names (λ i. Some (intervention_value style inst i))))
       (known is.Interventions root)
   unfolding fields interventions
   interventions_at = known_at is.Interventions fields interventions root refl root_is
 
-  exclusions_at : IsAt (object_of (named inst.exclusion_names (λ e. Some (exclusion_value inst e))))
+  pub exclusions_at : IsAt (object_of (named inst.exclusion_names (λ e. Some (exclusion_value inst e))))
       (known is.Exclusions root)
   unfolding fields exclusions
   exclusions_at = known_at is.Exclusions fields exclusions root refl root_is
@@ -207,10 +208,18 @@ module _ (limits : Limits) (style : Style) (inst : Tables) (fits : IsFitting ins
 
   -- ---- exclusions
 
-  word_at : (e : Exclusion) (t : Tree) (k : ℕ) → k < 3
+  pub word_at : (e : Exclusion) (t : Tree) (k : ℕ) → k < 3
       → IsAt (Value.list (values_of (map Value.text (exclusion_words inst e)))) t
       → word t k ≡ get_or (exclusion_words inst e) k []
-  word_at e t k l a = ?
+  word_at e t k l a =
+      let words = exclusion_words inst e in
+      let there : IsAt (get_or (map Value.text words) k (Value.text [])) (get_or (elements t) k (tree 0 0 Node.null)) =
+      zip_at IsAt (map Value.text words) (elements t) k (Value.text []) (tree 0 0 Node.null)
+      (elements_at (map Value.text words) t a) l in
+      let which : get_or (map Value.text words) k (Value.text []) ≡ Value.text (get_or words k []) =
+      get_or-map Value.text words k [] (Value.text []) l in
+      word_is (get_or words k []) (get_or (elements t) k (tree 0 0 Node.null))
+      (subst (λ (v : Value). IsAt v (get_or (elements t) k (tree 0 0 Node.null))) which there)
 
   same_exclusion : (a b c : ℕ) (x : Exclusion) → a ≡ x.first → b ≡ x.second → c ≡ x.season
       → ◌≡◌ {A = Exclusion} (record { first = a; second = b; season = c }) x
@@ -246,7 +255,7 @@ module _ (limits : Limits) (style : Style) (inst : Tables) (fits : IsFitting ins
 
   -- ---- interventions
 
-  intervention_entries : AllZip IsEntry (lists_below (length inst.names)
+  pub intervention_entries : AllZip IsEntry (lists_below (length inst.names)
       (λ i. field (slice_index_or inst.names i []) (intervention_value style inst i) ∷ [])) (file.interventions root)
   intervention_entries = entries_at _ (known is.Interventions root) interventions_at
 

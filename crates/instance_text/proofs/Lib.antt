@@ -13,3 +13,4 @@ pub mod Read
 pub mod Rows
 pub mod Looked
 pub mod Fields
+pub mod Crossing

@@ -4,7 +4,7 @@ use Rattle.std.proofs.Common.{length, get_or, take, Option, Some, None, refl, sy
 use Rattle.std.proofs.Common.{bytes_eq}
 use Rattle.std.specs.Prelude.{All, slice_index_or, option_map}
 use Rattle.std.proofs.lemmas.Bool.{and_from, cond-true}
-use Rattle.std.proofs.lemmas.List.{take_all}
+use Rattle.std.proofs.lemmas.List.{take_all, length-map}
 use Rattle.json_grammar.specs.Tree.{Tree}
 use Rattle.json_spelling.specs.Value.{Value, Field}
 use Rattle.fixed_num.specs.Sums.{list_of}
@@ -18,7 +18,7 @@ use Rattle.instance_shape.specs.declared.fault.Known.{Known}
 use Rattle.instance_shape.specs.declared.fault.Known.TheVariants as is
 use Rattle.instance_shape.specs.Keys.{text_of}
 use Rattle.instance_shape.specs.LookUp as file
-use Rattle.instance_shape.specs.LookUp.{known, elements, whole_at, count_at, at_key, at_number, number_in, risk_list}
+use Rattle.instance_shape.specs.LookUp.{known, keys, elements, whole_at, count_at, at_key, at_number, number_in, risk_list}
 use Rattle.instance_shape.specs.LookUp.{workload}
 use Rattle.instance_shape.specs.FileTables.{cell_of, risks_at, soft_at}
 use Rattle.instance_text.specs.Conditions.{SpellsCount, SpellsNumbers, HasSpellableNames, IsWithin}
@@ -28,7 +28,7 @@ use Rattle.instance_text.specs.Written.{count_list, load_value, workload_of, wor
 use Rattle.instance_text.specs.Written.{intervention_value}
 use Rattle.instance_text.proofs.Cells.{one_cell, key_of}
 use Rattle.instance_text.proofs.Parts.{intervention_fields}
-use Rattle.instance_text.proofs.Placing.{IsAt, IsOptionAt, first_field, known_at, number_at, number_in_filled, name_at}
+use Rattle.instance_text.proofs.Placing.{IsAt, IsOptionAt, elements_at, keys_at, zip_length, known_at, number_at, number_in_filled, name_at}
 use Rattle.instance_text.proofs.Read.{whole_is, wholes_are, count_is, list_read, list_unrounded}
 use Rattle.instance_text.proofs.Whole.{few_periods, few_starts, risk_spelled, durations_small, counts_of, found_in}
 
@@ -69,7 +69,7 @@ module _ (limits : Limits) (style : Style) (inst : Tables) (fits : IsFitting ins
   fields = intervention_fields (whole_number (tmax inst i)) (whole_list (durations inst i))
       (workload_value style inst i) (risk_value style inst i)
 
-  tmax_is : whole_at (known is.Tmax v) ≡ tmax inst i
+  pub tmax_is : whole_at (known is.Tmax v) ≡ tmax inst i
   unfolding fields
   tmax_is = whole_is (tmax inst i) (known is.Tmax v) (few_starts limits style inst fits within spells texts i l)
       (known_at is.Tmax fields (whole_number (tmax inst i)) v refl here)
@@ -79,6 +79,20 @@ module _ (limits : Limits) (style : Style) (inst : Tables) (fits : IsFitting ins
   delta_is = wholes_are (durations inst i) (known is.Delta v)
       (durations_small limits style inst fits within spells texts i l)
       (known_at is.Delta fields (whole_list (durations inst i)) v refl here)
+
+  pub delta_long : length (elements (known is.Delta v)) ≡ tmax inst i
+  unfolding fields tmax
+  delta_long =
+      zip_length IsAt (map whole_number (durations inst i)) (elements (known is.Delta v))
+      (elements_at (map whole_number (durations inst i)) (known is.Delta v)
+      (known_at is.Delta fields (whole_list (durations inst i)) v refl here))
+      ∙ length-map (durations inst i) whole_number
+
+  pub workload_keys : keys (known is.Workload v)
+      ≡ map (λ f. f.key) (named inst.resource_names (workload_of style inst i))
+  unfolding fields
+  workload_keys = keys_at (named inst.resource_names (workload_of style inst i)) (known is.Workload v)
+      (known_at is.Workload fields (workload_value style inst i) v refl here)
 
   pub starts_are : file.durations v ≡ durations inst i
   unfolding tmax
@@ -123,7 +137,7 @@ module _ (limits : Limits) (style : Style) (inst : Tables) (fits : IsFitting ins
 
   -- ---- risks
 
-  risks_there : (s t : ℕ) → is_allowed inst i s ≡ true → in_run inst i s t ≡ true
+  pub risks_there : (s t : ℕ) → is_allowed inst i s ≡ true → in_run inst i s t ≡ true
       → IsOptionAt (Some (count_list style (list_of (scenarios_of inst t) (λ k. risk_of inst i s t (k + 1)))))
       (number_in s (at_number t (known is.Risk v)))
   unfolding fields
