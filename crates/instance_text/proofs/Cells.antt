@@ -87,7 +87,7 @@ start_order x y b = by x.start x.period x.resource y.start y.period y.resource b
     by a b c d e f k = grind arith
 
 -- those of one start and period, by resource
-period_cells : (s t n : ℕ) (cells : List LoadCell) → AllPairs CellBefore cells → All (λ x. x.resource < n) cells
+pub period_cells : (s t n : ℕ) (cells : List LoadCell) → AllPairs CellBefore cells → All (λ x. x.resource < n) cells
     → lists_below n (λ c. filter (is_cell_of s t c) cells) ≡ filter (is_at s t) cells
 period_cells s t n cells order few =
     let here = filter (is_at s t) cells in
@@ -129,7 +129,7 @@ start_cells s n cells order during =
     same s p j h = grind (arith, nat_tests)
 
 -- all of them, by start
-by_start : (n : ℕ) (cells : List LoadCell) → AllPairs CellBefore cells → All (λ x. (1 ≤ x.start) × (x.start ≤ n)) cells
+pub by_start : (n : ℕ) (cells : List LoadCell) → AllPairs CellBefore cells → All (λ x. (1 ≤ x.start) × (x.start ≤ n)) cells
     → lists_below n (λ k. filter (λ x. x.start == k + 1) cells) ≡ cells
 by_start n cells order among =
     by_tests (λ k x. x.start == k + 1) (λ x. x.start - 1) n cells
@@ -153,7 +153,7 @@ runs inst i x a r = IsRunning-from inst i x.start x.period (true_of (is_allowed 
     true_of : (b : Bool) → IsTrue b → b ≡ true
     true_of b h = h
 
-cells_run : (inst : Tables) (i : ℕ) (cells : List LoadCell) → AreCells inst i cells
+pub cells_run : (inst : Tables) (i : ℕ) (cells : List LoadCell) → AreCells inst i cells
     → All (λ x. IsRunning inst i x.start x.period) cells
 cells_run inst i cells a = λ k d l. runs inst i (get_or cells k d) (a.allowed k d l) (a.running k d l)
 

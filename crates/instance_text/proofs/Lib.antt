@@ -14,3 +14,4 @@ pub mod Rows
 pub mod Looked
 pub mod Fields
 pub mod Crossing
+pub mod Numbers
