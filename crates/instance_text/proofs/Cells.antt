@@ -100,33 +100,33 @@ period_cells s t n cells order few =
     (filter_passes (is_at s t) cells i d (omega arith)) (filter_passes (is_at s t) cells j d m))
     (λ i d l k. refl)
 
--- cells in periods of their runs
-abbrev pub IsDuring : ℕ → ℕ → LoadCell → Type 0
-IsDuring s d x = x.start ≡ s → (s ≤ x.period) × (x.period < s + d)
+-- cells of a start in periods from one on
+abbrev pub IsDuring : ℕ → ℕ → ℕ → LoadCell → Type 0
+IsDuring s b n x = x.start ≡ s → (b ≤ x.period) × (x.period < b + n)
 
 -- those of one start, by period
-start_cells : (s n : ℕ) (cells : List LoadCell) → AllPairs CellBefore cells → All (IsDuring s n) cells
-    → lists_below n (λ j. filter (is_at s (s + j)) cells) ≡ filter (λ x. x.start == s) cells
-start_cells s n cells order during =
+pub start_cells : (s b n : ℕ) (cells : List LoadCell) → AllPairs CellBefore cells → All (IsDuring s b n) cells
+    → lists_below n (λ j. filter (is_at s (b + j)) cells) ≡ filter (λ x. x.start == s) cells
+start_cells s b n cells order during =
     let here = filter (λ (x : LoadCell). x.start == s) cells in
     let starts : All (λ x. x.start ≡ s) here = All-weaker (λ (x : LoadCell). (x.start == s) ≡ true) (λ x. x.start ≡ s)
     (λ x h. eqb-true x.start s h) here (filter_passes (λ (x : LoadCell). x.start == s) cells) in
-    let within : All (λ x. (s ≤ x.period) × (x.period < s + n)) here =
-    λ i d l. All-filter (λ (x : LoadCell). x.start == s) (IsDuring s n) cells during i d l (starts i d l) in
-    lists_below_same n (λ j. filter (is_at s (s + j)) cells) (λ j. filter (λ x. x.period == s + j) here)
-    (λ j l. sym (filter_twice (λ x. x.period == s + j) (λ (x : LoadCell). x.start == s) cells))
-    ∙ by_tests (λ j x. x.period == s + j) (λ x. x.period - s) n here
-    (All-weaker (λ x. (s ≤ x.period) × (x.period < s + n)) (λ x. x.period - s < n) (λ x h. omega (arith, h)) here within)
+    let within : All (λ x. (b ≤ x.period) × (x.period < b + n)) here =
+    λ i d l. All-filter (λ (x : LoadCell). x.start == s) (IsDuring s b n) cells during i d l (starts i d l) in
+    lists_below_same n (λ j. filter (is_at s (b + j)) cells) (λ j. filter (λ x. x.period == b + j) here)
+    (λ j l. sym (filter_twice (λ x. x.period == b + j) (λ (x : LoadCell). x.start == s) cells))
+    ∙ by_tests (λ j x. x.period == b + j) (λ x. x.period - b) n here
+    (All-weaker (λ x. (b ≤ x.period) × (x.period < b + n)) (λ x. x.period - b < n) (λ x h. omega (arith, h)) here within)
     (λ i j d l m.
     let up : (get_or here i d).period ≤ (get_or here j d).period =
     period_order s (get_or here i d) (get_or here j d)
     (AllPairs-filter CellBefore (λ (x : LoadCell). x.start == s) cells order i j d l m)
     (starts i d (omega arith)) (starts j d m) in
     omega (arith, up))
-    (λ i d l j. same s (get_or here i d).period j (within i d l).0)
+    (λ i d l j. same b (get_or here i d).period j (within i d l).0)
   where
-    same : (s p j : ℕ) → s ≤ p → (p == s + j) ≡ (p - s == j)
-    same s p j h = grind (arith, nat_tests)
+    same : (b p j : ℕ) → b ≤ p → (p == b + j) ≡ (p - b == j)
+    same b p j h = grind (arith, nat_tests)
 
 -- all of them, by start
 pub by_start : (n : ℕ) (cells : List LoadCell) → AllPairs CellBefore cells → All (λ x. (1 ≤ x.start) × (x.start ≤ n)) cells
@@ -182,7 +182,7 @@ at_start inst i s n cells a e true h =
     ∙ period_cells s (s + j) n cells a.ordered
     (All-weaker (λ x. x.resource < length inst.resource_names) (λ x. x.resource < n) (λ x p. omega (arith, p, e)) cells
     a.resources))
-    ∙ start_cells s d cells a.ordered
+    ∙ start_cells s s d cells a.ordered
     (λ k q l f. let r = cells_run inst i cells a k q l in during (get_or cells k q) f r)
   where
     during : (x : LoadCell) → x.start ≡ s → IsRunning inst i x.start x.period

@@ -15,3 +15,5 @@ pub mod Looked
 pub mod Fields
 pub mod Crossing
 pub mod Numbers
+pub mod Counted
+pub mod Law

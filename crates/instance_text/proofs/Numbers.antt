@@ -158,7 +158,7 @@ mutual
       ∙ ap (λ n. 0 + n) (quiet_fields p quiet a s fs h)
 
 -- no risks stand there
-pub no_risks : Spot → Bool
+abbrev pub no_risks : Spot → Bool
 no_risks spot.Root = false
 no_risks spot.Interventions = false
 no_risks spot.Intervention = false
@@ -169,7 +169,7 @@ no_risks spot.RiskNumber = false
 no_risks _ = true
 
 -- no workloads stand there
-pub no_workloads : Spot → Bool
+abbrev pub no_workloads : Spot → Bool
 no_workloads spot.Root = false
 no_workloads spot.Interventions = false
 no_workloads spot.Intervention = false
@@ -184,7 +184,6 @@ one_of q true s t h k = h
 one_of q false s t h k = k
 
 quiet_risks : AreQuiet is_risk no_risks
-unfolding no_risks
 quiet_risks = record { none = none; under = below; element = inside }
   where
     none : (s : Spot) → no_risks s ≡ true → is_risk s ≡ false
@@ -210,7 +209,6 @@ quiet_risks = record { none = none; under = below; element = inside }
     inside _ m h = refl
 
 quiet_workloads : AreQuiet is_workload no_workloads
-unfolding no_workloads
 quiet_workloads = record { none = none; under = below; element = inside }
   where
     none : (s : Spot) → no_workloads s ≡ true → is_workload s ≡ false

@@ -58,7 +58,7 @@ pub record Grows (inst : Tables) (before size : ℕ → ℕ) : Type 0 where
   pub grows : (t : ℕ) → 1 ≤ t → t ≤ inst.periods → before (t + 1) ≡ before t + size t
 
 module _ {A : Type 0} (inst : Tables) (before size : ℕ → ℕ) (up : Grows inst before size) (xs : List A) where
-  grown : (i s j : ℕ) → is_allowed inst i s ≡ true → j ≤ delta_of inst i s
+  pub grown : (i s j : ℕ) → is_allowed inst i s ≡ true → j ≤ delta_of inst i s
       → before (s + j) ≡ before s + count_sum j (λ j. size (s + j))
   grown i s j a l =
       let p = is_allowed_facts inst i s a in
