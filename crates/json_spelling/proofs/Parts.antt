@@ -1,4 +1,4 @@
--- Values and fields from lists: each is sound and nested at most so deep where the parts are. Texts in ASCII, and of strings.
+-- Values and fields from lists: each is sound and nested at most so deep where the parts are. ASCII texts, and strings.
 use Rattle.std.specs.Prelude.{All, ◌&&◌, nat_le, nat_lt}
 use Rattle.std.proofs.Common.{◌≡◌, ℕ, zero, suc, ◌≤◌, ◌<◌, List, [], ◌∷◌, Bool, true, arith}
 use Rattle.std.proofs.lemmas.Bool.{and_parts}
