@@ -1,10 +1,9 @@
 -- How deep the tree of a value is nested, and that it stands for the value.
-use Rattle.std.specs.Prelude.{max}
-use Rattle.std.proofs.Common.{◌≡◌, ℕ, zero, suc, ◌≤◌, None, refl, ap, ◌∙◌, arith}
-use Rattle.json_grammar.specs.Tree.{Tree, Node}
-use Rattle.json_grammar.specs.Prefix.{or_else, first_past, node_first_past, trees_first_past, members_first_past}
+use Rattle.std.proofs.Common.{◌≡◌, ℕ, zero, suc, ◌+◌, ◌≤◌, length, None, refl, ap, ◌∙◌, arith}
+use Rattle.json_grammar.specs.Prefix.{first_past, node_first_past, trees_first_past, members_first_past}
 use Rattle.json_spelling.specs.Value.{Value, Values, no_values, and_value, Fields, no_fields, and_field, depth}
 use Rattle.json_spelling.specs.Value.{values_depth, fields_depth}
+use Rattle.json_spelling.specs.Spelling.{quoted, spell}
 use Rattle.json_spelling.specs.Placed.{placed_node, placed_at, placed_values, placed_fields, value_of, node_value}
 use Rattle.json_spelling.specs.Placed.{tree_values, member_fields}
 
@@ -21,13 +20,14 @@ mutual
 
   values_are_shallow : (n k : ℕ) (vs : Values) → values_depth vs ≤ n → trees_first_past n (placed_values k vs) ≡ None
   values_are_shallow n k no_values h = refl
-  values_are_shallow n k (and_value v vs) h = rw (node_is_shallow n k v (omega arith))
-      (values_are_shallow n _ vs (omega arith))
+  values_are_shallow n k (and_value v vs) h = rw (node_is_shallow n k k v (omega arith))
+      (values_are_shallow n (suc (k + length (spell v))) vs (omega arith))
 
   fields_are_shallow : (n k : ℕ) (fs : Fields) → fields_depth fs ≤ n → members_first_past n (placed_fields k fs) ≡ None
   fields_are_shallow n k no_fields h = refl
-  fields_are_shallow n k (and_field key v fs) h = rw (node_is_shallow n _ v (omega arith))
-      (fields_are_shallow n _ fs (omega arith))
+  fields_are_shallow n k (and_field key v fs) h =
+      let at = suc (k + length (quoted key)) in rw (node_is_shallow n at at v (omega arith))
+      (fields_are_shallow n (suc (at + length (spell v))) fs (omega arith))
 
 pub tree_is_shallow : (n k : ℕ) (v : Value) → depth v ≤ n → first_past n (placed_at k v) ≡ None
 tree_is_shallow n k v h = node_is_shallow n k k v h
@@ -43,13 +43,17 @@ mutual
 
   tree_values-placed_values : (k : ℕ) (vs : Values) → tree_values (placed_values k vs) ≡ vs
   tree_values-placed_values k no_values = refl
-  tree_values-placed_values k (and_value v vs) = ap (λ w. and_value w (tree_values (placed_values _ vs)))
-      (node_value-placed_node k v) ∙ ap (and_value v) (tree_values-placed_values _ vs)
+  tree_values-placed_values k (and_value v vs) =
+      let next = suc (k + length (spell v)) in
+      ap (λ w. and_value w (tree_values (placed_values next vs))) (node_value-placed_node k v)
+      ∙ ap (and_value v) (tree_values-placed_values next vs)
 
   member_fields-placed_fields : (k : ℕ) (fs : Fields) → member_fields (placed_fields k fs) ≡ fs
   member_fields-placed_fields k no_fields = refl
-  member_fields-placed_fields k (and_field key v fs) = ap (λ w. and_field key w (member_fields (placed_fields _ fs)))
-      (node_value-placed_node _ v) ∙ ap (and_field key v) (member_fields-placed_fields _ fs)
+  member_fields-placed_fields k (and_field key v fs) =
+      let at = suc (k + length (quoted key)) in let next = suc (at + length (spell v)) in
+      ap (λ w. and_field key w (member_fields (placed_fields next fs))) (node_value-placed_node at v)
+      ∙ ap (and_field key v) (member_fields-placed_fields next fs)
 
 pub value_of-placed_at : (k : ℕ) (v : Value) → value_of (placed_at k v) ≡ v
 value_of-placed_at k v = node_value-placed_node k v

@@ -1,5 +1,5 @@
 -- The text of a value is read as the value's tree.
-use Rattle.std.proofs.Common.{◌≡◌, ℕ, suc, ◌+◌, List, [], ◌∷◌, ◌++◌, length, true, false, refl, sym, ◌∙◌, ap, subst}
+use Rattle.std.proofs.Common.{◌≡◌, ℕ, suc, ◌+◌, List, [], ◌∷◌, ◌++◌, length, true, false, sym, ◌∙◌, ap, subst}
 use Rattle.std.proofs.Common.{add-zero, append-nil, append_assoc, length-append, arith}
 use Rattle.json_grammar.specs.Tree.{Tree, tree, Node}
 use Rattle.json_grammar.specs.Grammar.{AreBlanks, IsString, IsValue, value, IsNode, IsElement, element, IsMoreTrees}
