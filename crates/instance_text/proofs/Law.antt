@@ -46,14 +46,10 @@ none_past (n ∷ ns) (suc limit) w h = none_past ns limit w (omega arith)
 
 module _ (limits : Limits) (style : Style) (inst : Tables) (fits : IsFitting inst) (within : IsWithin limits inst)
     (spells : SpellsNumbers style inst) (texts : HasSpellableNames inst) where
-  root : Tree
-  root = placed_at 0 (instance_value style inst)
-
   fine : IsFine limits 6 spot.Root (instance_value style inst)
   fine = instance_fine limits style inst fits within spells texts
 
-  pub shape_clear : shape_faults limits root ≡ []
-  unfolding root
+  pub shape_clear : shape_faults limits (placed_at 0 (instance_value style inst)) ≡ []
   shape_clear =
       let all = placed spot.Root (placed_at 0 (instance_value style inst)) in
       let risks : length (numbers_at is_risk all) ≡ length inst.risks =
@@ -79,4 +75,58 @@ same_tables : (a b : Tables) → a.periods ≡ b.periods → a.alpha ≡ b.alpha
     → a.season_names ≡ b.season_names → a.in_season ≡ b.in_season → a.names ≡ b.names → a.delta ≡ b.delta
     → a.exclusion_names ≡ b.exclusion_names → a.excluded ≡ b.excluded → a.loads ≡ b.loads → a.risks ≡ b.risks
     → a.soft ≡ b.soft → a.rounded ≡ b.rounded → a ≡ b
-same_tables a b p al q s rn u l sn se n d en e lo r so ro = ?
+same_tables a b p al q s rn u l sn se n d en e lo r so ro = λ i. record {
+  periods = p i;
+  alpha = al i;
+  quantile = q i;
+  scenarios = s i;
+  resource_names = rn i;
+  upper = u i;
+  lower = l i;
+  season_names = sn i;
+  in_season = se i;
+  names = n i;
+  delta = d i;
+  exclusion_names = en i;
+  excluded = e i;
+  loads = lo i;
+  risks = r i;
+  soft = so i;
+  rounded = ro i;
+}
+
+-- the text of the value is that of the tables
+pub defined : (style : Style) (limits : Limits) (slack : ℤ) (inst : Tables) → ((v : Value) → IsSpellable v
+    → IsText (spell v) (placed_at 0 v)) → ((v : Value) → IsSpellable v → first_past 16 (placed_at 0 v) ≡ None)
+    → IsFitting inst → IsUnrounded inst → IsWithin limits inst → SpellsNumbers style inst → HasSpellableNames inst
+    → Defines limits slack (instance_text style inst) (widened slack inst)
+defined style limits slack inst text shallow fits exact within spells texts =
+    let v = instance_value style inst in
+    let root = placed_at 0 v in
+    let here : IsAt v root = placed_is_at 0 v in
+    let good = spellable limits style inst fits within spells texts in
+    let fine : IsFine limits 6 spot.Root v = instance_fine limits style inst fits within spells texts in
+    record {
+      root = root;
+      text = record { text = text v good; shallow = shallow v good };
+      shaped = shape_clear limits style inst fits within spells texts;
+      fitting = cross_clear limits style inst fits within spells texts root here;
+      tables = sym (same_tables (tables slack root) (widened slack inst)
+          (periods_are limits style inst fits within spells texts root here)
+          (alpha_is limits style inst fits within spells texts root here)
+          (quantile_is limits style inst fits within spells texts root here)
+          (scenarios_are limits style inst fits within spells texts root here)
+          (resource_names_are limits style inst fits within spells texts root here)
+          (upper_are limits style inst fits within spells texts root here slack)
+          (lower_are limits style inst fits within spells texts root here slack)
+          (season_names_are limits style inst fits within spells texts root here)
+          (in_season_are limits style inst fits within spells texts root here)
+          (names_are limits style inst fits within spells texts root here)
+          (delta_is limits style inst fits within spells texts root here)
+          (exclusion_names_are limits style inst fits within spells texts root here)
+          (excluded_are limits style inst fits within spells texts root here)
+          (loads_are limits style inst fits within spells texts root here)
+          (risks_table limits style inst fits within spells texts root here)
+          (soft_table limits style inst fits within spells texts root here exact.soft)
+          ((fine.clear 0).exact ∙ sym exact.rounded));
+    }

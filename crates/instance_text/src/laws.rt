@@ -10,6 +10,8 @@ ghost use Rattle.instance_text.specs.Conditions.{SpellsPart, widened};
 ghost use Rattle.instance_text.specs.Styles.{Style, decimals};
 ghost use Rattle.instance_text.specs.Written.{instance_text};
 
+use json_spelling::spelled_is_read;
+
 /// The text of an instance without rounded numbers and within the limits is read as that instance, for each style that
 /// spells its numbers. What is read has its bands widened by the slack that it is read with.
 pub fn texts_are_read()
@@ -20,7 +22,9 @@ pub fn texts_are_read()
         → SpellsNumbers style inst
         → HasSpellableNames inst
         → Defines limits slack (instance_text style inst) (widened slack inst) }
-{}
+{
+    spelled_is_read();
+}
 
 /// 12 decimals spell each count below 10^20 in absolute value, and 6 decimals each number of millionths up to 1.
 pub fn counts_have_decimals()
