@@ -1,18 +1,18 @@
 -- The load cells of an intervention, by start, period of the run and resource.
 use Rattle.std.proofs.Common.{◌≡◌, ℕ, suc, ◌+◌, ◌-◌, ◌<◌, ◌≤◌, Bool, true, false, cond, ◌&&◌, List, [], ◌∷◌, length, get_or}
-use Rattle.std.proofs.Common.{Option, Some, None, refl, sym, ◌∙◌, ap, subst, arith, ℤ, inl, inr, IsTrue, find}
-use Rattle.std.specs.Prelude.{All, AllPairs, ◌==◌, ◌⊎◌, slice_index, slice_index_or}
+use Rattle.std.proofs.Common.{Option, Some, None, refl, sym, ◌∙◌, ap, subst, arith, IsTrue, find}
+use Rattle.std.specs.Prelude.{All, AllPairs, ◌==◌}
 use Rattle.std.specs.List.{filter}
-use Rattle.std.proofs.lemmas.Bool.{and_parts, eqb-true, eq-eqb, ne_eqb, cases_order}
+use Rattle.std.proofs.lemmas.Bool.{eqb-true, ne_eqb}
 use Rattle.std.proofs.lemmas.Bool.Decides.{nat_tests}
-use Rattle.std.proofs.lemmas.List.Elements.{All-nil, All-cons, All-head, All-tail, All-weaker, All-filter, filter_passes}
+use Rattle.std.proofs.lemmas.List.Elements.{All-weaker, All-filter, filter_passes}
 use Rattle.std.proofs.lemmas.List.Kept.{AllPairs-filter}
 use Rattle.instance_model.specs.declared.parts.LoadCell.{LoadCell}
 use Rattle.instance_model.specs.Fitting.{CellBefore, KeyBefore, AreCells}
-use Rattle.instance_model.specs.Tables.{Tables, allowed_of, is_allowed, in_run, is_cell_of, durations, tmax, delta_of}
+use Rattle.instance_model.specs.Tables.{Tables, is_allowed, in_run, is_cell_of, tmax, delta_of}
 use Rattle.instance_model.proofs.EntryLemmas.{IsRunning, IsRunning-from}
 use Rattle.instance_shape.specs.FileTables.{lists_below}
-use Rattle.instance_text.proofs.Listed.{lists_below_same, filter_none, filter_same, filter_twice, by_tests, no_lists}
+use Rattle.instance_text.proofs.Listed.{lists_below_same, filter_none, filter_twice, by_tests}
 
 -- ---- one key
 

@@ -1,18 +1,16 @@
 -- The value of an instance has as many numbers under risk as the instance has
 -- risks, and as many under workload as it has load cells.
-use Rattle.std.proofs.Common.{◌≡◌, ◌≢◌, ℕ, zero, suc, ◌+◌, ◌-◌, ◌<◌, ◌≤◌, Bool, true, false, cond, ◌&&◌, List, [], ◌∷◌}
-use Rattle.std.proofs.Common.{map, length, get_or, Option, Some, None, refl, sym, ◌∙◌, ap, subst, arith, ℤ, find, option_map, inl, inr}
-use Rattle.std.specs.Prelude.{All, AllPairs, slice_index_or, ◌==◌, ◌⊎◌, nat_le, nat_lt}
+use Rattle.std.proofs.Common.{◌≡◌, ℕ, ◌+◌, ◌-◌, ◌<◌, ◌≤◌, Bool, true, false, cond, ◌&&◌, [], ◌∷◌}
+use Rattle.std.proofs.Common.{length, Option, Some, None, refl, sym, ◌∙◌, ap, arith, find, option_map, inl, inr}
+use Rattle.std.specs.Prelude.{slice_index_or, ◌==◌, ◌⊎◌, nat_le, nat_lt}
 use Rattle.std.specs.List.{filter}
-use Rattle.std.proofs.lemmas.Bool.{eqb-true, and_from, le-leb, lt-leb, lt-ltb, le-ltb}
-use Rattle.std.proofs.lemmas.Bool.Decides.{nat_tests}
-use Rattle.std.proofs.lemmas.List.Elements.{All-filter, All-weaker, filter_passes}
-use Rattle.std.proofs.lemmas.List.Kept.{AllPairs-filter}
-use Rattle.json_spelling.specs.Value.{Value, Field, fields_of}
+use Rattle.std.proofs.lemmas.Bool.{and_from, le-leb, lt-leb, lt-ltb, le-ltb}
+use Rattle.std.proofs.lemmas.List.Elements.{All-weaker}
+use Rattle.json_spelling.specs.Value.{Value}
 use Rattle.fixed_num.specs.Sums.{list_of}
 use Rattle.fixed_num.proofs.SumLemmas.{length-list_of}
 use Rattle.instance_model.specs.declared.parts.LoadCell.{LoadCell}
-use Rattle.instance_model.specs.Fitting.{IsFitting, CellBefore, AreCells}
+use Rattle.instance_model.specs.Fitting.{IsFitting}
 use Rattle.instance_model.specs.Naturals.{count_sum}
 use Rattle.instance_model.specs.Tables.{Tables, scenarios_of, durations, tmax, is_allowed, in_run, risk_of, is_cell_of}
 use Rattle.instance_model.specs.Tables.{delta_of, entries_at, entries_of, all_entries, scenarios_before}
@@ -22,7 +20,6 @@ use Rattle.instance_shape.specs.declared.fault.Known.TheVariants as known
 use Rattle.instance_shape.specs.declared.spot.Spot.{Spot}
 use Rattle.instance_shape.specs.declared.spot.Spot.TheVariants as spot
 use Rattle.instance_shape.specs.ShapeFaults.{is_risk, is_workload}
-use Rattle.instance_shape.specs.FileTables.{lists_below}
 use Rattle.instance_shape.proofs.CountSums.{count_sum_swap, count_sum-zeros, column_grows}
 use Rattle.instance_shape.proofs.ListsBelow.{length-lists_below}
 use Rattle.instance_text.specs.Styles.{Style}
@@ -30,8 +27,7 @@ use Rattle.instance_text.specs.Written.{object_of, under, filled, numbered, name
 use Rattle.instance_text.specs.Written.{count_list, resource_value, season_value, exclusion_value, load_value, workload_of}
 use Rattle.instance_text.specs.Written.{workload_value, risks_of, risk_value, intervention_value, instance_value}
 use Rattle.instance_text.proofs.Cells.{one_cell, is_at, found_cell, period_cells, by_start, cells_run, start_cells, IsDuring}
-use Rattle.instance_text.proofs.Listed.{lists_below_same, filter_twice, by_tests}
-use Rattle.instance_text.proofs.Numbers.{value_numbers, list_numbers, field_numbers, option_numbers, fields_count}
+use Rattle.instance_text.proofs.Numbers.{value_numbers, option_numbers, fields_count}
 use Rattle.instance_text.proofs.Numbers.{filled_count, tokens_count, no_risk_numbers, no_workload_numbers}
 use Rattle.instance_text.proofs.Tabled.{Grows, grown}
 

@@ -1,21 +1,21 @@
 -- The tree of an instance's value has no fault across the file.
-use Rattle.std.proofs.Common.{◌≡◌, ◌≢◌, ℕ, zero, suc, ◌+◌, ◌-◌, ◌<◌, ◌≤◌, Bool, true, false, cond, ◌&&◌, List, [], ◌∷◌}
-use Rattle.std.proofs.Common.{map, length, get_or, Option, Some, None, refl, sym, ◌∙◌, ap, subst, arith, ℤ, position, is_some}
-use Rattle.std.proofs.Common.{bytes_eq, option_map}
-use Rattle.std.specs.Prelude.{All, slice_index, slice_index_or, ◌==◌, nat_le, nat_lt}
+use Rattle.std.proofs.Common.{◌≡◌, ℕ, zero, suc, ◌+◌, ◌-◌, ◌<◌, Bool, true, false, cond, List, [], ◌∷◌}
+use Rattle.std.proofs.Common.{map, length, get_or, Option, Some, None, refl, sym, ◌∙◌, ap, subst, arith, ℤ}
+use Rattle.std.proofs.Common.{option_map}
+use Rattle.std.specs.Prelude.{All, slice_index, slice_index_or, ◌==◌}
 use Rattle.std.specs.List.{AllZip}
 use Rattle.std.proofs.lemmas.Bool.{eq-eqb, le-leb, and_from}
 use Rattle.std.proofs.lemmas.List.{length-map}
-use Rattle.std.proofs.lemmas.List.Elements.{All-nil, All-cons, All-head, All-tail, All-map, All-from_get_or}
+use Rattle.std.proofs.lemmas.List.Elements.{All-head, All-tail, All-map, All-from_get_or}
 use Rattle.json_grammar.specs.Tree.{Tree, tree, Node}
 use Rattle.json_spelling.specs.Value.{Value, values_of, Field, field}
 use Rattle.fixed_num.specs.Sums.{list_of}
 use Rattle.fixed_num.proofs.SumLemmas.{length-list_of}
 use Rattle.instance_model.specs.declared.limits.Limits.{Limits}
 use Rattle.instance_model.specs.declared.parts.Exclusion.{Exclusion}
-use Rattle.instance_model.specs.Fitting.{IsFitting, AreNames}
+use Rattle.instance_model.specs.Fitting.{IsFitting}
 use Rattle.instance_model.specs.Rules.{or_else, first_of}
-use Rattle.instance_model.specs.Tables.{Tables, scenarios_of, durations, tmax, is_allowed, in_run, delta_of, allowed_of}
+use Rattle.instance_model.specs.Tables.{Tables, scenarios_of, durations, is_allowed, delta_of, allowed_of}
 use Rattle.instance_model.specs.Tables.{upper_of, lower_of, risk_of, exclusion_of}
 use Rattle.instance_model.proofs.FirstLemmas.{first_of-all_none}
 use Rattle.instance_model.proofs.FitLemmas.{tmax_small}

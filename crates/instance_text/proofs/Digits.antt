@@ -1,11 +1,11 @@
 -- The keys of periods and starts: digits, and the number that they write.
-use Rattle.std.proofs.Common.{◌≡◌, ℕ, zero, suc, ◌+◌, ◌-◌, ◌*◌, ◌^◌, ◌<◌, ◌≤◌, Bool, true, false, ◌&&◌, List, [], ◌∷◌}
-use Rattle.std.proofs.Common.{length, refl, sym, ◌∙◌, ap, arith, decimal}
+use Rattle.std.proofs.Common.{◌≡◌, ℕ, ◌+◌, ◌-◌, ◌*◌, ◌<◌, true, List, [], ◌∷◌}
+use Rattle.std.proofs.Common.{length, refl, ◌∙◌, arith, decimal}
 use Rattle.std.specs.Prelude.{nat_le}
 use Rattle.std.proofs.lemmas.Bool.{le-leb}
 use Rattle.std.proofs.lemmas.Bool.Decides.{nat_tests}
 use Rattle.std.proofs.lemmas.Fmt.{length-decimal-le, decimal_nonempty}
-use Rattle.json_grammar.specs.Grammar.{IsDigit, AreDigits}
+use Rattle.json_grammar.specs.Grammar.{AreDigits}
 use Rattle.decimal_numbers.specs.Decimal.{number}
 use Rattle.decimal_numbers.specs.Decimal as decimals
 use Rattle.instance_shape.specs.Keys.{all_bytes, is_digit, is_digits, number_from, number_of}

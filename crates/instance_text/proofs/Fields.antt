@@ -1,34 +1,28 @@
 -- The tables of the tree of an instance's value are those of the instance: field by field.
-use Rattle.std.proofs.Common.{◌≡◌, ◌≢◌, ℕ, suc, ◌+◌, ◌-◌, ◌*◌, ◌<◌, ◌≤◌, Bool, true, false, cond, ◌&&◌, List, [], ◌∷◌}
-use Rattle.std.proofs.Common.{map, length, get_or, take, drop, Option, Some, None, refl, sym, ◌∙◌, ap, subst, arith, ℤ, pos}
-use Rattle.std.proofs.Common.{find, bytes_eq, position, is_some, ◌+ℤ◌, ◌-ℤ◌}
-use Rattle.std.specs.Prelude.{All, AllPairs, slice_index, slice_index_or, ◌==◌}
+use Rattle.std.proofs.Common.{◌≡◌, ℕ, ◌+◌, ◌-◌, ◌*◌, ◌<◌, true, false, List, [], ◌∷◌}
+use Rattle.std.proofs.Common.{map, length, get_or, take, drop, Some, refl, sym, ◌∙◌, ap, subst, arith, ℤ, pos}
+use Rattle.std.proofs.Common.{find, position, is_some, ◌+ℤ◌, ◌-ℤ◌}
+use Rattle.std.specs.Prelude.{All, slice_index_or, ◌==◌}
 use Rattle.std.specs.List.{AllZip}
 use Rattle.std.proofs.lemmas.List.{get_or-map}
-use Rattle.std.proofs.lemmas.List.Elements.{All-get_or, All-weaker}
 use Rattle.json_grammar.specs.Tree.{Tree, tree, Node}
 use Rattle.json_spelling.specs.Value.{Value, values_of, Field, field}
 use Rattle.fixed_num.specs.Sums.{list_of}
 use Rattle.instance_model.specs.declared.limits.Limits.{Limits}
 use Rattle.instance_model.specs.declared.parts.Exclusion.{Exclusion}
-use Rattle.instance_model.specs.declared.parts.LoadCell.{LoadCell}
-use Rattle.instance_model.specs.Fitting.{IsFitting, AreNames}
-use Rattle.instance_model.specs.Tables.{Tables, scenarios_of, durations, tmax, is_allowed, in_run, risk_of, is_cell_of}
-use Rattle.instance_model.specs.Tables.{upper_of, lower_of, in_season_of, exclusion_of, delta_of, soft_of, entry_place}
+use Rattle.instance_model.specs.Fitting.{IsFitting}
+use Rattle.instance_model.specs.Tables.{Tables, scenarios_of, durations, is_allowed, in_run, risk_of, is_cell_of}
+use Rattle.instance_model.specs.Tables.{upper_of, lower_of, in_season_of, exclusion_of, entry_place}
 use Rattle.instance_model.specs.Tables.{scenarios_before, periods_before, risk_place}
-use Rattle.instance_model.proofs.EntryLemmas.{IsRunning, IsRunning-from, entry_place_below, scenarios_before_rises}
+use Rattle.instance_model.proofs.EntryLemmas.{IsRunning-from, entry_place_below, scenarios_before_rises}
 use Rattle.instance_model.proofs.EntryLemmas.{scenarios_before_more, periods_before_rises, periods_before_more}
-use Rattle.instance_shape.specs.declared.fault.Known.{Known}
 use Rattle.instance_shape.specs.declared.fault.Known.TheVariants as is
-use Rattle.instance_shape.specs.declared.spot.Spot.TheVariants as spot
-use Rattle.instance_shape.specs.Keys.{text_of}
-use Rattle.instance_shape.specs.Shape.{placed}
 use Rattle.instance_shape.specs.LookUp as file
 use Rattle.instance_shape.specs.LookUp.{Entry, known, entries, keys, elements, whole_at, count_at, text_at, part_at}
 use Rattle.instance_shape.specs.LookUp.{workload}
 use Rattle.instance_shape.specs.FileTables.{lists_below, all_below, each_run, cell_of, cells_at, risks_at, soft_at, word}
 use Rattle.instance_shape.specs.FileTables.{exclusion, number_among, in_season}
-use Rattle.instance_text.specs.Conditions.{SpellsCount, SpellsNumbers, HasSpellableNames, IsWithin, IsUnrounded}
+use Rattle.instance_text.specs.Conditions.{SpellsNumbers, HasSpellableNames, IsWithin}
 use Rattle.instance_text.specs.Styles.{Style}
 use Rattle.instance_text.specs.Written.{object_of, under, named, whole_number, whole_list, count_list, resource_value}
 use Rattle.instance_text.specs.Written.{season_periods, season_value, exclusion_words, exclusion_value}

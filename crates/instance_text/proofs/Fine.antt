@@ -1,33 +1,28 @@
 -- Values that are spelled, are shallow, and have no fault of shape and no rounded number
 -- at a spot: numbers, texts, lists and objects, each by what is in it.
-use Rattle.std.proofs.Common.{◌≡◌, ◌≢◌, ℕ, zero, suc, ◌+◌, ◌<◌, ◌≤◌, Bool, true, false, cond, not, ◌&&◌, ◌||◌, max}
-use Rattle.std.proofs.Common.{List, [], ◌∷◌, ◌++◌, length, get_or, Option, Some, None, refl, sym, ◌∙◌, ap, subst, arith}
-use Rattle.std.proofs.Common.{pred, length-append, ℤ, option_map, unwrap_or}
-use Rattle.std.specs.Prelude.{All, AllPairs, ◌==◌, is_none, ◌⊎◌}
-use Rattle.std.proofs.lemmas.Bool.Decides.{nat_tests}
-use Rattle.std.proofs.lemmas.List.Elements.{All-nil, All-cons, All-head, All-tail, All-weaker}
+use Rattle.std.proofs.Common.{◌≡◌, ℕ, suc, ◌+◌, ◌<◌, ◌≤◌, Bool, true, false, cond, not, ◌&&◌, ◌||◌}
+use Rattle.std.proofs.Common.{List, [], ◌∷◌, ◌++◌, length, get_or, refl, sym, ◌∙◌, ap, subst, arith}
+use Rattle.std.proofs.Common.{length-append}
+use Rattle.std.specs.Prelude.{All, AllPairs}
+use Rattle.std.proofs.lemmas.List.Elements.{All-head, All-tail}
 use Rattle.json_grammar.specs.Grammar.{IsNumber}
-use Rattle.json_grammar.specs.Tree.{Tree, tree, Node, Trees, no_trees, and_tree, Members, no_members, and_member}
-use Rattle.json_spelling.specs.Value.{Value, Values, values_of, Field, field, fields_of, depth, values_depth, fields_depth}
+use Rattle.json_grammar.specs.Tree.{Tree, tree, Node, Members}
+use Rattle.json_spelling.specs.Value.{Value, values_of, Field, fields_of, depth, values_depth, fields_depth}
 use Rattle.json_spelling.specs.Spellable.{IsSpellableText, IsSound, AreSound, AreSoundFields}
 use Rattle.json_spelling.specs.Spelling.{spell, quoted}
 use Rattle.json_spelling.specs.Placed.{placed_at, placed_values, placed_fields}
-use Rattle.decimal_numbers.specs.Exact.{fixed}
 use Rattle.instance_model.specs.declared.limits.Limits.{Limits}
-use Rattle.instance_shape.specs.declared.fault.Fault.{Fault}
 use Rattle.instance_shape.specs.declared.fault.Flaw.{Flaw}
 use Rattle.instance_shape.specs.declared.fault.Flaw.TheVariants as flaw
-use Rattle.instance_shape.specs.declared.fault.Which.{Which}
 use Rattle.instance_shape.specs.declared.spot.Spot.{Spot}
-use Rattle.instance_shape.specs.declared.spot.Kind.{Kind}
-use Rattle.instance_shape.specs.Keys.{Key, by_text, by_number, key_of, same_key, has_key, is_double, is_name, is_digits}
-use Rattle.instance_shape.specs.Shape.{Placed, placed, placed_node, placed_elements, placed_members, kind_of, element}
+use Rattle.instance_shape.specs.Keys.{Key, key_of, same_key, has_key, is_double, is_name, is_digits}
+use Rattle.instance_shape.specs.Shape.{Placed, placed, placed_elements, placed_members, kind_of, element}
 use Rattle.instance_shape.specs.Shape.{under}
-use Rattle.instance_shape.specs.ShapeFaults.{where_so, takes_names, takes_numbers, key_limit, first_past, key_faults}
+use Rattle.instance_shape.specs.ShapeFaults.{where_so, takes_names, takes_numbers, key_limit, first_past}
 use Rattle.instance_shape.specs.ShapeFaults.{keys_faults, own_faults, inside_faults, tree_faults, values_faults}
 use Rattle.instance_shape.specs.LookUp.{differs_at}
 use Rattle.instance_shape.specs.FileTables.{is_count, rounded}
-use Rattle.instance_shape.proofs.Clear.{IsClear, values_faults-append, clear_both}
+use Rattle.instance_shape.proofs.Clear.{values_faults-append, clear_both}
 use Rattle.instance_text.specs.Written.{object_of}
 
 -- ---- faults that aren't there

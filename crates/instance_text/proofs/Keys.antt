@@ -1,14 +1,14 @@
 -- Objects of periods or starts, and objects of names, have no fault at their keys.
-use Rattle.std.proofs.Common.{◌≡◌, ◌≢◌, ℕ, zero, suc, ◌+◌, ◌<◌, ◌≤◌, ◌^◌, Bool, true, false, cond, not, ◌&&◌, List, []}
-use Rattle.std.proofs.Common.{◌∷◌, ◌++◌, length, get_or, map, Option, Some, None, refl, sym, ◌∙◌, ap, subst, arith, bytes_eq}
+use Rattle.std.proofs.Common.{◌≡◌, ◌≢◌, ℕ, zero, suc, ◌+◌, ◌<◌, ◌≤◌, Bool, true, false, cond, not, ◌&&◌, List, []}
+use Rattle.std.proofs.Common.{◌∷◌, length, Option, Some, None, refl, sym, ◌∙◌, subst, arith}
 use Rattle.std.proofs.Common.{decimal, length-append}
-use Rattle.std.specs.Prelude.{All, AllPairs, ◌==◌, nat_le, nat_lt, slice_index_or}
-use Rattle.std.proofs.lemmas.Bool.{ltb-true, lt-ltb, le-leb, and_parts, cond-true, ne_eqb, false_from_ne_true}
+use Rattle.std.specs.Prelude.{All, AllPairs, nat_le, nat_lt, slice_index_or}
+use Rattle.std.proofs.lemmas.Bool.{ltb-true, lt-ltb, le-leb, cond-true, ne_eqb, false_from_ne_true}
 use Rattle.std.proofs.lemmas.Bool.Decides.{nat_tests}
-use Rattle.std.proofs.lemmas.Fmt.{IsAscii-decimal, decimal_is_IsNumeral}
+use Rattle.std.proofs.lemmas.Fmt.{IsAscii-decimal}
 use Rattle.std.proofs.lemmas.Slice.Eq.{bytes_eq-Decides}
 use Rattle.std.proofs.lemmas.Str.{IsUtf8-from_ascii}
-use Rattle.std.proofs.lemmas.List.Elements.{All-nil, All-cons, All-head, All-tail, All-weaker, All-get_or}
+use Rattle.std.proofs.lemmas.List.Elements.{All-nil, All-cons, All-head, All-tail, All-get_or}
 use Rattle.json_grammar.specs.Grammar.{AreDigits}
 use Rattle.json_grammar.specs.Tree.{Node, Members}
 use Rattle.json_spelling.specs.Value.{Value, Field, field, fields_of}
@@ -16,20 +16,18 @@ use Rattle.json_spelling.specs.Spellable.{IsSpellableText}
 use Rattle.json_spelling.specs.Placed.{placed_fields}
 use Rattle.instance_model.specs.declared.limits.Limits.{Limits}
 use Rattle.instance_model.specs.Fitting.{IsName, AreNames}
-use Rattle.instance_shape.specs.declared.fault.Known.{Known}
-use Rattle.instance_shape.specs.declared.fault.Which.{Which}
 use Rattle.instance_shape.specs.declared.spot.Spot.{Spot}
 use Rattle.instance_shape.specs.Keys.{Key, by_text, by_number, key_of, same_key, is_name, is_digits, number_of, all_bytes}
 use Rattle.instance_shape.specs.Keys.{is_printed}
 use Rattle.instance_shape.specs.Shape.{kind_of, required, under}
-use Rattle.instance_shape.specs.ShapeFaults.{where_so, takes_names, takes_numbers, key_limit, first_past, missing}
+use Rattle.instance_shape.specs.ShapeFaults.{takes_names, takes_numbers, key_limit, first_past, missing}
 use Rattle.instance_shape.specs.ShapeFaults.{keys_faults, keys_of, own_faults, inside_faults}
 use Rattle.instance_shape.specs.FileTables.{lists_below, is_count}
 use Rattle.instance_shape.proofs.Clear.{clear_both}
 use Rattle.instance_shape.proofs.ListsBelow.{all_lists, all_cond, pairs_cond, pairs_lists}
 use Rattle.instance_text.specs.Written.{object_of, optional, filled, numbered, named}
 use Rattle.instance_text.proofs.Digits.{digits_are, number_is}
-use Rattle.instance_text.proofs.Fine.{IsFine, IsFineField, IsGoodKey, keys_clear, no_fault, object_fine}
+use Rattle.instance_text.proofs.Fine.{IsFine, IsFineField, IsGoodKey, keys_clear, object_fine}
 use Rattle.instance_text.proofs.Listed.{lists_below_same}
 use Rattle.instance_text.proofs.Tokens.{decimal_is, digits_of_int}
 

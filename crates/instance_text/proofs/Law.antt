@@ -1,8 +1,7 @@
 -- The text of an instance is read as that instance.
-use Rattle.std.proofs.Common.{◌≡◌, ℕ, suc, ◌≤◌, List, [], ◌∷◌, ◌++◌, map, length, Option, Some, None, refl, sym, ◌∙◌, ap}
-use Rattle.std.proofs.Common.{subst, arith, ℤ, ◌+ℤ◌, ◌-ℤ◌, Bool}
-use Rattle.std.specs.Prelude.{All, slice_get}
-use Rattle.json_grammar.specs.Tree.{Tree}
+use Rattle.std.proofs.Common.{◌≡◌, ℕ, suc, ◌≤◌, List, [], ◌∷◌, ◌++◌, length, None, refl, sym, ◌∙◌}
+use Rattle.std.proofs.Common.{arith, ℤ}
+use Rattle.std.specs.Prelude.{slice_get}
 use Rattle.json_grammar.specs.Grammar.{IsText}
 use Rattle.json_grammar.specs.Prefix.{first_past}
 use Rattle.json_spelling.specs.Value.{Value}
@@ -10,17 +9,13 @@ use Rattle.json_spelling.specs.Spelling.{spell}
 use Rattle.json_spelling.specs.Spellable.{IsSpellable}
 use Rattle.json_spelling.specs.Placed.{placed_at}
 use Rattle.instance_model.specs.declared.limits.Limits.{Limits}
-use Rattle.instance_model.specs.declared.parts.Exclusion.{Exclusion}
-use Rattle.instance_model.specs.declared.parts.LoadCell.{LoadCell}
 use Rattle.instance_model.specs.Fitting.{IsFitting}
 use Rattle.instance_model.specs.Tables.{Tables}
-use Rattle.instance_shape.specs.declared.fault.Fault.{Fault}
 use Rattle.instance_shape.specs.declared.fault.Which.{Which}
 use Rattle.instance_shape.specs.declared.fault.Which.TheVariants as which
-use Rattle.instance_shape.specs.declared.spot.Spot.{Spot}
 use Rattle.instance_shape.specs.declared.spot.Spot.TheVariants as spot
-use Rattle.instance_shape.specs.Defined.{IsTreeOf, Defines}
-use Rattle.instance_shape.specs.FileTables.{tables, rounded}
+use Rattle.instance_shape.specs.Defined.{Defines}
+use Rattle.instance_shape.specs.FileTables.{tables}
 use Rattle.instance_shape.specs.Shape.{placed}
 use Rattle.instance_shape.specs.ShapeFaults.{shape_faults, values_faults, numbers_at, count_faults, is_risk, is_workload}
 use Rattle.instance_shape.proofs.Clear.{clear_both}

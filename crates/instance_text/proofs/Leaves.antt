@@ -1,17 +1,15 @@
 -- The numbers and names of an instance are fine where they stand: counts, whole numbers, millionths and words.
-use Rattle.std.proofs.Common.{◌≡◌, ℕ, suc, ◌<◌, ◌≤◌, Bool, true, false, not, ◌&&◌, ◌++◌, List, [], ◌∷◌, map, length}
-use Rattle.std.proofs.Common.{Option, Some, None, refl, sym, ◌∙◌, ap, arith, ℤ, unwrap_or, option_map, is_some}
+use Rattle.std.proofs.Common.{◌≡◌, ℕ, suc, ◌<◌, ◌≤◌, Bool, true, false, not, ◌&&◌, ◌++◌, List, [], map}
+use Rattle.std.proofs.Common.{Option, Some, None, refl, ◌∙◌, ap, arith, ℤ, unwrap_or, option_map, is_some}
 use Rattle.std.specs.Prelude.{All, is_none, nat_le}
 use Rattle.std.proofs.lemmas.Bool.{le-leb}
 use Rattle.std.proofs.lemmas.List.Elements.{All-map, All-weaker}
 use Rattle.json_grammar.specs.Tree.{tree, Node, Trees}
-use Rattle.json_spelling.specs.Value.{Value, values_of}
+use Rattle.json_spelling.specs.Value.{Value}
 use Rattle.json_spelling.specs.Spellable.{IsSpellableText}
-use Rattle.json_spelling.specs.Placed.{placed_values}
 use Rattle.decimal_numbers.specs.Exact.{fixed, whole, millionths}
 use Rattle.instance_model.specs.declared.limits.Limits.{Limits}
 use Rattle.instance_model.specs.Fitting.{IsName}
-use Rattle.instance_shape.specs.declared.fault.Fault.{Fault}
 use Rattle.instance_shape.specs.declared.fault.Flaw.TheVariants as flaw
 use Rattle.instance_shape.specs.declared.fault.Which.{Which}
 use Rattle.instance_shape.specs.declared.fault.Which.TheVariants as which

@@ -1,7 +1,6 @@
 -- What is looked up in the tree of an intervention: its durations, and its workloads and risks by period and start.
-use Rattle.std.proofs.Common.{◌≡◌, ◌≢◌, ℕ, suc, ◌+◌, ◌-◌, ◌<◌, ◌≤◌, Bool, true, false, cond, ◌&&◌, List, [], ◌∷◌, map}
-use Rattle.std.proofs.Common.{length, get_or, take, Option, Some, None, refl, sym, ◌∙◌, ap, subst, arith, ℤ, find, inl, inr}
-use Rattle.std.proofs.Common.{bytes_eq}
+use Rattle.std.proofs.Common.{◌≡◌, ℕ, ◌+◌, ◌<◌, ◌≤◌, Bool, true, false, cond, ◌&&◌, List, [], ◌∷◌, map}
+use Rattle.std.proofs.Common.{length, take, Option, Some, None, refl, sym, ◌∙◌, ap, subst, arith, ℤ, find}
 use Rattle.std.specs.Prelude.{All, slice_index_or, option_map}
 use Rattle.std.proofs.lemmas.Bool.{and_from, cond-true}
 use Rattle.std.proofs.lemmas.List.{take_all, length-map}
@@ -10,20 +9,17 @@ use Rattle.json_spelling.specs.Value.{Value, Field}
 use Rattle.fixed_num.specs.Sums.{list_of}
 use Rattle.instance_model.specs.declared.limits.Limits.{Limits}
 use Rattle.instance_model.specs.declared.parts.LoadCell.{LoadCell}
-use Rattle.instance_model.specs.Fitting.{IsFitting, AreNames}
+use Rattle.instance_model.specs.Fitting.{IsFitting}
 use Rattle.instance_model.specs.Tables.{Tables, scenarios_of, durations, tmax, is_allowed, in_run, risk_of, is_cell_of}
-use Rattle.instance_model.specs.Tables.{delta_of}
-use Rattle.instance_model.proofs.EntryLemmas.{IsRunning, IsRunning-from}
-use Rattle.instance_shape.specs.declared.fault.Known.{Known}
+use Rattle.instance_model.proofs.EntryLemmas.{IsRunning-from}
 use Rattle.instance_shape.specs.declared.fault.Known.TheVariants as is
-use Rattle.instance_shape.specs.Keys.{text_of}
 use Rattle.instance_shape.specs.LookUp as file
 use Rattle.instance_shape.specs.LookUp.{known, keys, elements, whole_at, count_at, at_key, at_number, number_in, risk_list}
 use Rattle.instance_shape.specs.LookUp.{workload}
 use Rattle.instance_shape.specs.FileTables.{cell_of, risks_at, soft_at}
 use Rattle.instance_text.specs.Conditions.{SpellsCount, SpellsNumbers, HasSpellableNames, IsWithin}
 use Rattle.instance_text.specs.Styles.{Style}
-use Rattle.instance_text.specs.Written.{object_of, filled, numbered, named, whole_number, whole_list, count_number}
+use Rattle.instance_text.specs.Written.{filled, numbered, named, whole_number, whole_list, count_number}
 use Rattle.instance_text.specs.Written.{count_list, load_value, workload_of, workload_value, risks_of, risk_value}
 use Rattle.instance_text.specs.Written.{intervention_value}
 use Rattle.instance_text.proofs.Cells.{one_cell, key_of}

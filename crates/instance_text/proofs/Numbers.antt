@@ -1,21 +1,18 @@
 -- How many numbers at some spots a value has in it, wherever its text begins.
-use Rattle.std.proofs.Common.{◌≡◌, ℕ, zero, suc, ◌+◌, ◌*◌, ◌<◌, ◌≤◌, Bool, true, false, cond, List, [], ◌∷◌, ◌++◌, map}
-use Rattle.std.proofs.Common.{length, Option, Some, None, refl, sym, ◌∙◌, ap, subst, arith, length-append, bytes_eq, codes}
-use Rattle.json_grammar.specs.Tree.{Tree, tree, Node}
-use Rattle.json_spelling.specs.Value.{Value, Values, no_values, and_value, values_of, Field, field, Fields, no_fields}
+use Rattle.std.proofs.Common.{◌≡◌, ℕ, zero, suc, ◌+◌, Bool, true, false, cond, List, [], ◌∷◌, ◌++◌, map}
+use Rattle.std.proofs.Common.{length, Option, Some, None, refl, ◌∙◌, ap, arith, bytes_eq, codes}
+use Rattle.json_spelling.specs.Value.{Value, Values, no_values, and_value, values_of, Field, Fields, no_fields}
 use Rattle.json_spelling.specs.Value.{and_field, fields_of}
 use Rattle.json_spelling.specs.Spelling.{spell, quoted}
 use Rattle.json_spelling.specs.Placed.{placed_at, placed_values, placed_fields}
 use Rattle.instance_model.specs.Naturals.{count_sum}
 use Rattle.instance_shape.specs.declared.spot.Spot.{Spot}
 use Rattle.instance_shape.specs.declared.spot.Spot.TheVariants as spot
-use Rattle.instance_shape.specs.Shape.{Placed, placed, placed_elements, placed_members, element, under}
-use Rattle.instance_shape.specs.ShapeFaults.{numbers_at, place_of_number, is_risk, is_workload}
+use Rattle.instance_shape.specs.Shape.{placed, placed_elements, placed_members, element, under}
+use Rattle.instance_shape.specs.ShapeFaults.{numbers_at, is_risk, is_workload}
 use Rattle.instance_shape.specs.FileTables.{lists_below}
-use Rattle.instance_shape.proofs.CountSums.{count_sum-zeros}
 use Rattle.instance_shape.proofs.Weights.{numbers_in, numbers_sum}
-use Rattle.instance_model.proofs.EntryLemmas.{count_sum_same}
-use Rattle.instance_text.specs.Written.{object_of, optional, filled}
+use Rattle.instance_text.specs.Written.{optional, filled}
 
 -- ---- the count
 

@@ -1,28 +1,15 @@
 -- Objects with required keys, and what objects of names and of periods and starts take at the spots of an instance.
-use Rattle.std.proofs.Common.{◌≡◌, ℕ, suc, ◌+◌, ◌-◌, ◌*◌, ◌<◌, ◌≤◌, ◌^◌, Bool, true, false, not, cond, ◌&&◌, List, [], ◌∷◌}
-use Rattle.std.proofs.Common.{map, length, get_or, Option, Some, None, refl, sym, ◌∙◌, ap, subst, arith, ℤ, pos, find}
-use Rattle.std.proofs.Common.{IsTrue}
-use Rattle.std.specs.Prelude.{All, slice_index_or, option_map, codes, nat_lt, nat_le}
-use Rattle.std.proofs.lemmas.Bool.{lt-ltb, ne_eqb, and_parts, leb-true, ltb-true}
-use Rattle.std.proofs.lemmas.List.{nil_from_length}
-use Rattle.std.proofs.lemmas.List.Elements.{All-nil, All-cons, All-head, All-tail, All-weaker, All-get_or}
-use Rattle.std.proofs.lemmas.List.Elements.{All-from_get_or, All-map, All-from_recursion}
+use Rattle.std.proofs.Common.{◌≡◌, ℕ, suc, ◌<◌, ◌≤◌, Bool, true, ◌&&◌, List, [], ◌∷◌}
+use Rattle.std.proofs.Common.{Some, refl, arith}
+use Rattle.std.specs.Prelude.{All, nat_lt, nat_le}
+use Rattle.std.proofs.lemmas.Bool.{ne_eqb, and_parts, leb-true, ltb-true}
+use Rattle.std.proofs.lemmas.List.Elements.{All-nil, All-cons, All-weaker}
+use Rattle.std.proofs.lemmas.List.Elements.{All-from_recursion}
 use Rattle.std.proofs.lemmas.Str.{IsUtf8-from_ascii}
 use Rattle.std.proofs.lemmas.Str.Ascii.{IsAscii-from_all}
-use Rattle.json_grammar.specs.Tree.{Node}
 use Rattle.json_spelling.specs.Value.{Value, Field}
 use Rattle.json_spelling.specs.Spellable.{IsSpellableText}
-use Rattle.fixed_num.specs.Sums.{list_of}
-use Rattle.fixed_num.proofs.SumLemmas.{get_or-list_of, length-list_of}
 use Rattle.instance_model.specs.declared.limits.Limits.{Limits}
-use Rattle.instance_model.specs.declared.parts.Exclusion.{Exclusion}
-use Rattle.instance_model.specs.declared.parts.LoadCell.{LoadCell}
-use Rattle.instance_model.specs.Fitting.{IsFitting, IsName, AreNames}
-use Rattle.instance_model.specs.Limits.{standard_limits}
-use Rattle.instance_model.specs.Tables.{Tables, scenarios_of, durations, tmax, is_allowed, in_run, risk_of, is_cell_of}
-use Rattle.instance_model.specs.Tables.{upper_of, lower_of, in_season_of, exclusion_of, risk_place}
-use Rattle.instance_model.proofs.EntryLemmas.{IsRunning, IsRunning-from}
-use Rattle.instance_model.proofs.FitLemmas.{tmax_small, risk_place_below}
 use Rattle.instance_shape.specs.declared.fault.Known.{Known}
 use Rattle.instance_shape.specs.declared.fault.Known.TheVariants as known
 use Rattle.instance_shape.specs.declared.fault.Flaw.TheVariants as flaw
@@ -33,19 +20,10 @@ use Rattle.instance_shape.specs.declared.spot.Spot.TheVariants as spot
 use Rattle.instance_shape.specs.Keys.{text_of, all_bytes}
 use Rattle.instance_shape.specs.Shape as Shape
 use Rattle.instance_shape.specs.ShapeFaults.{first_past}
-use Rattle.instance_shape.specs.FileTables.{lists_below}
-use Rattle.instance_shape.proofs.ListsBelow.{all_lists, all_cond}
-use Rattle.instance_text.specs.Conditions.{SpellsCount, SpellsNumbers, HasSpellableNames, IsWithin}
-use Rattle.instance_text.specs.Styles.{Style}
-use Rattle.instance_text.specs.Written.{object_of, filled, numbered, named, whole_number, whole_list, count_number}
-use Rattle.instance_text.specs.Written.{count_list, resource_value, season_periods, season_value, exclusion_words}
-use Rattle.instance_text.specs.Written.{exclusion_value, load_value, workload_of, workload_value, risks_of, risk_value}
-use Rattle.instance_text.specs.Written.{intervention_value, instance_value}
+use Rattle.instance_text.specs.Written.{object_of}
 use Rattle.instance_text.specs.Written.{under}
-use Rattle.instance_text.proofs.Fine.{IsFine, IsFineField, deeper_fine, list_fine, object_fine, no_fault}
-use Rattle.instance_text.proofs.Keys.{TakesNumbers, TakesNames, numbered_fine, filled_fine, named_fine}
-use Rattle.instance_text.proofs.Leaves.{max_fine, min_fine, risks_fine, load_fine, season_fine, delta_fine, tmax_fine}
-use Rattle.instance_text.proofs.Leaves.{periods_fine, scenarios_fine, quantile_fine, alpha_fine, word_fine}
+use Rattle.instance_text.proofs.Fine.{IsFine, IsFineField, object_fine, no_fault}
+use Rattle.instance_text.proofs.Keys.{TakesNumbers, TakesNames}
 
 -- ---- required keys
 

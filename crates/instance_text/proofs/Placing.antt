@@ -2,14 +2,14 @@
 -- object, and the value under a key, a period or a start.
 use Rattle.std.proofs.Common.{◌≡◌, ◌≢◌, ℕ, zero, suc, ◌+◌, ◌-◌, ◌<◌, ◌≤◌, Bool, true, false, cond, ◌&&◌, List, [], ◌∷◌}
 use Rattle.std.proofs.Common.{◌++◌, length, get_or, map, Option, Some, None, refl, sym, ◌∙◌, ap, subst, arith, inl, inr}
-use Rattle.std.proofs.Common.{bytes_eq, ◌^◌, unwrap_or}
-use Rattle.std.specs.Prelude.{All, AllPairs, ◌==◌, ◌⊎◌, slice_index_or, decimal}
+use Rattle.std.proofs.Common.{bytes_eq, unwrap_or}
+use Rattle.std.specs.Prelude.{AllPairs, ◌==◌, ◌⊎◌, slice_index_or, decimal}
 use Rattle.std.specs.List.{AllZip}
-use Rattle.std.proofs.lemmas.Bool.{cases_lt, cases_order, and_parts, eq-eqb, ne_eqb, cond-true, cond-false}
+use Rattle.std.proofs.lemmas.Bool.{cases_lt, cases_order, eq-eqb, ne_eqb}
 use Rattle.std.proofs.lemmas.Bool.{false_from_ne_true}
 use Rattle.std.proofs.lemmas.Slice.Eq.{bytes_eq-Decides}
-use Rattle.json_grammar.specs.Tree.{Tree, tree, Node, Trees, no_trees, and_tree, Members, no_members, and_member}
-use Rattle.json_spelling.specs.Value.{Value, values_of, Field, field, fields_of}
+use Rattle.json_grammar.specs.Tree.{Tree, tree, Node}
+use Rattle.json_spelling.specs.Value.{Value, values_of, Field, fields_of}
 use Rattle.json_spelling.specs.Spelling.{spell, quoted}
 use Rattle.json_spelling.specs.Placed.{placed_at, placed_values, placed_fields}
 use Rattle.instance_shape.specs.declared.fault.Known.{Known}

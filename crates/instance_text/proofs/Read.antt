@@ -1,15 +1,13 @@
 -- What the parts of a placed value are read as: whole numbers, counts, millionths and words.
-use Rattle.std.proofs.Common.{◌≡◌, ℕ, zero, suc, ◌+◌, ◌<◌, ◌≤◌, Bool, true, false, List, [], ◌∷◌, ◌++◌, map, length}
-use Rattle.std.proofs.Common.{get_or, Option, Some, None, refl, sym, ◌∙◌, ap, subst, arith, ℤ, unwrap_or, option_map, ◌||◌}
-use Rattle.std.specs.Prelude.{All, slice_index_or}
+use Rattle.std.proofs.Common.{◌≡◌, ℕ, zero, suc, ◌<◌, Bool, false, List, [], ◌∷◌, ◌++◌, map, length}
+use Rattle.std.proofs.Common.{get_or, Option, Some, None, refl, sym, ◌∙◌, ap, subst, arith, ℤ, unwrap_or, option_map}
+use Rattle.std.specs.Prelude.{All}
 use Rattle.std.specs.List.{AllZip}
 use Rattle.std.proofs.lemmas.List.{append_assoc, map-append}
 use Rattle.std.proofs.lemmas.List.Elements.{All-head, All-tail}
 use Rattle.json_grammar.specs.Tree.{Tree, tree, Node}
-use Rattle.json_spelling.specs.Value.{Value, values_of, Field, field}
-use Rattle.json_spelling.specs.Placed.{placed_at}
-use Rattle.decimal_numbers.specs.Exact.{fixed, whole, millionths}
-use Rattle.instance_shape.specs.LookUp.{Entry, elements, entries, whole_at, text_at, count_at, differs_at, part_at}
+use Rattle.json_spelling.specs.Value.{Value, Field, field}
+use Rattle.instance_shape.specs.LookUp.{Entry, elements, whole_at, text_at, count_at, differs_at, part_at}
 use Rattle.instance_shape.specs.FileTables.{lists_below, all_below, some_differs}
 use Rattle.instance_text.specs.Conditions.{SpellsCount, SpellsPart}
 use Rattle.instance_text.specs.Styles.{Style}

@@ -1,23 +1,20 @@
 -- Decimal digits as number tokens: what whole numbers, counts and millionths are read as.
-use Rattle.std.proofs.Common.{◌≡◌, ◌≢◌, ℕ, zero, suc, ◌+◌, ◌-◌, ◌*◌, ◌/◌, ◌%◌, ◌^◌, ◌<◌, ◌≤◌, Bool, true, false, not}
-use Rattle.std.proofs.Common.{List, [], ◌∷◌, ◌++◌, length, Option, Some, None, refl, sym, ◌∙◌, ap, subst, arith, cond}
+use Rattle.std.proofs.Common.{◌≡◌, ℕ, zero, suc, ◌+◌, ◌-◌, ◌*◌, ◌/◌, ◌%◌, ◌^◌, ◌<◌, ◌≤◌, Bool, true, false, not}
+use Rattle.std.proofs.Common.{List, [], ◌∷◌, ◌++◌, length, Some, refl, sym, ◌∙◌, ap, subst, arith}
 use Rattle.std.proofs.Common.{ℤ, pos, negsuc, unsigned_abs, append_assoc, length-append, decimal, replicate, codes}
-use Rattle.std.specs.Prelude.{◌==◌, ◌&&◌, nat_lt, nat_le}
 use Rattle.std.proofs.lemmas.Bool.{eq-eqb, cond-true, lt-ltb}
-use Rattle.std.proofs.lemmas.Bool.Decides.{nat_tests}
 use Rattle.std.proofs.lemmas.Fmt.{decimal_by_steps_wide, length-decimal-le_wide}
 use Rattle.std.proofs.lemmas.List.{append-nil, length-replicate}
-use Rattle.std.proofs.Math.Nat.{pow-suc}
 use Rattle.json_grammar.specs.Grammar.{IsDigit, AreDigits, IsInt, IsFrac, IsExp, Parts, parts, HasParts, IsNumber}
 use Rattle.json_grammar.specs.Tree.{Node}
 use Rattle.json_grammar.proofs.Tokens.{parts_found}
-use Rattle.decimal_numbers.specs.Decimal.{number_from, number, numerator, denominator, signed, IsExactly, IsWholeOf}
-use Rattle.decimal_numbers.specs.Decimal.{of_number, IsMillionthsOf}
-use Rattle.decimal_numbers.specs.Exact.{nearest, is_exact, fixed, fixed_parts, fixed_size, whole, millionths}
+use Rattle.decimal_numbers.specs.Decimal.{number, numerator, denominator, signed}
+use Rattle.decimal_numbers.specs.Decimal.{of_number}
+use Rattle.decimal_numbers.specs.Exact.{nearest, fixed, fixed_parts, fixed_size, whole}
 use Rattle.decimal_numbers.proofs.Rounding.{number_append, ten_positive}
 use Rattle.decimal_numbers.proofs.ExactLaws.{nearest_is, whole_found, millionths_found}
 use Rattle.decimal_numbers.proofs.Tallying.{exact_rounds}
-use Rattle.fixed_num.specs.Texts.{padded, sign_of, fixed_text}
+use Rattle.fixed_num.specs.Texts.{padded, fixed_text}
 use Rattle.instance_text.specs.Conditions.{SpellsCount, SpellsPart}
 use Rattle.instance_text.specs.Styles.{decimals, part_text}
 

@@ -1,12 +1,12 @@
 -- The value of an instance is fine: it is spelled, nested at most 6 deep, and has no fault of shape.
-use Rattle.std.proofs.Common.{◌≡◌, ℕ, suc, ◌+◌, ◌-◌, ◌*◌, ◌<◌, ◌≤◌, ◌^◌, Bool, true, false, cond, ◌&&◌, List, [], ◌∷◌}
-use Rattle.std.proofs.Common.{map, length, get_or, Option, Some, None, refl, sym, ◌∙◌, ap, subst, arith, ℤ, pos, find}
+use Rattle.std.proofs.Common.{◌≡◌, ℕ, ◌+◌, ◌-◌, ◌*◌, ◌<◌, ◌≤◌, Bool, true, false, cond, ◌&&◌, List, [], ◌∷◌}
+use Rattle.std.proofs.Common.{map, length, Option, Some, None, refl, sym, subst, arith, ℤ, pos, find}
 use Rattle.std.specs.Prelude.{All, slice_index_or, option_map, nat_lt}
 use Rattle.std.proofs.lemmas.Bool.{lt-ltb, and_parts, cond-true}
-use Rattle.std.proofs.lemmas.List.Elements.{All-nil, All-cons, All-head, All-tail, All-weaker, All-get_or}
-use Rattle.std.proofs.lemmas.List.Elements.{All-from_get_or, All-map, All-from_recursion}
+use Rattle.std.proofs.lemmas.List.Elements.{All-nil, All-cons, All-head, All-tail, All-get_or}
+use Rattle.std.proofs.lemmas.List.Elements.{All-from_get_or, All-from_recursion}
 use Rattle.std.proofs.Math.Nat.{mul-le-mul_right}
-use Rattle.json_spelling.specs.Value.{Value, Field, values_of}
+use Rattle.json_spelling.specs.Value.{Value, values_of}
 use Rattle.json_spelling.specs.Spellable.{IsSpellableText}
 use Rattle.fixed_num.specs.Sums.{list_of}
 use Rattle.fixed_num.proofs.SumLemmas.{get_or-list_of, length-list_of}
@@ -17,11 +17,9 @@ use Rattle.instance_model.specs.Fitting.{IsFitting, IsName, AreNames}
 use Rattle.instance_model.specs.Limits.{standard_limits}
 use Rattle.instance_model.specs.Tables.{Tables, scenarios_of, durations, tmax, is_allowed, in_run, risk_of, is_cell_of}
 use Rattle.instance_model.specs.Tables.{upper_of, lower_of, in_season_of, exclusion_of, risk_place}
-use Rattle.instance_model.proofs.EntryLemmas.{IsRunning, IsRunning-from}
+use Rattle.instance_model.proofs.EntryLemmas.{IsRunning-from}
 use Rattle.instance_model.proofs.FitLemmas.{tmax_small, risk_place_below}
-use Rattle.instance_shape.specs.declared.spot.Spot.{Spot}
 use Rattle.instance_shape.specs.declared.spot.Spot.TheVariants as spot
-use Rattle.instance_shape.specs.Shape.{element}
 use Rattle.instance_shape.proofs.ListsBelow.{all_lists, all_cond}
 use Rattle.instance_text.specs.Conditions.{SpellsCount, SpellsNumbers, HasSpellableNames, IsWithin}
 use Rattle.instance_text.specs.Styles.{Style}
@@ -35,7 +33,7 @@ use Rattle.instance_text.proofs.Leaves.{max_fine, min_fine, risks_fine, load_fin
 use Rattle.instance_text.proofs.Leaves.{periods_fine, scenarios_fine, quantile_fine, alpha_fine, word_fine}
 use Rattle.instance_text.proofs.Parts.{risk_takes, risk_period_takes, resource_takes, period_takes, resources_take}
 use Rattle.instance_text.proofs.Parts.{seasons_take, interventions_take, exclusions_take, workload_takes}
-use Rattle.instance_text.proofs.Parts.{resource_fine, intervention_fine, AreRootValues, root_fields, root_fine}
+use Rattle.instance_text.proofs.Parts.{resource_fine, intervention_fine, root_fine}
 
 -- ---- counts
 

@@ -1,11 +1,10 @@
 -- Defines for which instances and limits the text of an instance is read as that instance.
-use Rattle.std.specs.Prelude.{◌≡◌, ℕ, ◌<◌, ◌≤◌, ℤ, ◌+ℤ◌, ◌-ℤ◌, Bool, false, List, [], Some, length, map, All}
+use Rattle.std.specs.Prelude.{◌≡◌, ℕ, ◌<◌, ◌≤◌, ℤ, ◌+ℤ◌, ◌-ℤ◌, false, [], Some, length, map, All}
 use Rattle.std.specs.Prelude.{slice_index_or}
 use Rattle.json_grammar.specs.Grammar.{IsNumber}
 use Rattle.decimal_numbers.specs.Exact.{fixed, millionths}
 use Rattle.json_spelling.specs.Spellable.{IsSpellableText}
 use Rattle.instance_model.specs.declared.limits.Limits.{Limits}
-use Rattle.instance_model.specs.declared.parts.LoadCell.{LoadCell}
 use Rattle.instance_model.specs.Naturals.{count_sum}
 use Rattle.instance_model.specs.Tables.{Tables}
 use Rattle.instance_text.specs.Styles.{Style}

@@ -1,4 +1,4 @@
-use Rattle.std.proofs.Common.{ℤ, ◌<◌, ◌^◌, ◌≤◌, unsigned_abs}
+use Rattle.std.proofs.Common.{◌<◌, ◌^◌, unsigned_abs}
 use Rattle.std.specs.Prelude.{slice_index_or, []}
 use Rattle.std.proofs.lemmas.List.Elements.{All-weaker}
 use Rattle.instance_model.specs.declared.parts.LoadCell.{LoadCell}
