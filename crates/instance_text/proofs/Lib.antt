@@ -17,3 +17,4 @@ pub mod Crossing
 pub mod Numbers
 pub mod Counted
 pub mod Law
+pub mod NameTexts

@@ -5,5 +5,7 @@
 #![tactic(auto)]
 
 mod laws;
+mod names;
 
 pub use laws::{counts_have_decimals, decimals_spell_numbers, texts_are_read};
+pub use names::names_are_spellable;
