@@ -1,12 +1,12 @@
 -- Names that are told one after another to be UTF-8.
-use Rattle.std.proofs.Common.{◌≡◌, ◌≢◌, ℕ, zero, suc, ◌+◌, ◌<◌, ◌≤◌, List, [], ◌∷◌, length, get_or, take, Option, Some, None}
-use Rattle.std.proofs.Common.{refl, sym, subst, arith, All}
+use Rattle.std.proofs.Common.{◌≡◌, ◌≢◌, ℕ, zero, suc, ◌+◌, ◌<◌, ◌≤◌, List, [], ◌∷◌, length, get_or, take, Some}
+use Rattle.std.proofs.Common.{sym, subst, arith, All}
 use Rattle.std.specs.Prelude.{slice_get}
 use Rattle.std.specs.Str.{IsUtf8}
 use Rattle.std.proofs.lemmas.List.{take_all}
 use Rattle.std.proofs.lemmas.List.Elements.{All-more, All-weaker}
 use Rattle.json_spelling.specs.Spellable.{IsSpellableText}
-use Rattle.instance_model.specs.Fitting.{IsName, AreNames}
+use Rattle.instance_model.specs.Fitting.{AreNames}
 
 got : (names : List (List ℕ)) (i : ℕ) (x : List ℕ) → slice_get names i ≡ Some x
     → (i < length names) × (get_or names i [] ≡ x)
