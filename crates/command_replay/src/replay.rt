@@ -1,5 +1,5 @@
 //! The command `replay`: all files are read, and the keys along the script are said.
-ghost use Rattle.std.specs.Prelude.{◌≡◌, ◌≤◌, length, map, All, Some, IfOk, IfErr, OnOk, unwrap_or};
+ghost use Rattle.std.specs.Prelude.{◌≡◌, ◌≤◌, length, map, All, Some, IfOk, IfErr, OnOk};
 ghost use Rattle.instance_model.specs.Limits.{standard_limits};
 ghost use Rattle.instance_model.specs.Plans.{AreAllowedStarts};
 ghost use Rattle.plan_moves.specs.Scripts.{NamesKnown};
@@ -8,19 +8,18 @@ ghost use Rattle.command_frame.specs.Sources.{source_view};
 ghost use Rattle.command_frame.specs.Files.{reading};
 ghost use Rattle.command_replay.specs.Replaying.{Replays, AnswersReplay, RunsReplay};
 ghost use Rattle.command_frame.specs.Refusals.{KeepsLast, IsDueAs, SaysAnswer};
-ghost use Rattle.command_replay.specs.Opened.{AreRead, OpensAs};
+ghost use Rattle.command_replay.specs.Opened.{AreRead};
 
 use command_frame::{
-    MEMORY_LINE, Refusal, Source, Text, infeasible_text, instance_of, plan_of, refuse, say,
+    MEMORY_LINE, Opening, Refusal, Source, instance_of, opening_of, plan_of, refuse, say,
     say_numbered, script_of,
 };
-use instance_model::{Instance, Starts};
+use instance_model::Instance;
 use move_script::{ReplayFault, Script, replay};
 use plan_desk::Desk;
-use plan_score::broken_start;
 use plan_text::Plan;
 use quantile_index::Row;
-use std::alloc::{AllocError, Global};
+use std::alloc::Global;
 
 /// What was read for a replay.
 #[derive(Drop)]
@@ -28,15 +27,6 @@ struct Files {
     inst: Instance,
     plan: Plan,
     script: Script,
-}
-
-/// From what a replay sets out.
-#[derive(Drop)]
-enum Opening {
-    /// Starts, all of them allowed.
-    Starts(Starts),
-    /// The report on a plan that breaks a rule on starts.
-    Broken(Text),
 }
 
 /// Reads the three files, and replays the script over rows of this kind.
@@ -95,24 +85,6 @@ fn replay_read<R: Row, D: Desk>(alloc: Global, files: &Files, desk: &mut D) -> u
         Ok(Opening::Broken(report)) => say(desk, 1, report.as_slice()),
         Err(_) => say(desk, 11, MEMORY_LINE.as_bytes()),
     }
-}
-
-// The starts of a plan, or the report on the first rule on starts that it breaks.
-fn opening_of(alloc: Global, inst: &Instance, plan: &Plan) -> Result<Opening, AllocError>
-    requires { length plan.now ≡ length inst.now.names }
-    ensures { IfOk result (OpensAs inst.now plan.now) }
-{
-    match broken_start(inst, plan.as_slice()) {
-        Some(rule) => Ok(Opening::Broken(infeasible_text(alloc, inst, &rule)?)),
-        None => Ok(Opening::Starts(Starts::from_vec(starts_of(alloc, plan.as_slice())?))),
-    }
-}
-
-// The starts of a plan; 0 where there is none.
-fn starts_of(alloc: Global, plan: &[Option<u32>]) -> Result<Vec<u32>, AllocError>
-    ensures { IfOk result (λ starts. starts.items ≡ map (λ start. unwrap_or start 0) plan.now) }
-{
-    plan.iter().map(|start| start.unwrap_or(0)).collect(alloc)
 }
 
 // Replays a script from these starts, and says how it ended.
