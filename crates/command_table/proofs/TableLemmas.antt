@@ -1,8 +1,15 @@
 -- What was read for a table, and what is then due.
-use Rattle.std.proofs.Common.{◌≡◌, ℕ, inl, inr, List, length, Option, subst}
+use Rattle.std.proofs.Common.{◌≡◌, ℕ, ◌+◌, ◌-◌, ◌≤◌, inl, inr, List, [], ◌∷◌, ◌++◌, length, map, Option, sym, ◌∙◌, ap}
+use Rattle.std.proofs.Common.{subst, arith}
+use Rattle.std.specs.List.{range_with_len, All}
+use Rattle.std.proofs.lemmas.List.Elements.{All-push}
+use Rattle.std.proofs.lemmas.List.FromFn.{map-range_with_len_more}
 use Rattle.plan_desk.specs.Desk.{Shown}
 use Rattle.instance_model.specs.Limits.{standard_limits}
 use Rattle.instance_model.specs.Tables.{Tables}
+use Rattle.plan_table.specs.declared.report.PeriodReport.{PeriodReport}
+use Rattle.plan_table.specs.Reports.{report_of}
+use Rattle.plan_table.specs.Texts.{NamesWithin}
 use Rattle.command_frame.specs.Sources.{Source}
 use Rattle.command_frame.specs.Reports.{infeasible_report}
 use Rattle.command_frame.specs.Bytes.{Spells}
@@ -55,3 +62,23 @@ broken_answer inst plan from to old new opening report text status opens is same
       broken_start first.rule first.first,
       subst (λ (t : List ℕ). SaysOrFails 1 t old new status) first.is says,
     )
+
+-- the reports of one period more
+pub one_report_more : (inst : Tables) (starts : List ℕ) (from t : ℕ) (reports more : List PeriodReport)
+    (report : PeriodReport) → from ≤ t → reports ≡ map (report_of inst starts) (range_with_len from (t - from))
+    → report ≡ report_of inst starts t → more ≡ reports ++ report ∷ []
+    → more ≡ map (report_of inst starts) (range_with_len from (t + 1 - from))
+one_report_more inst starts from t reports more report begun so_far is grown =
+    let here : from + (t - from) ≡ t = omega (arith, begun) in
+    let count : t - from + 1 ≡ t + 1 - from = omega (arith, begun) in
+    grown ∙ ap (λ (rs : List PeriodReport). rs ++ report ∷ []) so_far
+    ∙ ap (λ (r : PeriodReport). map (report_of inst starts) (range_with_len from (t - from)) ++ r ∷ []) is
+    ∙ sym (map-range_with_len_more (report_of inst starts) from (t - from) t here)
+    ∙ ap (λ (n : ℕ). map (report_of inst starts) (range_with_len from n)) count
+
+pub names_more : (inst : Tables) (reports more : List PeriodReport) (report : PeriodReport)
+    → All (NamesWithin inst) reports → NamesWithin inst report → more ≡ reports ++ report ∷ []
+    → All (NamesWithin inst) more
+names_more inst reports more report all named grown =
+    subst (λ (rs : List PeriodReport). All (NamesWithin inst) rs) (sym grown)
+    (All-push (NamesWithin inst) reports report all named)
