@@ -5,7 +5,7 @@ use Rattle.std.specs.List.{range_with_len, All}
 use Rattle.std.proofs.lemmas.List.Elements.{All-push}
 use Rattle.std.proofs.lemmas.List.FromFn.{map-range_with_len_more}
 use Rattle.plan_desk.specs.Desk.{Shown}
-use Rattle.instance_model.specs.Limits.{standard_limits}
+use Rattle.instance_model.specs.declared.limits.Limits.{Limits}
 use Rattle.instance_model.specs.Tables.{Tables}
 use Rattle.plan_table.specs.declared.report.PeriodReport.{PeriodReport}
 use Rattle.plan_table.specs.Reports.{report_of}
@@ -25,29 +25,29 @@ use Rattle.command_table.specs.Tabling.{Tabulates, AnswersTable}
 use Rattle.command_table.specs.Tabling.Tabulates.{broken_start}
 use Rattle.command_table.specs.Read.{AreRead}
 
-pub table_reads : (source : Source) (name : List ℕ) (old mid : Shown) (inst : Tables) (plan : List (Option ℕ))
-    → ReadsInstance standard_limits source old inst → IsRead old mid → ReadsPlan standard_limits name inst mid plan
-    → length plan ≡ length inst.names → AreRead source name old inst plan
-table_reads source name old mid inst plan reads read reads_plan each =
+pub table_reads : (limits : Limits) (source : Source) (name : List ℕ) (old mid : Shown) (inst : Tables) (plan : List (Option ℕ))
+    → ReadsInstance limits source old inst → IsRead old mid → ReadsPlan limits name inst mid plan
+    → length plan ≡ length inst.names → AreRead limits source name old inst plan
+table_reads limits source name old mid inst plan reads read reads_plan each =
     record {
       reads = reads;
-      reads_plan = reads_before name old mid (λ bytes. Spells standard_limits inst bytes plan) read reads_plan;
+      reads_plan = reads_before name old mid (λ bytes. Spells limits inst bytes plan) read reads_plan;
       each = each;
     }
 
-pub table_answer : (source : Source) (name : List ℕ) (from to : ℕ) (old mid new : Shown) (inst : Tables)
-    (plan : List (Option ℕ)) (status : ℕ) → AreRead source name old inst plan
+pub table_answer : (limits : Limits) (source : Source) (name : List ℕ) (from to : ℕ) (old mid new : Shown) (inst : Tables)
+    (plan : List (Option ℕ)) (status : ℕ) → AreRead limits source name old inst plan
     → SaysAnswer (Tabulates inst plan from to) mid new status
-    → SaysAnswer (AnswersTable standard_limits (reading old mid) source.slack source.instance name from to) mid new
+    → SaysAnswer (AnswersTable limits (reading old mid) source.slack source.instance name from to) mid new
     status
-table_answer source name from to old mid new inst plan status read (inl (due, text, is, says)) = inl (
+table_answer limits source name from to old mid new inst plan status read (inl (due, text, is, says)) = inl (
   due,
   text,
   stands read.reads.bytes inst _ read.reads.held read.reads.such
       (stands read.reads_plan.bytes plan _ read.reads_plan.held read.reads_plan.such is),
   says,
 )
-table_answer source name from to old mid new inst plan status read (inr says) = inr says
+table_answer limits source name from to old mid new inst plan status read (inr says) = inr says
 
 -- the report on a plan that breaks a rule on starts
 pub broken_answer : (inst : Tables) (plan : List (Option ℕ)) (from to : ℕ) (old new : Shown) (opening : Opening)

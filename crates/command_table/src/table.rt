@@ -2,6 +2,7 @@
 ghost use Rattle.std.specs.Prelude.{◌≡◌, ◌≤◌, ℕ, length, map, All, Some, IfOk, IfErr, OnOk};
 ghost use Rattle.std.specs.List.{flat_map};
 ghost use Rattle.instance_model.specs.Limits.{standard_limits};
+ghost use Rattle.instance_shape.specs.Ranges.{AreStandard};
 ghost use Rattle.instance_model.specs.Plans.{AreAllowedStarts};
 ghost use Rattle.plan_desk.specs.Contents.{OnlyReads, KeepsFiles};
 ghost use Rattle.plan_desk.specs.Written.{SaysText};
@@ -17,7 +18,7 @@ ghost use Rattle.command_table.specs.Read.{AreRead};
 use command_frame::{
     MEMORY_LINE, Opening, Refusal, Source, instance_of, opening_of, plan_of, refuse, say, say_line,
 };
-use instance_model::Instance;
+use instance_model::{Instance, Limits};
 use plan_desk::{Desk, Failed};
 use plan_table::{PeriodReport, one_report, period_report, say_report};
 use plan_text::Plan;
@@ -44,7 +45,8 @@ pub fn table_files<D: Desk>(
     ensures { RunsTable standard_limits (source_view source.now) plan.now from to (D.shows desk.old)
         (D.shows desk.new) result }
 {
-    match read_files(alloc, source, plan, desk) {
+    let limits = Limits::standard();
+    match read_files(alloc, &limits, source, plan, desk) {
         Ok(files) => table_read(alloc, &files, from, to, desk),
         Err(refusal) => refuse(alloc, desk, &refusal),
     }
@@ -53,22 +55,24 @@ pub fn table_files<D: Desk>(
 // Reads both files. The answer that is due where one is refused is the same for all periods.
 fn read_files<D: Desk>(
     alloc: Global,
+    limits: &Limits,
     source: &Source<'_>,
     plan: &str,
     desk: &mut D,
 ) -> Result<Files, Refusal>
+    requires standard { AreStandard limits.now }
     requires small { source.now.slack ≤ 1_000_000_000 }
     ensures ok { IfOk result (λ files.
-        AreRead (source_view source.now) plan.now (D.shows desk.old) files.inst files.plan) }
+        AreRead limits.now (source_view source.now) plan.now (D.shows desk.old) files.inst files.plan) }
     ensures err { IfErr result (λ refusal. (from to : ℕ)
-        → IsDueAs (AnswersTable standard_limits (reading (D.shows desk.old) (D.shows desk.new))
+        → IsDueAs (AnswersTable limits.now (reading (D.shows desk.old) (D.shows desk.new))
         source.now.slack source.now.instance.now plan.now from to) refusal) }
     ensures last { OnOk result ((D.shows desk.new).last ≡ (D.shows desk.old).last) }
     ensures kept { IfErr result (KeepsLast (D.shows desk.old) (D.shows desk.new)) }
     ensures only_reads { OnlyReads (D.shows desk.old) (D.shows desk.new) }
 {
-    let inst = instance_of(alloc, 2, source, desk)?;
-    let plan = plan_of(alloc, &inst, 3, plan, desk)?;
+    let inst = instance_of(alloc, limits, 2, source, desk)?;
+    let plan = plan_of(alloc, limits, &inst, 3, plan, desk)?;
     Ok(Files { inst, plan })
 }
 
