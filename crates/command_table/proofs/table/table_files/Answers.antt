@@ -16,9 +16,9 @@ returns-in-Ok g c =
     let new = g.D.Desk.shows c.table_read.new.desk in
     let source = source_view c.args.source.now in
     let plan = c.args.plan.now in
-    let limits = c.standard.result in
+    let limits = c.standard-limits.result in
     let e = c.in-Ok.ensures in
-    subst (λ (l : Limits). RunsTable l source plan c.args.from c.args.to old new c.table_read.result) c.standard.ensures
+    subst (λ (l : Limits). RunsTable l source plan c.args.from c.args.to old new c.table_read.result) c.standard-limits.ensures
     (table_runs limits source plan c.args.from c.args.to old new c.table_read.result
     (answer_ends
     (λ at. AnswersTable limits (reading old at) source.slack source.instance plan c.args.from c.args.to) old
@@ -36,9 +36,9 @@ returns-in-Err g c =
     let new = g.D.Desk.shows c.refuse.new.desk in
     let source = source_view c.args.source.now in
     let plan = c.args.plan.now in
-    let limits = c.standard.result in
+    let limits = c.standard-limits.result in
     let e = c.in-Err.ensures in
-    subst (λ (l : Limits). RunsTable l source plan c.args.from c.args.to old new c.refuse.result) c.standard.ensures
+    subst (λ (l : Limits). RunsTable l source plan c.args.from c.args.to old new c.refuse.result) c.standard-limits.ensures
     (table_runs limits source plan c.args.from c.args.to old new c.refuse.result
     (refusal_ends
     (λ at. AnswersTable limits (reading old at) source.slack source.instance plan c.args.from c.args.to) old
