@@ -1,5 +1,5 @@
 -- The bytes of the files of `table` have one answer.
-use Rattle.std.proofs.Common.{ℕ, List, Option, refl, ap}
+use Rattle.std.proofs.Common.{ℕ, List, Option, ap}
 use Rattle.instance_model.specs.declared.limits.Limits.{Limits}
 use Rattle.instance_model.specs.Tables.{Tables}
 use Rattle.instance_model.specs.Rules.{first_start_rule}
