@@ -220,14 +220,16 @@ class Plain:
     def rank(self, t):
         return up(self.inst.quantile * self.inst.scenarios[t - 1], MILLION)
 
+    def scenario_sums(self, starts, t):
+        """The sums of the scenarios of a period, in ascending order."""
+        running = [self.risks[i, s, t] for i, s in self.in_progress(starts, t)]
+        return sorted(sum(numbers[k] for numbers in running) for k in range(self.inst.scenarios[t - 1]))
+
     def sums(self, starts):
         """For each period the number of scenarios, the sum of their sums, and the excess."""
         for t in range(1, self.inst.periods + 1):
-            n = self.inst.scenarios[t - 1]
-            running = [self.risks[i, s, t] for i, s in self.in_progress(starts, t)]
-            scenario_sums = [sum(numbers[k] for numbers in running) for k in range(n)]
-            quantile = sorted(scenario_sums)[self.rank(t) - 1]
-            yield n, sum(scenario_sums), max(0, n * quantile - sum(scenario_sums))
+            n, ordered = self.inst.scenarios[t - 1], self.scenario_sums(starts, t)
+            yield n, sum(ordered), max(0, n * ordered[self.rank(t) - 1] - sum(ordered))
 
     def numerators(self, starts):
         """For each period the number of scenarios, and the numerator of its part of the score."""
@@ -247,6 +249,34 @@ class Plain:
         report += pair("mean", [(total, n) for n, total, _ in self.sums(starts)], periods)
         report += pair("excess", [(excess, n) for n, _, excess in self.sums(starts)], periods)
         return report + "rounded 0\n"
+
+
+    def period(self, starts, t):
+        """What `table` prints of a period, where no risk of the file is rounded."""
+        inst, n, ordered = self.inst, self.inst.scenarios[t - 1], self.scenario_sums(starts, t)
+        total, quantile = sum(ordered), ordered[self.rank(t) - 1]
+        text = f"period {t} scenarios {n} rank {self.rank(t)}\n"
+        text += f"risk {decimal(ordered[0])} {decimal(quantile)} {decimal(ordered[-1])}\n"
+        text += pair("mean", [(total, n)], 1) + pair("excess", [(max(0, n * quantile - total), n)], 1)
+        for c, name in enumerate(inst.resource_names):
+            load, lower, upper = self.plan_load(c, t, starts), self.lower[c][t - 1], self.upper[c][t - 1]
+            state = "over" if load > upper else "under" if load < lower else "fits"
+            text += f"load {name} {decimal(load)} {decimal(lower)} {decimal(upper)} {state}\n"
+        for i, s in self.in_progress(starts, t):
+            run = f"run {inst.intervention_names[i]} {s} {t - s + 1} {inst.duration[i][s - 1]}"
+            text += pair(run, [(sum(self.risks[i, s, t]), n)], 1)
+        for name, exclusion in zip(inst.exclusion_names, inst.exclusions):
+            if t in inst.meeting(exclusion, starts):
+                text += f"clash {name}\n"
+        return text
+
+    def table(self, starts, first, last):
+        """What `table` prints of the periods from the first to the last."""
+        broken = [rule for rule in self.broken_rules(starts) if rule.startswith("S")]
+        if broken:
+            return f"infeasible\n{broken[0]}\nrounded 0\n"
+        periods = range(first, min(last, self.inst.periods) + 1)
+        return "".join(self.period(starts, t) for t in periods) + f"end {len(periods)}\nrounded 0\n"
 
 
 def pair(name, quotients, divisor):

@@ -6,6 +6,7 @@
 #![tactic(auto)]
 
 mod instance_line;
+mod opening;
 mod reading;
 mod refusal;
 mod report;
@@ -14,13 +15,14 @@ mod source;
 mod text;
 mod writing;
 
+pub use opening::{Opening, opening_of};
 pub use reading::{certificate_of, given_plan_of, instance_of, plan_of, script_of};
 pub use refusal::{MEMORY_LINE, Refusal, WORDS_LINE, leaf_text};
 pub use report::{
     Report, accepted_text, feasible_text, infeasible_text, push_bound_line, push_gap_line,
     push_ranges, push_rounded, push_score,
 };
-pub use saying::{refuse, say, say_numbered, say_report};
+pub use saying::{refuse, say, say_line, say_numbered, say_report};
 pub use source::Source;
 pub use text::Text;
 pub use writing::{WRITE_WORDS, put_certificate, put_moves, put_plan};

@@ -58,8 +58,8 @@ pub fn say_numbered<D: Desk>(desk: &mut D, status: u8, words: &str, n: u64) -> u
     }
 }
 
-// Says a line that ends with a number.
-fn say_line<D: Desk>(desk: &mut D, words: &str, n: u64) -> Result<(), Failed>
+/// Says a line that ends with a number. Takes no memory.
+pub fn say_line<D: Desk>(desk: &mut D, words: &str, n: u64) -> Result<(), Failed>
     ensures { SaysText (numbered_line words.now n) (D.shows desk.old) (D.shows desk.new) result }
 {
     let digits = Line::of_natural(n);

@@ -17,38 +17,10 @@ use Rattle.command_frame.specs.Files.{by_bytes, OnPlan, OnScript}
 use Rattle.command_frame.specs.Openings.{IsOpeningOf}
 use Rattle.command_replay.specs.Replaying.{Replays, AnswersReplay}
 use Rattle.command_replay.specs.Replaying.Replays.{broken_start, ended, not_allowed, nothing_to_undo}
+use Rattle.command_frame.proofs.OpeningLemmas.{same_opening, no_broken_start}
 use Rattle.command_frame.proofs.AnswerLemmas.{one_rule, instance_once, plan_once, script_once}
 
 -- ---- one answer for what was read
-
-same_starts : (a b : List ℕ) → map Some a ≡ map Some b → a ≡ b
-same_starts [] [] e = refl
-same_starts [] (y ∷ b) e = absurd (apart e)
-  where
-    apart : [] ≡ Some y ∷ map Some b → ⊥
-    apart h = cc
-same_starts (x ∷ a) [] e = absurd (apart e)
-  where
-    apart : Some x ∷ map Some a ≡ [] → ⊥
-    apart h = cc
-same_starts (x ∷ a) (y ∷ b) e =
-    let head : x ≡ y = cc in
-    let tail : map Some a ≡ map Some b = cc in
-    ap (λ z. z ∷ a) head ∙ ap (λ zs. y ∷ zs) (same_starts a b tail)
-
-pub same_opening : (inst : Tables) (plan : List (Option ℕ)) (a b : List ℕ) → IsOpeningOf inst plan a
-    → IsOpeningOf inst plan b → a ≡ b
-same_opening inst plan a b x y = same_starts a b (sym x.starts ∙ y.starts)
-
--- a plan of allowed starts breaks no rule on starts
-pub no_broken_start : (inst : Tables) (plan : List (Option ℕ)) (opening : List ℕ) (rule : Rule)
-    → IsOpeningOf inst plan opening → first_start_rule inst plan ≡ Some rule → ⊥
-no_broken_start inst plan opening rule opens first =
-    apart (sym (subst (λ (p : List (Option ℕ)). first_start_rule inst p ≡ None) (sym opens.starts)
-    (first_start_rule-none inst (map Some opening) (has_allowed_start inst opening opens.allowed))) ∙ first)
-  where
-    apart : None ≡ Some rule → ⊥
-    apart h = cc
 
 pub no_failure : (inst : Tables) (opening : List ℕ) (script : List ScriptLine) (n : ℕ) → Succeeds inst opening script
     → FailsAt inst opening script n → ⊥

@@ -17,16 +17,17 @@ use Rattle.command_frame.specs.Lines.{memory_line, end_line, not_allowed_line, n
 use Rattle.command_frame.specs.Ending.{Answer, reply, SayFails}
 use Rattle.command_frame.specs.Files.{reading}
 use Rattle.command_frame.specs.Files.OnFile.{stands}
-use Rattle.command_frame.specs.Openings.{IsOpeningOf}
+use Rattle.command_frame.specs.Openings.{IsOpeningOf, OpensAs}
 use Rattle.command_replay.specs.Replaying.{Replays, AnswersReplay}
 use Rattle.command_replay.specs.Replaying.Replays.{broken_start, ended, not_allowed, nothing_to_undo}
-use Rattle.instance_model.specs.Limits.{standard_limits}
+use Rattle.instance_model.specs.declared.limits.Limits.{Limits}
 use Rattle.command_frame.specs.Reports.{infeasible_report}
 use Rattle.command_frame.specs.Sources.{Source}
-use Rattle.command_replay.specs.declared.replay.Opening.{Opening}
-use Rattle.command_replay.specs.declared.replay.Opening.TheVariants.{Broken}
-use Rattle.command_replay.specs.Opened.{AreRead, OpensAs}
+use Rattle.command_frame.specs.declared.opening.Opening.{Opening}
+use Rattle.command_frame.specs.declared.opening.Opening.TheVariants.{Broken}
+use Rattle.command_replay.specs.Opened.{AreRead}
 use Rattle.command_frame.specs.Refusals.{SaysOrFails, SaysAnswer}
+use Rattle.command_frame.proofs.OpeningLemmas.{own_opening, broken_opening}
 use Rattle.command_frame.proofs.SayLemmas.{rose_before, says_before, or_more, some_first}
 
 -- ---- the lists along a script
@@ -41,10 +42,6 @@ move_or_undo : (line : ScriptLine) → (line ≢ Undo) ⊎ (line ≡ Undo)
 move_or_undo (Move i s) = inl (λ e. cc)
 move_or_undo (Swap i j) = inl (λ e. cc)
 move_or_undo Undo = inr refl
-
-own_opening : (inst : Tables) (opening : List ℕ) → AreAllowedStarts inst opening
-    → IsOpeningOf inst (map Some opening) opening
-own_opening inst opening allowed = record { starts = refl; allowed = allowed }
 
 -- a script succeeds or fails at a line
 pub completed : (inst : Tables) (opening : List ℕ) (script : List ScriptLine) → AreAllowedStarts inst opening
@@ -184,20 +181,20 @@ pub broken_answer : (inst : Tables) (plan : List (Option ℕ)) (script : List Sc
     → OpensAs inst plan opening → opening ≡ Broken report → text ≡ report
     → SaysOrFails 1 text old new status → SaysAnswer (Replays inst plan script) old new status
 broken_answer inst plan script old new opening report text status opens is same says =
-    let found = subst (OpensAs inst plan) is opens in
+    let first = broken_opening inst plan opening report text opens is same in
     inl (
       1,
-      infeasible_report inst found.0,
-      broken_start found.0 found.1,
-      subst (λ (t : List ℕ). SaysOrFails 1 t old new status) (same ∙ found.2) says,
+      infeasible_report inst first.rule,
+      broken_start first.rule first.first,
+      subst (λ (t : List ℕ). SaysOrFails 1 t old new status) first.is says,
     )
 
-pub read_answer : (source : Source) (name script_name : List ℕ) (old mid new : Shown) (inst : Tables)
+pub read_answer : (limits : Limits) (source : Source) (name script_name : List ℕ) (old mid new : Shown) (inst : Tables)
     (plan : List (Option ℕ)) (script : List ScriptLine) (status : ℕ)
-    → AreRead source name script_name old inst plan script
-    → SaysAnswer (Replays inst plan script) mid new status → SaysAnswer (AnswersReplay standard_limits (reading old mid)
+    → AreRead limits source name script_name old inst plan script
+    → SaysAnswer (Replays inst plan script) mid new status → SaysAnswer (AnswersReplay limits (reading old mid)
     source.slack source.instance name script_name) mid new status
-read_answer source name script_name old mid new inst plan script status read (inl (due, text, is, says)) = inl (
+read_answer limits source name script_name old mid new inst plan script status read (inl (due, text, is, says)) = inl (
   due,
   text,
   stands read.reads.bytes inst _ read.reads.held read.reads.such
@@ -205,4 +202,4 @@ read_answer source name script_name old mid new inst plan script status read (in
       (stands read.reads_script.bytes script _ read.reads_script.held read.reads_script.such is)),
   says,
 )
-read_answer source name script_name old mid new inst plan script status read (inr says) = inr says
+read_answer limits source name script_name old mid new inst plan script status read (inr says) = inr says

@@ -36,7 +36,8 @@ use Rattle.command_frame.proofs.FileLemmas.{Carries, on_other, later_reading, ex
 use Rattle.command_frame.proofs.FileLemmas.{refused_file, told_file, then_next, then_more, say_refusal}
 use Rattle.command_frame.proofs.AnswerLemmas.{instance_status, plan_status, same_script, script_sound}
 use Rattle.command_frame.proofs.AnswerLemmas.{refused_script_bytes, script_status}
-use Rattle.command_replay.proofs.ReplayAnswers.{same_opening, no_broken_start, no_failure, replayed_files_once}
+use Rattle.command_frame.proofs.OpeningLemmas.{same_opening, no_broken_start, no_opening}
+use Rattle.command_replay.proofs.ReplayAnswers.{no_failure, replayed_files_once}
 use Rattle.command_frame.proofs.EndLemmas.{Stays, ends_quiet, ends_behind, ends_allowed, ends_exact}
 use Rattle.command_frame.proofs.TakenLemmas.{on_taken, bad_instance, on_spelled, bad_plan}
 
@@ -146,15 +147,6 @@ replay_behind limits source name script_name old new a
     (record { bytes = ys; held = too; such = writes })) d replays says
 
 -- ---- which status comes
-
-some_rule : {A : Type 0} (o : Option A) → IsSome o → (x : A) × (o ≡ Some x)
-some_rule (Some x) some = (x, refl)
-some_rule None some = absurd (cc)
-
-no_opening : (inst : Tables) (plan : List (Option ℕ)) (opening : List ℕ) → IsSome (first_start_rule inst plan)
-    → IsOpeningOf inst plan opening → ⊥
-no_opening inst plan opening some opens =
-    let found = some_rule (first_start_rule inst plan) some in no_broken_start inst plan opening found.0 opens found.1
 
 broken_verdict : (inst : Tables) (plan : List (Option ℕ)) (script : List ScriptLine) (a : Answer)
     → IsSome (first_start_rule inst plan) → Replays inst plan script a → OrUnread 1 a

@@ -1,6 +1,7 @@
 //! The command `replay`: all files are read, and the keys along the script are said.
-ghost use Rattle.std.specs.Prelude.{◌≡◌, ◌≤◌, length, map, All, Some, IfOk, IfErr, OnOk, unwrap_or};
+ghost use Rattle.std.specs.Prelude.{◌≡◌, ◌≤◌, length, map, All, Some, IfOk, IfErr, OnOk};
 ghost use Rattle.instance_model.specs.Limits.{standard_limits};
+ghost use Rattle.instance_shape.specs.Ranges.{AreStandard};
 ghost use Rattle.instance_model.specs.Plans.{AreAllowedStarts};
 ghost use Rattle.plan_moves.specs.Scripts.{NamesKnown};
 ghost use Rattle.plan_desk.specs.Contents.{OnlyReads, KeepsFiles};
@@ -8,19 +9,18 @@ ghost use Rattle.command_frame.specs.Sources.{source_view};
 ghost use Rattle.command_frame.specs.Files.{reading};
 ghost use Rattle.command_replay.specs.Replaying.{Replays, AnswersReplay, RunsReplay};
 ghost use Rattle.command_frame.specs.Refusals.{KeepsLast, IsDueAs, SaysAnswer};
-ghost use Rattle.command_replay.specs.Opened.{AreRead, OpensAs};
+ghost use Rattle.command_replay.specs.Opened.{AreRead};
 
 use command_frame::{
-    MEMORY_LINE, Refusal, Source, Text, infeasible_text, instance_of, plan_of, refuse, say,
+    MEMORY_LINE, Opening, Refusal, Source, instance_of, opening_of, plan_of, refuse, say,
     say_numbered, script_of,
 };
-use instance_model::{Instance, Starts};
+use instance_model::{Instance, Limits};
 use move_script::{ReplayFault, Script, replay};
 use plan_desk::Desk;
-use plan_score::broken_start;
 use plan_text::Plan;
 use quantile_index::Row;
-use std::alloc::{AllocError, Global};
+use std::alloc::Global;
 
 /// What was read for a replay.
 #[derive(Drop)]
@@ -28,15 +28,6 @@ struct Files {
     inst: Instance,
     plan: Plan,
     script: Script,
-}
-
-/// From what a replay sets out.
-#[derive(Drop)]
-enum Opening {
-    /// Starts, all of them allowed.
-    Starts(Starts),
-    /// The report on a plan that breaks a rule on starts.
-    Broken(Text),
 }
 
 /// Reads the three files, and replays the script over rows of this kind.
@@ -51,7 +42,8 @@ pub fn replay_files<R: Row, D: Desk>(
     ensures { RunsReplay standard_limits (source_view source.now) plan.now script.now
         (D.shows desk.old) (D.shows desk.new) result }
 {
-    match read_files(alloc, source, plan, script, desk) {
+    let limits = Limits::standard();
+    match read_files(alloc, &limits, source, plan, script, desk) {
         Ok(files) => replay_read::<R, D>(alloc, &files, desk),
         Err(refusal) => refuse(alloc, desk, &refusal),
     }
@@ -60,23 +52,26 @@ pub fn replay_files<R: Row, D: Desk>(
 // Reads the three files.
 fn read_files<D: Desk>(
     alloc: Global,
+    limits: &Limits,
     source: &Source<'_>,
     plan: &str,
     script: &str,
     desk: &mut D,
 ) -> Result<Files, Refusal>
+    requires standard { AreStandard limits.now }
     requires small { source.now.slack ≤ 1_000_000_000 }
     ensures ok { IfOk result (λ files.
-        AreRead (source_view source.now) plan.now script.now (D.shows desk.old) files.inst files.plan files.script) }
-    ensures err { IfErr result (IsDueAs (AnswersReplay standard_limits (reading (D.shows desk.old) (D.shows desk.new))
+        AreRead limits.now (source_view source.now) plan.now script.now (D.shows desk.old) files.inst files.plan
+        files.script) }
+    ensures err { IfErr result (IsDueAs (AnswersReplay limits.now (reading (D.shows desk.old) (D.shows desk.new))
         source.now.slack source.now.instance.now plan.now script.now)) }
     ensures last { OnOk result ((D.shows desk.new).last ≡ (D.shows desk.old).last) }
     ensures kept { IfErr result (KeepsLast (D.shows desk.old) (D.shows desk.new)) }
     ensures only_reads { OnlyReads (D.shows desk.old) (D.shows desk.new) }
 {
-    let inst = instance_of(alloc, 2, source, desk)?;
-    let plan = plan_of(alloc, &inst, 3, plan, desk)?;
-    let script = script_of(alloc, &inst, 4, script, desk)?;
+    let inst = instance_of(alloc, limits, 2, source, desk)?;
+    let plan = plan_of(alloc, limits, &inst, 3, plan, desk)?;
+    let script = script_of(alloc, limits, &inst, 4, script, desk)?;
     Ok(Files { inst, plan, script })
 }
 
@@ -95,24 +90,6 @@ fn replay_read<R: Row, D: Desk>(alloc: Global, files: &Files, desk: &mut D) -> u
         Ok(Opening::Broken(report)) => say(desk, 1, report.as_slice()),
         Err(_) => say(desk, 11, MEMORY_LINE.as_bytes()),
     }
-}
-
-// The starts of a plan, or the report on the first rule on starts that it breaks.
-fn opening_of(alloc: Global, inst: &Instance, plan: &Plan) -> Result<Opening, AllocError>
-    requires { length plan.now ≡ length inst.now.names }
-    ensures { IfOk result (OpensAs inst.now plan.now) }
-{
-    match broken_start(inst, plan.as_slice()) {
-        Some(rule) => Ok(Opening::Broken(infeasible_text(alloc, inst, &rule)?)),
-        None => Ok(Opening::Starts(Starts::from_vec(starts_of(alloc, plan.as_slice())?))),
-    }
-}
-
-// The starts of a plan; 0 where there is none.
-fn starts_of(alloc: Global, plan: &[Option<u32>]) -> Result<Vec<u32>, AllocError>
-    ensures { IfOk result (λ starts. starts.items ≡ map (λ start. unwrap_or start 0) plan.now) }
-{
-    plan.iter().map(|start| start.unwrap_or(0)).collect(alloc)
 }
 
 // Replays a script from these starts, and says how it ended.

@@ -4,7 +4,7 @@ use Rattle.plan_desk.specs.Desk.{Shown}
 use Rattle.plan_desk.specs.Contents.{Says, KeepsFiles}
 use Rattle.instance_model.specs.Limits.{standard_limits}
 use Rattle.command_frame.specs.Sources.{Source}
-use Rattle.planner_cli.specs.Words.{Command, evaluate, replay, check, solve, command_of}
+use Rattle.planner_cli.specs.Words.{Command, evaluate, replay, check, solve, table, command_of}
 use Rattle.command_frame.specs.Lines.{words_line}
 use Rattle.command_frame.specs.Ending.{Answer, reply, Ends}
 use Rattle.command_frame.specs.Ending.Ends.{done, unsaid, unwritten}
@@ -12,6 +12,7 @@ use Rattle.command_evaluate.specs.Evaluating.{RunsEvaluate}
 use Rattle.command_replay.specs.Replaying.{RunsReplay}
 use Rattle.command_check.specs.Checking.{RunsCheck}
 use Rattle.command_solve.specs.Solving.{SolveFiles, RunsSolve}
+use Rattle.command_table.specs.Tabling.{RunsTable}
 use Rattle.planner_cli.specs.Outcome.{Asks, DueRefusal, BehindRefusal, RefusesWords, Outcome}
 use Rattle.planner_cli.specs.Outcome.BehindRefusal.{refused as behind_refused, unsaid as behind_unsaid}
 use Rattle.command_frame.specs.Refusals.{SaysOrFails}
@@ -63,6 +64,7 @@ OfCommand (evaluate source plan) old new status = RunsEvaluate standard_limits s
 OfCommand (replay source plan script) old new status = RunsReplay standard_limits source plan script old new status
 OfCommand (check source plan cert) old new status = RunsCheck standard_limits source plan cert old new status
 OfCommand (solve source files turns) old new status = RunsSolve standard_limits source files turns old new status
+OfCommand (table source plan from to) old new status = RunsTable standard_limits source plan from to old new status
 
 pub outcome_refused : (words : List (List ℕ)) (old new : Shown) (status : ℕ) → command_of words ≡ None
     → KeepsFiles old new → SaysOrFails 2 words_line old new status → Outcome words old new status
@@ -74,6 +76,7 @@ outcome_refused words old new status none keeps says =
       replays = λ source plan script asks. absurd (apart words (replay source plan script) none asks);
       checks = λ source plan cert asks. absurd (apart words (check source plan cert) none asks);
       solves = λ source files turns asks. absurd (apart words (solve source files turns) none asks);
+      tabulates = λ source plan from to asks. absurd (apart words (table source plan from to) none asks);
       quiet = run.quiet;
       later = run.later;
     }
@@ -91,6 +94,7 @@ outcome_evaluate words source name old new status asked run =
       replays = λ source plan script asks. one (replay source plan script) asks;
       checks = λ source plan cert asks. one (check source plan cert) asks;
       solves = λ source files turns asks. one (solve source files turns) asks;
+      tabulates = λ source plan from to asks. one (table source plan from to) asks;
       quiet = run.quiet;
       later = run.later;
     }
@@ -109,6 +113,7 @@ outcome_replay words source name script_name old new status asked run =
       replays = λ source plan script asks. one (replay source plan script) asks;
       checks = λ source plan cert asks. one (check source plan cert) asks;
       solves = λ source files turns asks. one (solve source files turns) asks;
+      tabulates = λ source plan from to asks. one (table source plan from to) asks;
       quiet = run.quiet;
       later = run.later;
     }
@@ -127,6 +132,7 @@ outcome_check words source name cert_name old new status asked run =
       replays = λ source plan script asks. one (replay source plan script) asks;
       checks = λ source plan cert asks. one (check source plan cert) asks;
       solves = λ source files turns asks. one (solve source files turns) asks;
+      tabulates = λ source plan from to asks. one (table source plan from to) asks;
       quiet = run.quiet;
       later = run.later;
     }
@@ -144,6 +150,25 @@ outcome_solve words source files turns old new status asked run =
       replays = λ source plan script asks. one (replay source plan script) asks;
       checks = λ source plan cert asks. one (check source plan cert) asks;
       solves = λ source files turns asks. one (solve source files turns) asks;
+      tabulates = λ source plan from to asks. one (table source plan from to) asks;
+      quiet = run.quiet;
+      later = run.later;
+    }
+
+pub outcome_table : (words : List (List ℕ)) (source : Source) (name : List ℕ) (first last : ℕ) (old new : Shown)
+    (status : ℕ) → Asks words (table source name first last)
+    → RunsTable standard_limits source name first last old new status → Outcome words old new status
+unfolding OfCommand
+outcome_table words source name first last old new status asked run =
+    let one : (c : Command) → Asks words c → OfCommand c old new status = λ c asks. subst
+    (λ (x : Command). OfCommand x old new status) (same words (table source name first last) c asked asks) run in
+    record {
+      no_command = λ is. absurd (apart words (table source name first last) is asked);
+      evaluates = λ source plan asks. one (evaluate source plan) asks;
+      replays = λ source plan script asks. one (replay source plan script) asks;
+      checks = λ source plan cert asks. one (check source plan cert) asks;
+      solves = λ source files turns asks. one (solve source files turns) asks;
+      tabulates = λ source plan from to asks. one (table source plan from to) asks;
       quiet = run.quiet;
       later = run.later;
     }

@@ -1,12 +1,13 @@
 -- The words of a command: their number, and that at most one parser answers.
 use Rattle.std.proofs.Common.{◌≡◌, ◌<◌, ℕ, List, [], ◌∷◌, length, Bool, true, false, Option, Some, None, refl, sym, ◌∙◌}
 use Rattle.std.proofs.Common.{arith, codes}
-use Rattle.std.specs.Prelude.{bytes_eq, ◌&&◌, if◌then◌else◌}
+use Rattle.std.specs.Prelude.{bytes_eq, nat_le, ◌&&◌, if◌then◌else◌}
 use Rattle.std.proofs.lemmas.Slice.Eq.{bytes_eq-Decides}
 use Rattle.instance_model.specs.Rules.{or_else}
 use Rattle.planner_cli.specs.Words.{Command, evaluate, replay, check, is_file_word, slack_of, given_plan, evaluation}
 use Rattle.planner_cli.specs.Words.{replaying, checking, evaluate_of, replay_of, check_of, IsOneCommand}
 use Rattle.planner_cli.specs.Words.{solve, turns_of, are_file_words, are_apart, solving, solve_files, solve_of}
+use Rattle.planner_cli.specs.Words.{table, period_of, tabling, table_of, after_check, after_replay, after_evaluate}
 use Rattle.command_solve.specs.Solving.{SolveFiles}
 
 -- ---- too few words, and too many
@@ -77,6 +78,24 @@ many_solve (a ∷ b ∷ d ∷ e ∷ f ∷ k ∷ []) h = absurd (omega (arith, h)
 many_solve (a ∷ b ∷ d ∷ e ∷ f ∷ k ∷ l ∷ []) h = absurd (omega (arith, h))
 many_solve (a ∷ b ∷ d ∷ e ∷ f ∷ k ∷ l ∷ m ∷ words) h = refl
 
+pub few_table : (words : List (List ℕ)) → length words < 5 → table_of words ≡ None
+few_table [] h = refl
+few_table (a ∷ []) h = refl
+few_table (a ∷ b ∷ []) h = refl
+few_table (a ∷ b ∷ d ∷ []) h = refl
+few_table (a ∷ b ∷ d ∷ e ∷ []) h = refl
+few_table (a ∷ b ∷ d ∷ e ∷ f ∷ words) h = absurd (omega (arith, h))
+
+pub many_table : (words : List (List ℕ)) → 6 < length words → table_of words ≡ None
+many_table [] h = refl
+many_table (a ∷ []) h = refl
+many_table (a ∷ b ∷ []) h = refl
+many_table (a ∷ b ∷ d ∷ []) h = refl
+many_table (a ∷ b ∷ d ∷ e ∷ []) h = refl
+many_table (a ∷ b ∷ d ∷ e ∷ f ∷ []) h = absurd (omega (arith, h))
+many_table (a ∷ b ∷ d ∷ e ∷ f ∷ k ∷ []) h = absurd (omega (arith, h))
+many_table (a ∷ b ∷ d ∷ e ∷ f ∷ k ∷ l ∷ words) h = refl
+
 -- ---- a parser answers where word 1 is its command
 
 first : List (List ℕ) → List ℕ
@@ -122,6 +141,15 @@ solving_named name instance files (Some turns) None c e = absurd (no_answer c e)
 solving_named name instance files (Some turns) (Some slack) c e =
     if_four (bytes_eq name (codes "solve")) (is_file_word instance) (are_file_words files) (are_apart instance files)
     (solve (record { instance = instance; slack = slack }) files turns) c e
+
+tabling_named : (name instance plan : List ℕ) (from to slack : Option ℕ) (c : Command)
+    → tabling name instance plan from to slack ≡ Some c → bytes_eq name (codes "table") ≡ true
+tabling_named name instance plan None to slack c e = absurd (no_answer c e)
+tabling_named name instance plan (Some from) None slack c e = absurd (no_answer c e)
+tabling_named name instance plan (Some from) (Some to) None c e = absurd (no_answer c e)
+tabling_named name instance plan (Some from) (Some to) (Some slack) c e =
+    if_four (bytes_eq name (codes "table")) (is_file_word instance) (is_file_word plan) (nat_le from to)
+    (table (record { instance = instance; slack = slack }) plan from to) c e
 
 evaluate_named : (words : List (List ℕ)) (c : Command) → evaluate_of words ≡ Some c
     → bytes_eq (first words) (codes "evaluate") ≡ true
@@ -170,6 +198,18 @@ solve_named (a ∷ b ∷ d ∷ f ∷ k ∷ l ∷ m ∷ []) c e =
     solving_named a b (solve_files d f k) (turns_of l) (slack_of m) c e
 solve_named (a ∷ b ∷ d ∷ f ∷ k ∷ l ∷ m ∷ n ∷ words) c e = absurd (no_answer c e)
 
+table_named : (words : List (List ℕ)) (c : Command) → table_of words ≡ Some c
+    → bytes_eq (first words) (codes "table") ≡ true
+unfolding first
+table_named [] c e = absurd (no_answer c e)
+table_named (a ∷ []) c e = absurd (no_answer c e)
+table_named (a ∷ b ∷ []) c e = absurd (no_answer c e)
+table_named (a ∷ b ∷ d ∷ []) c e = absurd (no_answer c e)
+table_named (a ∷ b ∷ d ∷ f ∷ []) c e = absurd (no_answer c e)
+table_named (a ∷ b ∷ d ∷ f ∷ k ∷ []) c e = tabling_named a b d (period_of f) (period_of k) (Some 0) c e
+table_named (a ∷ b ∷ d ∷ f ∷ k ∷ l ∷ []) c e = tabling_named a b d (period_of f) (period_of k) (slack_of l) c e
+table_named (a ∷ b ∷ d ∷ f ∷ k ∷ l ∷ m ∷ words) c e = absurd (no_answer c e)
+
 -- a word is one name
 one_name : (word a b : List ℕ) → bytes_eq word a ≡ true → bytes_eq word b ≡ true → a ≡ b
 one_name word a b x y = sym ((bytes_eq-Decides word a).0 x) ∙ (bytes_eq-Decides word b).0 y
@@ -191,43 +231,59 @@ found_later : (o p : Option Command) (c : Command) → ((d : Command) → o ≡ 
 found_later None p c none e = e
 found_later (Some x) p c none e = absurd (none x refl)
 
--- what the parsers behind `replay`, and behind `evaluate`, answer
-abbrev after_replay : List (List ℕ) → Option Command
-after_replay words = or_else (check_of words) (solve_of words)
-
-abbrev after_evaluate : List (List ℕ) → Option Command
-after_evaluate words = or_else (replay_of words) (after_replay words)
-
 -- two parsers whose commands have other names don't both answer
 two_names : (words : List (List ℕ)) (a b : List ℕ) → bytes_eq a b ≡ false → bytes_eq (first words) a ≡ true
     → bytes_eq (first words) b ≡ true → ⊥
 two_names words a b apart x y = differ a b apart (one_name (first words) a b x y)
+
+-- where a parser answers, none whose command has another name does
+module _ (words : List (List ℕ)) (name : List ℕ) (c : Command) (named : bytes_eq (first words) name ≡ true) where
+  past_evaluate : (rest : Option Command) → bytes_eq (codes "evaluate") name ≡ false → rest ≡ Some c
+      → or_else (evaluate_of words) rest ≡ Some c
+  past_evaluate rest apart e =
+      found_later (evaluate_of words) rest c
+      (λ d also. two_names words (codes "evaluate") name apart (evaluate_named words d also) named) e
+
+  past_replay : (rest : Option Command) → bytes_eq (codes "replay") name ≡ false → rest ≡ Some c
+      → or_else (replay_of words) rest ≡ Some c
+  past_replay rest apart e =
+      found_later (replay_of words) rest c
+      (λ d also. two_names words (codes "replay") name apart (replay_named words d also) named) e
+
+  past_check : (rest : Option Command) → bytes_eq (codes "check") name ≡ false → rest ≡ Some c
+      → or_else (check_of words) rest ≡ Some c
+  past_check rest apart e =
+      found_later (check_of words) rest c
+      (λ d also. two_names words (codes "check") name apart (check_named words d also) named) e
+
+  past_solve : (rest : Option Command) → bytes_eq (codes "solve") name ≡ false → rest ≡ Some c
+      → or_else (solve_of words) rest ≡ Some c
+  past_solve rest apart e =
+      found_later (solve_of words) rest c
+      (λ d also. two_names words (codes "solve") name apart (solve_named words d also) named) e
 
 pub one_command : (words : List (List ℕ)) → IsOneCommand words
 one_command words =
     record {
       evaluates = λ c e. found (evaluate_of words) (after_evaluate words) c e;
       replays = λ c e.
-          found_later (evaluate_of words) (after_evaluate words) c
-          (λ d also. two_names words (codes "evaluate") (codes "replay") refl (evaluate_named words d also)
-          (replay_named words c e))
+          past_evaluate words (codes "replay") c (replay_named words c e) (after_evaluate words) refl
           (found (replay_of words) (after_replay words) c e);
       checks = λ c e.
-          found_later (evaluate_of words) (after_evaluate words) c
-          (λ d also. two_names words (codes "evaluate") (codes "check") refl (evaluate_named words d also)
-          (check_named words c e))
-          (found_later (replay_of words) (after_replay words) c
-          (λ d also. two_names words (codes "replay") (codes "check") refl (replay_named words d also)
-          (check_named words c e))
-          (found (check_of words) (solve_of words) c e));
+          let named = check_named words c e in
+          past_evaluate words (codes "check") c named (after_evaluate words) refl
+          (past_replay words (codes "check") c named (after_replay words) refl
+          (found (check_of words) (after_check words) c e));
       solves = λ c e.
-          found_later (evaluate_of words) (after_evaluate words) c
-          (λ d also. two_names words (codes "evaluate") (codes "solve") refl (evaluate_named words d also)
-          (solve_named words c e))
-          (found_later (replay_of words) (after_replay words) c
-          (λ d also. two_names words (codes "replay") (codes "solve") refl (replay_named words d also)
-          (solve_named words c e))
-          (found_later (check_of words) (solve_of words) c
-          (λ d also. two_names words (codes "check") (codes "solve") refl (check_named words d also)
-          (solve_named words c e)) e));
+          let named = solve_named words c e in
+          past_evaluate words (codes "solve") c named (after_evaluate words) refl
+          (past_replay words (codes "solve") c named (after_replay words) refl
+          (past_check words (codes "solve") c named (after_check words) refl
+          (found (solve_of words) (table_of words) c e)));
+      tabulates = λ c e.
+          let named = table_named words c e in
+          past_evaluate words (codes "table") c named (after_evaluate words) refl
+          (past_replay words (codes "table") c named (after_replay words) refl
+          (past_check words (codes "table") c named (after_check words) refl
+          (past_solve words (codes "table") c named (table_of words) refl e)));
     }

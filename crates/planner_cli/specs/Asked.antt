@@ -1,8 +1,8 @@
 -- What the code has of the words, as the grammar has it. No part of any promise.
 use Rattle.std.specs.Prelude.{◌≤◌, ⊤, option_copied}
 use Rattle.planner_cli.specs.declared.words.Command.{Command as CommandWords}
-use Rattle.planner_cli.specs.declared.words.Command.TheVariants.{Evaluate, Replay, Check, Solve}
-use Rattle.planner_cli.specs.Words.{Command, evaluate, replay, check, solve}
+use Rattle.planner_cli.specs.declared.words.Command.TheVariants.{Evaluate, Replay, Check, Solve, Table}
+use Rattle.planner_cli.specs.Words.{Command, evaluate, replay, check, solve, table}
 use Rattle.command_frame.specs.Sources.{source_view}
 use Rattle.command_solve.specs.Solving.{AreDistinct}
 use Rattle.command_solve.specs.Made.{files_view}
@@ -12,10 +12,12 @@ command_view (Evaluate source plan) = evaluate (source_view source) plan.now
 command_view (Replay source plan script) = replay (source_view source) plan.now script.now
 command_view (Check source plan certificate) = check (source_view source) (option_copied plan) certificate.now
 command_view (Solve source files turns) = solve (source_view source) (files_view files) turns
+command_view (Table source plan from to) = table (source_view source) plan.now from to
 
--- what `solve` needs of its words: not too many turns, and names that differ
-abbrev pub CanSolve : Command → Type 0
-CanSolve (evaluate source plan) = ⊤
-CanSolve (replay source plan script) = ⊤
-CanSolve (check source plan certificate) = ⊤
-CanSolve (solve source files turns) = (turns ≤ 1_000_000) × AreDistinct source.instance files
+-- What a command needs of its words: `solve` not too many turns, and names that differ; `table` a first period from 1.
+abbrev pub CanRun : Command → Type 0
+CanRun (evaluate source plan) = ⊤
+CanRun (replay source plan script) = ⊤
+CanRun (check source plan certificate) = ⊤
+CanRun (solve source files turns) = (turns ≤ 1_000_000) × AreDistinct source.instance files
+CanRun (table source plan from to) = 1 ≤ from

@@ -6,13 +6,14 @@ use Rattle.plan_desk.specs.Desk.{Shown}
 use Rattle.plan_desk.specs.Contents.{Says}
 use Rattle.instance_model.specs.Limits.{standard_limits}
 use Rattle.command_frame.specs.Sources.{Source}
-use Rattle.planner_cli.specs.Words.{Command, evaluate, replay, check, solve, command_of}
+use Rattle.planner_cli.specs.Words.{Command, evaluate, replay, check, solve, table, command_of}
 use Rattle.command_frame.specs.Lines.{words_line}
 use Rattle.command_frame.specs.Ending.{Answer, reply, IsQuiet, SayFails, IsUnsaid, Ends}
 use Rattle.command_evaluate.specs.Evaluating.{RunsEvaluate}
 use Rattle.command_replay.specs.Replaying.{RunsReplay}
 use Rattle.command_check.specs.Checking.{RunsCheck}
 use Rattle.command_solve.specs.Solving.{SolveFiles, RunsSolve}
+use Rattle.command_table.specs.Tabling.{RunsTable}
 
 -- the words ask for this command
 abbrev pub Asks : List (List ℕ) → Command → Type 0
@@ -48,6 +49,8 @@ pub record Outcome (words : List (List ℕ)) (old new : Shown) (status : ℕ) : 
       → RunsCheck standard_limits source plan cert old new status
   pub solves : (source : Source) (files : SolveFiles) (turns : ℕ) → Asks words (solve source files turns)
       → RunsSolve standard_limits source files turns old new status
+  pub tabulates : (source : Source) (plan : List ℕ) (from to : ℕ) → Asks words (table source plan from to)
+      → RunsTable standard_limits source plan from to old new status
   -- the last fault is what it was, but at 7 and 8, and faults never fall
   pub quiet : IsQuiet status old new
   pub later : old.faults ≤ new.faults

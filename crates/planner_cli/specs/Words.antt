@@ -7,12 +7,13 @@ use Rattle.command_frame.specs.Sources.{Source}
 use Rattle.command_solve.specs.Solving.{SolveFiles}
 
 -- What a command line asks for, with the names of its files: the plan is word 3, the script or the certificate word 4,
--- and the trail of a solution word 5. A check may be without a plan.
+-- and the trail of a solution word 5. A check may be without a plan. A table has two periods, words 4 and 5.
 pub data Command : Type 0 where
   evaluate : (source : Source) (plan : List ℕ) → Command
   replay : (source : Source) (plan script : List ℕ) → Command
   check : (source : Source) (plan : Option (List ℕ)) (certificate : List ℕ) → Command
   solve : (source : Source) (files : SolveFiles) (turns : ℕ) → Command
+  table : (source : Source) (plan : List ℕ) (from to : ℕ) → Command
 
 -- how far the bands of a command's instance are widened, in 10^-12
 abbrev pub slack_in : Command → ℕ
@@ -20,6 +21,7 @@ slack_in (evaluate source plan) = source.slack
 slack_in (replay source plan script) = source.slack
 slack_in (check source plan certificate) = source.slack
 slack_in (solve source files turns) = source.slack
+slack_in (table source plan from to) = source.slack
 
 -- a file word is a text that is not empty
 abbrev pub is_file_word : List ℕ → Bool
@@ -107,6 +109,21 @@ solving name instance files (Some turns) (Some slack) =
     then Some (solve (record { instance = instance; slack = slack }) files turns)
     else None
 
+-- a period: such a numeral, from 1 to 512
+abbrev pub period_of : List ℕ → Option ℕ
+period_of word =
+    if is_numeral word && nat_le 1 (number_of word) && nat_le (number_of word) 512 then Some (number_of word) else None
+
+-- `table INSTANCE PLAN FROM TO` with a slack
+abbrev pub tabling : (name instance plan : List ℕ) → (from to slack : Option ℕ) → Option Command
+tabling name instance plan None to slack = None
+tabling name instance plan (Some from) None slack = None
+tabling name instance plan (Some from) (Some to) None = None
+tabling name instance plan (Some from) (Some to) (Some slack) =
+    if bytes_eq name (codes "table") && is_file_word instance && is_file_word plan && nat_le from to
+    then Some (table (record { instance = instance; slack = slack }) plan from to)
+    else None
+
 -- ---- a parser for each command, whose words may end with one word `slack=D`
 
 abbrev pub evaluate_of : List (List ℕ) → Option Command
@@ -135,9 +152,26 @@ solve_of (name ∷ instance ∷ plan ∷ cert ∷ trail ∷ turns ∷ slack ∷ 
     solving name instance (solve_files plan cert trail) (turns_of turns) (slack_of slack)
 solve_of words = None
 
+abbrev pub table_of : List (List ℕ) → Option Command
+table_of (name ∷ instance ∷ plan ∷ from ∷ to ∷ []) =
+    tabling name instance plan (period_of from) (period_of to) (Some 0)
+table_of (name ∷ instance ∷ plan ∷ from ∷ to ∷ slack ∷ []) =
+    tabling name instance plan (period_of from) (period_of to) (slack_of slack)
+table_of words = None
+
+-- what the parsers behind `check`, behind `replay` and behind `evaluate` answer
+abbrev pub after_check : List (List ℕ) → Option Command
+after_check words = or_else (solve_of words) (table_of words)
+
+abbrev pub after_replay : List (List ℕ) → Option Command
+after_replay words = or_else (check_of words) (after_check words)
+
+abbrev pub after_evaluate : List (List ℕ) → Option Command
+after_evaluate words = or_else (replay_of words) (after_replay words)
+
 -- the command of these words; none where they are not in the grammar
 abbrev pub command_of : List (List ℕ) → Option Command
-command_of words = or_else (evaluate_of words) (or_else (replay_of words) (or_else (check_of words) (solve_of words)))
+command_of words = or_else (evaluate_of words) (after_evaluate words)
 
 -- At most one parser answers: the command is what any of them answers.
 pub record IsOneCommand (words : List (List ℕ)) : Type 0 where
@@ -145,3 +179,4 @@ pub record IsOneCommand (words : List (List ℕ)) : Type 0 where
   pub replays : (c : Command) → replay_of words ≡ Some c → command_of words ≡ Some c
   pub checks : (c : Command) → check_of words ≡ Some c → command_of words ≡ Some c
   pub solves : (c : Command) → solve_of words ≡ Some c → command_of words ≡ Some c
+  pub tabulates : (c : Command) → table_of words ≡ Some c → command_of words ≡ Some c

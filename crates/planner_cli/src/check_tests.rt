@@ -44,7 +44,8 @@ const ONE_MIDDLE: &str = r#"{"Resources":{},"Seasons":{},
 "Quantile":0.5,"Alpha":0.5}"#;
 
 /// Both fit together, but exclude each other in period 2.
-const WINTER: &str = r#"{"Resources":{"c":{"max":[12,12],"min":[0,0]}},"Seasons":{"w":["2"]},
+pub(crate) const WINTER: &str =
+    r#"{"Resources":{"c":{"max":[12,12],"min":[0,0]}},"Seasons":{"w":["2"]},
 "Interventions":{
 "I1":{"tmax":2,"Delta":[1,1],
 "workload":{"c":{"1":{"1":6},"2":{"2":6}}},

@@ -1,4 +1,4 @@
-//! The program: judges and replays plans of maintenance, and checks certificates, as its words ask.
+//! The program: makes, judges, replays and reports plans of maintenance, and checks certificates, as its words ask.
 //!
 //! `run` is the whole program over any device; `main` runs it over real files and standard output.
 #![tactic(auto)]
@@ -10,6 +10,8 @@ mod replay_tests;
 mod run;
 #[cfg(test)]
 mod solve_tests;
+#[cfg(test)]
+mod table_tests;
 #[cfg(test)]
 mod tests;
 mod words;

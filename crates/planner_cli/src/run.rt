@@ -8,6 +8,7 @@ use command_evaluate::evaluate_files;
 use command_frame::{WORDS_LINE, say};
 use command_replay::replay_files;
 use command_solve::solve_files;
+use command_table::table_files;
 use plan_desk::Desk;
 use quantile_index::{Row, TreeRow};
 use std::alloc::Global;
@@ -15,7 +16,7 @@ use std::alloc::Global;
 /// Runs the command of these words, which are those after the program's name, and answers the status.
 ///
 /// 0: done; of `evaluate`, the plan is feasible; of `check`, the certificate is valid; of `solve`, a plan was found. 1:
-/// the plan breaks a rule; of `replay`, one on starts. 2: the words are not in the grammar. 3: the instance is refused.
+/// the plan breaks a rule; of `replay` and `table`, one on starts. 2: the words are not in the grammar. 3: the instance is refused.
 /// 4: the plan's text is refused. 5: the certificate is refused. 6: the script is refused. 7: a file could not be read.
 /// 8: a file could not be written, or what was due could not be said. 9: no plan was found, and there may be one. 10:
 /// there is no plan. 11: memory ran out, and nothing was written or said before.
@@ -53,5 +54,13 @@ pub fn run_with<R: Row, D: Desk>(alloc: Global, words: &[String], desk: &mut D) 
                 turns,
             },
         ) => solve_files::<R, D>(alloc, &source, &files, turns, desk),
+        Some(
+            Command::Table {
+                source,
+                plan,
+                from,
+                to,
+            },
+        ) => table_files(alloc, &source, plan, from, to, desk),
     }
 }

@@ -170,7 +170,11 @@ pub(crate) fn desk(alloc: Global, instance: &str, plan: &[u8]) -> Result<MemDesk
 }
 
 // The status of these words, and what was said.
-fn ran(alloc: Global, words: &[&str], desk: &mut MemDesk) -> Result<(u8, Vec<u8>), AllocError> {
+pub(crate) fn ran(
+    alloc: Global,
+    words: &[&str],
+    desk: &mut MemDesk,
+) -> Result<(u8, Vec<u8>), AllocError> {
     let words = owned(alloc, words)?;
     let status = run(alloc, &words, desk);
     let said = desk.spoken().to_vec(alloc)?;

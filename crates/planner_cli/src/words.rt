@@ -4,11 +4,11 @@ ghost use Rattle.std.specs.Prelude.{false, ◌&&◌, nat_le, length};
 ghost use Rattle.planner_cli.specs.Words.{command_of, evaluate_of, replay_of, check_of, IsOneCommand, evaluation};
 ghost use Rattle.planner_cli.specs.Words.{replaying, checking, given_plan, slack_in, slack_of, slack_count, fraction};
 ghost use Rattle.planner_cli.specs.Words.{are_decimals, solve_of, solving, turns_of, is_numeral, are_file_words};
-ghost use Rattle.planner_cli.specs.Words.{are_apart};
+ghost use Rattle.planner_cli.specs.Words.{are_apart, table_of, tabling, period_of};
+ghost use Rattle.planner_cli.specs.Words.{after_evaluate, after_replay, after_check};
 ghost use Rattle.instance_shape.specs.Keys.{all_bytes, is_digit, number_of};
 ghost use Rattle.command_solve.specs.Made.{files_view};
-ghost use Rattle.instance_model.specs.Rules.{or_else};
-ghost use Rattle.planner_cli.specs.Asked.{command_view, CanSolve};
+ghost use Rattle.planner_cli.specs.Asked.{command_view, CanRun};
 
 use command_frame::Source;
 use command_solve::SolveFiles;
@@ -18,6 +18,9 @@ const MOST_SLACK: u64 = 1_000_000_000;
 
 /// How many turns a solution has at most.
 const MOST_TURNS: u64 = 1_000_000;
+
+/// The last period that a table may be asked for.
+const LAST_PERIOD: u64 = 512;
 
 /// What the words ask for, with the names of its files: the plan is word 3, the script or the certificate word 4.
 #[derive(Clone, Copy)]
@@ -43,6 +46,13 @@ pub enum Command<'a> {
         files: SolveFiles<'a>,
         turns: u32,
     },
+    /// A table has its first and its last period, words 4 and 5.
+    Table {
+        source: Source<'a>,
+        plan: &'a str,
+        from: u32,
+        to: u32,
+    },
 }
 
 /// The command of the words, if they are in the grammar.
@@ -50,48 +60,53 @@ pub fn command_of(words: &[String]) -> Option<Command<'_>>
     ensures found { IfSome result (λ asked. command_of (map string_bytes words.now) ≡ Some (command_view asked)) }
     ensures none { IfNone result (command_of (map string_bytes words.now) ≡ None) }
     ensures small { IfSome result (λ asked. slack_in (command_view asked) ≤ 1_000_000_000) }
-    ensures can { IfSome result (λ asked. CanSolve (command_view asked)) }
+    ensures can { IfSome result (λ asked. CanRun (command_view asked)) }
 
     // No other parser answers.
     ensures one { IsOneCommand (map string_bytes words.now) }
 {
     match evaluate_of(words) {
         Some(command) => Some(command),
-        None => of_three_files(words),
+        None => after_evaluate(words),
     }
 }
 
 // The command of words that are not those of `evaluate`.
-fn of_three_files(words: &[String]) -> Option<Command<'_>>
-    ensures found { IfSome result
-        (λ asked. or_else (replay_of (map string_bytes words.now))
-        (or_else (check_of (map string_bytes words.now)) (solve_of (map string_bytes words.now)))
-        ≡ Some (command_view asked)) }
-    ensures none { IfNone result
-        (or_else (replay_of (map string_bytes words.now))
-        (or_else (check_of (map string_bytes words.now)) (solve_of (map string_bytes words.now))) ≡ None) }
+fn after_evaluate(words: &[String]) -> Option<Command<'_>>
+    ensures found { IfSome result (λ asked. after_evaluate (map string_bytes words.now) ≡ Some (command_view asked)) }
+    ensures none { IfNone result (after_evaluate (map string_bytes words.now) ≡ None) }
     ensures small { IfSome result (λ asked. slack_in (command_view asked) ≤ 1_000_000_000) }
-    ensures can { IfSome result (λ asked. CanSolve (command_view asked)) }
+    ensures can { IfSome result (λ asked. CanRun (command_view asked)) }
 {
     match replay_of(words) {
         Some(command) => Some(command),
-        None => of_certificates(words),
+        None => after_replay(words),
     }
 }
 
 // The command of words that are neither those of `evaluate` nor those of `replay`.
-fn of_certificates(words: &[String]) -> Option<Command<'_>>
-    ensures found { IfSome result
-        (λ asked. or_else (check_of (map string_bytes words.now)) (solve_of (map string_bytes words.now))
-        ≡ Some (command_view asked)) }
-    ensures none { IfNone result
-        (or_else (check_of (map string_bytes words.now)) (solve_of (map string_bytes words.now)) ≡ None) }
+fn after_replay(words: &[String]) -> Option<Command<'_>>
+    ensures found { IfSome result (λ asked. after_replay (map string_bytes words.now) ≡ Some (command_view asked)) }
+    ensures none { IfNone result (after_replay (map string_bytes words.now) ≡ None) }
     ensures small { IfSome result (λ asked. slack_in (command_view asked) ≤ 1_000_000_000) }
-    ensures can { IfSome result (λ asked. CanSolve (command_view asked)) }
+    ensures can { IfSome result (λ asked. CanRun (command_view asked)) }
 {
     match check_of(words) {
         Some(command) => Some(command),
-        None => solve_of(words),
+        None => after_check(words),
+    }
+}
+
+// The command of words that are those of no command before `solve`.
+fn after_check(words: &[String]) -> Option<Command<'_>>
+    ensures found { IfSome result (λ asked. after_check (map string_bytes words.now) ≡ Some (command_view asked)) }
+    ensures none { IfNone result (after_check (map string_bytes words.now) ≡ None) }
+    ensures small { IfSome result (λ asked. slack_in (command_view asked) ≤ 1_000_000_000) }
+    ensures can { IfSome result (λ asked. CanRun (command_view asked)) }
+{
+    match solve_of(words) {
+        Some(command) => Some(command),
+        None => table_of(words),
     }
 }
 
@@ -100,7 +115,7 @@ fn evaluate_of(words: &[String]) -> Option<Command<'_>>
     ensures found { IfSome result (λ asked. evaluate_of (map string_bytes words.now) ≡ Some (command_view asked)) }
     ensures none { IfNone result (evaluate_of (map string_bytes words.now) ≡ None) }
     ensures small { IfSome result (λ asked. slack_in (command_view asked) ≤ 1_000_000_000) }
-    ensures can { IfSome result (λ asked. CanSolve (command_view asked)) }
+    ensures can { IfSome result (λ asked. CanRun (command_view asked)) }
 {
     match words {
         [name, instance, plan] => {
@@ -121,7 +136,7 @@ fn replay_of(words: &[String]) -> Option<Command<'_>>
     ensures found { IfSome result (λ asked. replay_of (map string_bytes words.now) ≡ Some (command_view asked)) }
     ensures none { IfNone result (replay_of (map string_bytes words.now) ≡ None) }
     ensures small { IfSome result (λ asked. slack_in (command_view asked) ≤ 1_000_000_000) }
-    ensures can { IfSome result (λ asked. CanSolve (command_view asked)) }
+    ensures can { IfSome result (λ asked. CanRun (command_view asked)) }
 {
     match words {
         [name, instance, plan, script] => replaying(
@@ -147,7 +162,7 @@ fn check_of(words: &[String]) -> Option<Command<'_>>
     ensures found { IfSome result (λ asked. check_of (map string_bytes words.now) ≡ Some (command_view asked)) }
     ensures none { IfNone result (check_of (map string_bytes words.now) ≡ None) }
     ensures small { IfSome result (λ asked. slack_in (command_view asked) ≤ 1_000_000_000) }
-    ensures can { IfSome result (λ asked. CanSolve (command_view asked)) }
+    ensures can { IfSome result (λ asked. CanRun (command_view asked)) }
 {
     match words {
         [name, instance, plan, certificate] => checking(
@@ -173,7 +188,7 @@ fn solve_of(words: &[String]) -> Option<Command<'_>>
     ensures found { IfSome result (λ asked. solve_of (map string_bytes words.now) ≡ Some (command_view asked)) }
     ensures none { IfNone result (solve_of (map string_bytes words.now) ≡ None) }
     ensures small { IfSome result (λ asked. slack_in (command_view asked) ≤ 1_000_000_000) }
-    ensures can { IfSome result (λ asked. CanSolve (command_view asked)) }
+    ensures can { IfSome result (λ asked. CanRun (command_view asked)) }
 {
     match words {
         [name, instance, plan, certificate, trail, turns] => solving(
@@ -202,6 +217,34 @@ fn solve_of(words: &[String]) -> Option<Command<'_>>
     }
 }
 
+// `table` of these words.
+fn table_of(words: &[String]) -> Option<Command<'_>>
+    ensures found { IfSome result (λ asked. table_of (map string_bytes words.now) ≡ Some (command_view asked)) }
+    ensures none { IfNone result (table_of (map string_bytes words.now) ≡ None) }
+    ensures small { IfSome result (λ asked. slack_in (command_view asked) ≤ 1_000_000_000) }
+    ensures can { IfSome result (λ asked. CanRun (command_view asked)) }
+{
+    match words {
+        [name, instance, plan, from, to] => tabling(
+            name.as_str(),
+            instance.as_str(),
+            plan.as_str(),
+            period_of(from.as_str()),
+            period_of(to.as_str()),
+            Some(0),
+        ),
+        [name, instance, plan, from, to, slack] => tabling(
+            name.as_str(),
+            instance.as_str(),
+            plan.as_str(),
+            period_of(from.as_str()),
+            period_of(to.as_str()),
+            slack_of(slack.as_str()),
+        ),
+        _ => None,
+    }
+}
+
 // `evaluate` of these files, with this slack.
 fn evaluation<'a>(
     name: &str,
@@ -214,7 +257,7 @@ fn evaluation<'a>(
         (λ asked. evaluation name.now instance.now plan.now slack ≡ Some (command_view asked)) }
     ensures none { IfNone result (evaluation name.now instance.now plan.now slack ≡ None) }
     ensures small { IfSome result (λ asked. slack_in (command_view asked) ≤ 1_000_000_000) }
-    ensures can { IfSome result (λ asked. CanSolve (command_view asked)) }
+    ensures can { IfSome result (λ asked. CanRun (command_view asked)) }
 {
     let slack = slack?;
     if name != "evaluate" || instance.is_empty() || plan.is_empty() {
@@ -239,7 +282,7 @@ fn replaying<'a>(
         (λ asked. replaying name.now instance.now plan.now script.now slack ≡ Some (command_view asked)) }
     ensures none { IfNone result (replaying name.now instance.now plan.now script.now slack ≡ None) }
     ensures small { IfSome result (λ asked. slack_in (command_view asked) ≤ 1_000_000_000) }
-    ensures can { IfSome result (λ asked. CanSolve (command_view asked)) }
+    ensures can { IfSome result (λ asked. CanRun (command_view asked)) }
 {
     let slack = slack?;
     if name != "replay" || instance.is_empty() || plan.is_empty() || script.is_empty() {
@@ -265,7 +308,7 @@ fn checking<'a>(
         (λ asked. checking name.now instance.now plan.now certificate.now slack ≡ Some (command_view asked)) }
     ensures none { IfNone result (checking name.now instance.now plan.now certificate.now slack ≡ None) }
     ensures small { IfSome result (λ asked. slack_in (command_view asked) ≤ 1_000_000_000) }
-    ensures can { IfSome result (λ asked. CanSolve (command_view asked)) }
+    ensures can { IfSome result (λ asked. CanRun (command_view asked)) }
 {
     let slack = slack?;
     if name != "check" || instance.is_empty() || plan.is_empty() || certificate.is_empty() {
@@ -292,7 +335,7 @@ fn solving<'a>(
         (λ asked. solving name.now instance.now (files_view files.entry) turns slack ≡ Some (command_view asked)) }
     ensures none { IfNone result (solving name.now instance.now (files_view files.entry) turns slack ≡ None) }
     ensures small { IfSome result (λ asked. slack_in (command_view asked) ≤ 1_000_000_000) }
-    ensures can { IfSome result (λ asked. CanSolve (command_view asked)) }
+    ensures can { IfSome result (λ asked. CanRun (command_view asked)) }
 {
     let turns = turns?;
     let slack = slack?;
@@ -306,6 +349,37 @@ fn solving<'a>(
         source: Source { instance, slack },
         files,
         turns,
+    })
+}
+
+// `table` of these files from one of these periods to the other, with this slack.
+fn tabling<'a>(
+    name: &str,
+    instance: &'a str,
+    plan: &'a str,
+    from: Option<u32>,
+    to: Option<u32>,
+    slack: Option<u32>,
+) -> Option<Command<'a>>
+    requires first { IfSome from (λ t. 1 ≤ t) }
+    requires small { IfSome slack (λ count. count ≤ 1_000_000_000) }
+    ensures found { IfSome result
+        (λ asked. tabling name.now instance.now plan.now from to slack ≡ Some (command_view asked)) }
+    ensures none { IfNone result (tabling name.now instance.now plan.now from to slack ≡ None) }
+    ensures small { IfSome result (λ asked. slack_in (command_view asked) ≤ 1_000_000_000) }
+    ensures can { IfSome result (λ asked. CanRun (command_view asked)) }
+{
+    let from = from?;
+    let to = to?;
+    let slack = slack?;
+    if name != "table" || instance.is_empty() || plan.is_empty() || from > to {
+        return None;
+    }
+    Some(Command::Table {
+        source: Source { instance, slack },
+        plan,
+        from,
+        to,
     })
 }
 
@@ -372,6 +446,19 @@ fn turns_of(word: &str) -> Option<u32>
     let count = numeral(word.as_bytes())?;
     if count <= MOST_TURNS {
         Some(count as u32)
+    } else {
+        None
+    }
+}
+
+// The period of a word.
+fn period_of(word: &str) -> Option<u32>
+    ensures value { result ≡ period_of word.now }
+    ensures first { IfSome result (λ t. 1 ≤ t) }
+{
+    let number = numeral(word.as_bytes())?;
+    if number >= 1 && number <= LAST_PERIOD {
+        Some(number as u32)
     } else {
         None
     }

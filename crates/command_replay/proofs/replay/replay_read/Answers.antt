@@ -1,6 +1,6 @@
 use Rattle.std.proofs.Common.{List, ℕ, inr, subst}
 use Rattle.std.specs.Prelude.{IfOk}
-use Rattle.command_replay.specs.Opened.{OpensAs}
+use Rattle.command_frame.specs.Openings.{OpensAs}
 use Rattle.command_frame.specs.Refusals.{SaysOrFails}
 use Rattle.command_replay.proofs.ReplayLemmas.{broken_answer}
 use Rattle.command_replay.proofs.replay.replay_read.Goals as goal

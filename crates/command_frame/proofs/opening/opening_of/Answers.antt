@@ -4,7 +4,7 @@ use Rattle.instance_model.specs.Rules.{first_start_rule}
 use Rattle.command_frame.specs.Openings.{IsOpeningOf}
 use Rattle.command_frame.proofs.RuleNames.{start_rule_names}
 use Rattle.command_frame.proofs.OpeningLemmas.{opening_from}
-use Rattle.command_replay.proofs.replay.opening_of.Goals as goal
+use Rattle.command_frame.proofs.opening.opening_of.Goals as goal
 
 pub infeasible_text-requires : goal.infeasible_text-requires
 infeasible_text-requires c =

@@ -1,0 +1,4 @@
+pub mod WholeYear
+pub mod TableLemmas
+pub mod TableAnswers
+pub mod TableRun
