@@ -38,6 +38,7 @@ returns-in-Err g c =
     c.refuse.result
     (refused_ends source files c.args.turns old mid new read.only_reads c.in-Err.refusal c.refuse.result
     c.refuse.ensures.keeps read.kept
-    (subst (λ (l : Limits). IsInstanceCause l 2 source.instance old mid c.in-Err.refusal) c.standard-limits.ensures read.err)
+    (subst (λ (l : Limits). IsInstanceCause l 2 source.instance old mid c.in-Err.refusal)
+    c.standard-limits.ensures read.err)
     c.refuse.ensures.ends)
     (omega (arith, read.only_reads.later, c.refuse.ensures.keeps.later))
