@@ -1,0 +1,4 @@
+pub mod TextLemmas
+pub mod LoopLemmas
+pub mod SizeLemmas
+pub mod NumberSizes
