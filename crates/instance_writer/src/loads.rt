@@ -21,7 +21,10 @@ pub fn is_running<V: InstanceView>(view: &V, i: u32, s: u32, t: u32) -> bool
     ensures { result ≡ (is_allowed (V.tables view.now) i s && in_run (V.tables view.now) i s t) }
 {
     let past = u64::from(s) + u64::from(view.delta(i, s));
-    past <= u64::from(view.instance().periods()) + 1 && s <= t && u64::from(t) < past
+    if t < s || u64::from(view.instance().periods()) + 1 < past {
+        return false;
+    }
+    u64::from(t) < past
 }
 
 fn load_at<V: InstanceView>(view: &V, i: u32, s: u32, c: u32, t: u32) -> Option<Fixed>

@@ -81,6 +81,7 @@ fn put_scenarios<S: Sink>(inst: &Instance, sink: &mut S)
     ensures ready { S.IsReady sink.new }
     ensures text { S.Takes (spell (whole_list inst.now.scenarios)) sink.old sink.new }
 {
+    inst.fits();
     sink.put(b"[");
     let mut first = true;
     for k in 0..inst.periods() {
