@@ -1,5 +1,5 @@
 -- The elements and fields that the loops put out, by place.
-use Rattle.std.specs.Prelude.{ℕ, ◌+◌, List, [], ◌∷◌, Option, Some, cond, decimal, map, slice_index_or}
+use Rattle.std.specs.Prelude.{ℕ, ◌+◌, ℤ, pos, List, [], ◌∷◌, Option, Some, cond, decimal, map, slice_index_or}
 use Rattle.json_spelling.specs.Value.{Value, Field}
 use Rattle.instance_model.specs.Tables.{Tables, upper_of, lower_of, in_season_of, delta_of, scenarios_of}
 use Rattle.instance_text.specs.Styles.{decimals}
@@ -26,3 +26,6 @@ duration_item inst i k = whole_number (delta_of inst i (k + 1)) ∷ []
 
 abbrev pub scenarios_item : Tables → ℕ → List Value
 scenarios_item inst k = whole_number (scenarios_of inst (k + 1)) ∷ []
+
+abbrev pub count_item : List ℤ → ℕ → List Value
+count_item zs k = count_number decimals (slice_index_or zs k (pos 0)) ∷ []

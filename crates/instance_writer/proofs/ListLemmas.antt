@@ -2,13 +2,15 @@
 use Rattle.std.proofs.Common.{◌≡◌, ℕ, zero, suc, ◌+◌, ◌-◌, ◌<◌, ◌≤◌, List, [], ◌∷◌, ◌++◌, length, take, get_or, map, refl, sym, ◌∙◌}
 use Rattle.std.proofs.Common.{ap, arith, add-one}
 use Rattle.std.proofs.lemmas.List.{map-append, take_more, take_all}
-use Rattle.std.specs.Prelude.{ℤ}
+use Rattle.std.specs.Prelude.{ℤ, pos}
 use Rattle.fixed_num.specs.Sums.{list_of}
 use Rattle.fixed_num.proofs.SumLemmas.{list_of_more}
 use Rattle.json_spelling.specs.Value.{Value}
 use Rattle.instance_model.specs.Tables.{Tables, tmax, durations, delta_of, scenarios_of}
 use Rattle.instance_shape.specs.FileTables.{lists_below}
-use Rattle.instance_text.specs.Written.{whole_number}
+use Rattle.instance_text.specs.Styles.{decimals}
+use Rattle.instance_text.specs.Written.{whole_number, count_number}
+use Rattle.instance_writer.proofs.Items.{count_item}
 
 pub lists_same : {A : Type 0} (n : ℕ) (f h : ℕ → List A) → ((k : ℕ) → k < n → f k ≡ h k)
     → lists_below n f ≡ lists_below n h
@@ -52,3 +54,16 @@ pub map-scenarios : (inst : Tables) → map whole_number inst.scenarios
     ≡ lists_below (length inst.scenarios) (λ k. whole_number (scenarios_of inst (k + 1)) ∷ [])
 unfolding scenarios_of
 map-scenarios inst = map_of_all whole_number inst.scenarios
+
+counts_of_first : (h : ℤ → Value) (xs : List ℤ) (n : ℕ) → n ≤ length xs
+    → map h (take n xs) ≡ lists_below n (λ k. h (get_or xs k (pos 0)) ∷ [])
+counts_of_first h xs zero low = refl
+counts_of_first h xs (suc n) low =
+    ap (map h) (ap (λ k. take k xs) (sym (add-one n)) ∙ take_more xs n (pos 0) (omega arith))
+    ∙ map-append h (take n xs) (get_or xs n (pos 0) ∷ [])
+    ∙ ap (λ l. l ++ h (get_or xs n (pos 0)) ∷ []) (counts_of_first h xs n (omega arith))
+
+pub map-counts : (xs : List ℤ) → map (count_number decimals) xs ≡ lists_below (length xs) (count_item xs)
+map-counts xs =
+    ap (map (count_number decimals)) (sym (take_all (length xs) xs (omega arith)))
+    ∙ counts_of_first (count_number decimals) xs (length xs) (omega arith)

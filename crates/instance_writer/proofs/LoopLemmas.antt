@@ -1,13 +1,13 @@
 -- Texts that are taken piece by piece: one after another, and element by element in a loop.
-use Rattle.std.proofs.Common.{◌≡◌, ℕ, ◌+◌, Bool, true, false, List, [], ◌∷◌, ◌++◌, refl, sym, ◌∙◌, ap, subst}
+use Rattle.std.proofs.Common.{◌≡◌, ℕ, ◌+◌, Bool, true, false, List, [], ◌∷◌, ◌++◌, refl, sym, ◌∙◌, ap, subst, Option, Some, None}
 use Rattle.std.proofs.Common.{add-one}
 use Rattle.json_spelling.specs.Value.{Value, values_of, Field, field}
 use Rattle.json_spelling.specs.Spelling.{quoted, spell, spell_values, spell_fields}
 use Rattle.instance_shape.specs.FileTables.{lists_below}
-use Rattle.instance_text.specs.Written.{object_of}
+use Rattle.instance_text.specs.Written.{object_of, optional}
 use Rattle.instance_writer.specs.Steps.{separator, values_text, fields_text, is_first_after}
 use Rattle.instance_writer.proofs.TextLemmas.{values_text-append, spell-list, fields_text-append, fields_text-one}
-use Rattle.instance_writer.proofs.TextLemmas.{spell-object, first_after_both}
+use Rattle.instance_writer.proofs.TextLemmas.{spell-object, fields_text-none, first_after_both}
 
 pub lists_more : {A : Type 0} (n : ℕ) (f : ℕ → List A) → lists_below (n + 1) f ≡ lists_below n f ++ f n
 lists_more {A = A} n f = ap (λ k. lists_below {A = A} k f) (add-one n)
@@ -113,3 +113,25 @@ module _ {A : Type 0} (Takes : List ℕ → A → A → Type 0)
   pub whole_list : {s t u v : A} (vs : List Value) → Takes (91 ∷ []) s t → Takes (values_text true vs) t u
       → Takes (93 ∷ []) u v → Takes (spell (Value.list (values_of vs))) s v
   whole_list vs begun values ended = respelled Takes (sym (spell-list vs)) (two (two begun values) ended)
+
+  -- the value under a key, where there is one
+  pub put_some : (first : Bool) (key name : List ℕ) (v : Value) (o : Option Value) {s t u : A} → key ≡ name → o ≡ Some v
+      → Takes (separator first ++ (quoted key ++ 58 ∷ [])) s t → Takes (spell v) t u
+      → Takes (fields_text first (optional name o)) s u
+  put_some first key name v o e some front took =
+      respelled Takes (ap (λ (x : Option Value). fields_text first (optional name x)) (sym some))
+      (put_field first key name v e front took)
+
+  pub put_none : (first : Bool) (name : List ℕ) (o : Option Value) {s t : A} → o ≡ None → Takes [] s t
+      → Takes (fields_text first (optional name o)) s t
+  put_none first name o none took =
+      respelled Takes
+      (sym (ap (λ (x : Option Value). fields_text first (optional name x)) none ∙ fields_text-none first)) took
+
+pub first_some : (first : Bool) (name : List ℕ) (v : Value) (o : Option Value) → o ≡ Some v
+    → false ≡ is_first_after first (optional name o)
+first_some first name v o some = ap (λ (x : Option Value). is_first_after first (optional name x)) (sym some)
+
+pub first_none : (first : Bool) (name : List ℕ) (o : Option Value) → o ≡ None
+    → first ≡ is_first_after first (optional name o)
+first_none first name o none = ap (λ (x : Option Value). is_first_after first (optional name x)) (sym none)

@@ -1,7 +1,7 @@
 -- Starts, runs and load cells of a view.
-use Rattle.std.proofs.Common.{◌≡◌, ◌⊎◌, ℕ, ◌+◌, ◌-◌, ◌<◌, ◌≤◌, Bool, true, false, ◌&&◌, cond, List, [], ◌∷◌, refl, ◌∙◌, ap, arith}
+use Rattle.std.proofs.Common.{◌≡◌, ◌⊎◌, ℕ, ◌+◌, ◌-◌, ◌<◌, ◌≤◌, Bool, true, false, ◌&&◌, cond, List, [], ◌∷◌, refl, sym, ◌∙◌, ap, arith}
 use Rattle.std.proofs.Common.{Option, Some, None, inl, inr, is_some, length}
-use Rattle.std.specs.Prelude.{ℤ, nat_lt, IsTrue, All, slice_index, slice_index_or, find, option_map}
+use Rattle.std.specs.Prelude.{ℤ, nat_le, nat_lt, IsTrue, All, slice_index, slice_index_or, find, option_map}
 use Rattle.std.proofs.lemmas.Bool.Decides.{nat_tests}
 use Rattle.std.proofs.lemmas.List.Elements.{All-head, All-tail}
 use Rattle.instance_model.specs.declared.parts.LoadCell.{LoadCell}
@@ -10,6 +10,7 @@ use Rattle.instance_model.specs.Fitting.{AreCells}
 use Rattle.instance_text.specs.Styles.{Style}
 use Rattle.instance_text.specs.Written.{count_number, count_list, risks_of}
 use Rattle.fixed_num.specs.Sums.{list_of}
+use Rattle.fixed_num.proofs.SumLemmas.{list_of_same}
 use Rattle.instance_writer.specs.Views.{IsViewOf, cell_load}
 use Rattle.instance_writer.specs.Steps.{start_load}
 
@@ -89,3 +90,34 @@ risks_some style view i t s = go (is_allowed view i s && in_run view i s t)
         (Some (count_list style (list_of (scenarios_of view t) (λ k. risk_of view i s t (k + 1))))) None) ≡ b
     go true = refl
     go false = refl
+
+pub risks_running : (style : Style) (view : Tables) (i t s : ℕ) → (is_allowed view i s && in_run view i s t) ≡ true
+    → risks_of style view i t s
+    ≡ Some (count_list style (list_of (scenarios_of view t) (λ k. risk_of view i s t (k + 1))))
+risks_running style view i t s runs =
+    ap (λ b. cond b (Some (count_list style (list_of (scenarios_of view t) (λ k. risk_of view i s t (k + 1))))) None) runs
+
+-- ---- starts that a view allows
+
+module _ (inst view : Tables) (shown : IsViewOf inst view) (i s : ℕ) (number : i < length inst.names)
+    (allowed : IsTrue (is_allowed view i s)) where
+  pub same_allowed : is_allowed view i s ≡ is_allowed inst i s
+  unfolding is_allowed allowed_of tmax delta_of
+  same_allowed =
+      ap (λ n. nat_le 1 s && nat_le s n && nat_le (s + delta_of view i s) (view.periods + 1)) (shown.starts i number)
+      ∙ ap (λ d. nat_le 1 s && nat_le s (tmax inst i) && nat_le (s + d) (view.periods + 1))
+      (shown.durations i s number allowed)
+      ∙ ap (λ p. nat_le 1 s && nat_le s (tmax inst i) && nat_le (s + delta_of inst i s) (p + 1))
+      (same_periods inst view shown)
+
+  pub same_run : (t : ℕ) → in_run view i s t ≡ in_run inst i s t
+  unfolding in_run
+  same_run t = ap (λ d. nat_le s t && nat_lt t (s + d)) (shown.durations i s number allowed)
+
+  pub same_risks : (t : ℕ) → IsTrue (in_run view i s t)
+      → list_of (scenarios_of inst t) (λ k. risk_of inst i s t (k + 1))
+      ≡ list_of (scenarios_of view t) (λ k. risk_of view i s t (k + 1))
+  same_risks t running =
+      list_of_same (scenarios_of inst t) (λ k. risk_of inst i s t (k + 1)) (λ k. risk_of view i s t (k + 1))
+      (λ k low. sym (shown.risks i s t (k + 1) number allowed running (omega arith) (omega arith)))
+      ∙ ap (λ n. list_of n (λ k. risk_of view i s t (k + 1))) (sym (same_scenarios inst view shown t))
