@@ -1,8 +1,9 @@
 pub mod TextLemmas
 pub mod LoopLemmas
-pub mod ListLemmas
 pub mod Items
+pub mod ListLemmas
 pub mod ViewLemmas
 pub mod FilledLemmas
+pub mod RootLemmas
 pub mod SizeLemmas
 pub mod NumberSizes
