@@ -7,3 +7,4 @@ pub mod FilledLemmas
 pub mod RootLemmas
 pub mod SizeLemmas
 pub mod NumberSizes
+pub mod FileLemmas

@@ -16,6 +16,7 @@ pub struct OpenFile<'a, D: Desk> {
 
 impl<'a, D: Desk> OpenFile<'a, D> {
     ghost use Rattle.std.specs.Prelude.{[], false};
+    ghost use Rattle.instance_writer.specs.Sinks.{Progress, TakesText, EndsAs};
 
     pub fn new(desk: &'a mut D) -> Self
         ensures same_reference { result.desk.ghost_name ≡ desk.entry.ghost_name }
@@ -34,11 +35,15 @@ impl<'a, D: Desk> OpenFile<'a, D> {
     fn write_out(&mut self, piece: &[u8])
         requires opened { IsTrue (D.shows self.old.desk.now).output.opened }
         requires good { self.old.failed ≡ false }
+        ensures same_reference { self.new.desk.ghost_name ≡ self.old.desk.ghost_name }
+        ensures opened { IsTrue (D.shows self.new.desk.now).output.opened }
+        ensures text { TakesText piece.now
+            (record { shown = D.shows self.old.desk.now; kept = self.old.room; failed = self.old.failed })
+            (record { shown = D.shows self.new.desk.now; kept = self.new.room; failed = self.new.failed }) }
     {
-        if write_pieces(self.desk, &[self.room.bytes(), piece]).is_err() {
-            self.failed = true;
-        } else {
-            self.room.clear();
+        match write_pieces(self.desk, &[self.room.bytes(), piece]) {
+            Ok(()) => self.room.clear(),
+            Err(_) => self.failed = true,
         }
     }
 
@@ -46,6 +51,9 @@ impl<'a, D: Desk> OpenFile<'a, D> {
     pub fn end(&mut self) -> Result<(), Failed>
         requires opened { IsTrue (D.shows self.old.desk.now).output.opened }
         ensures same_reference { self.new.desk.ghost_name ≡ self.old.desk.ghost_name }
+        ensures text { EndsAs self.old.failed
+            (record { shown = D.shows self.old.desk.now; kept = self.old.room; failed = self.old.failed })
+            (D.shows self.new.desk.now) result }
     {
         if self.failed {
             return Err(Failed);
