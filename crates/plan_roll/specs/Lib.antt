@@ -1,0 +1,4 @@
+-- What the contracts cite.
+pub mod Rolled
+pub mod Begun
+pub mod Laws
