@@ -1,5 +1,5 @@
 -- What holds of every rolled instance: its tables fit, and its plans are the plans that go on with the one so far.
-use Rattle.std.specs.Prelude.{◌≡◌, ℕ, ◌≤◌, List, Option, ◌↔◌}
+use Rattle.std.specs.Prelude.{◌≡◌, ℕ, List, Option, ◌↔◌}
 use Rattle.instance_model.specs.Tables.{Tables}
 use Rattle.instance_model.specs.Fitting.{IsFitting}
 use Rattle.instance_model.specs.Plans.{load_sum, scenario_sums}

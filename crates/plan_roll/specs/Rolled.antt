@@ -2,7 +2,7 @@
 -- their starts and the others may only start in that period or later.
 --
 -- `plan` has the starts so far, where an intervention may have none.
-use Rattle.std.specs.Prelude.{ℕ, ◌+◌, ◌-◌, ℤ, pos, Bool, false, not, ◌&&◌, ◌==◌, List, [], Option, Some, None, length}
+use Rattle.std.specs.Prelude.{ℕ, ◌+◌, ℤ, pos, Bool, false, not, ◌&&◌, ◌==◌, List, [], Option, Some, None, length}
 use Rattle.std.specs.Prelude.{map, filter, take, drop, replicate, nat_le, nat_lt, slice_index_or, if◌then◌else◌}
 use Rattle.std.specs.Ordering.{int_eq}
 use Rattle.std.specs.List.{range_with_len}

@@ -6,16 +6,21 @@ ghost use Rattle.plan_roll.specs.Begun.{KeptAreAllowed, kept_rule_at, first_kept
 use instance_model::{Instance, Rule};
 
 /// The rule on starts that intervention `i` breaks at start `s`.
+#[tactic(auto, using(std::proofs::lemmas::Bool::Decides::nat_tests), unfolding(instance_model::specs::Rules::start_rule_at))]
 fn start_rule(inst: &Instance, i: u32, s: u32) -> Option<Rule>
     requires { i < length inst.now.names }
     ensures { result ≡ start_rule_at inst.now i (Some s) }
 {
-    if s < 1 || s > inst.tmax(i) {
-        Some(Rule::Outside { i, s })
-    } else if !inst.allowed(i, s) {
-        Some(Rule::Past { i, s })
-    } else {
+    if s < 1 {
+        return Some(Rule::Outside { i, s });
+    }
+    if s > inst.tmax(i) {
+        return Some(Rule::Outside { i, s });
+    }
+    if inst.allowed(i, s) {
         None
+    } else {
+        Some(Rule::Past { i, s })
     }
 }
 
@@ -25,9 +30,13 @@ fn kept_rule(inst: &Instance, plan: &[Option<u32>], period: u32, i: u32) -> Opti
     requires each { length plan.now ≡ length inst.now.names }
     ensures { result ≡ kept_rule_at inst.now plan.now period i }
 {
-    match plan[i as usize] {
-        Some(s) if s < period => start_rule(inst, i, s),
-        _ => None,
+    let Some(s) = plan[i as usize] else {
+        return None;
+    };
+    if s < period {
+        start_rule(inst, i, s)
+    } else {
+        None
     }
 }
 
