@@ -1,0 +1,4 @@
+pub mod Value
+pub mod Spelling
+pub mod Spellable
+pub mod Placed
