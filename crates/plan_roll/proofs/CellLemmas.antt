@@ -1,9 +1,11 @@
 -- Load cells of the rolled instance.
 use Rattle.std.proofs.Common.{◌^◌, ◌≡◌, ℕ, suc, ◌<◌, ◌≤◌, refl, sym, ◌∙◌, ap, arith, ℤ, pos}
 use Rattle.std.proofs.Common.{Bool, true, false, cond, not, ◌&&◌, List, [], ◌∷◌, length, get_or, Option, Some, None}
-use Rattle.std.proofs.Common.{unsigned_abs, unwrap_or}
+use Rattle.std.proofs.Common.{to_z, of_z, unsigned_abs, unwrap_or}
 use Rattle.std.specs.Prelude.{find, filter, All, AllPairs, option_map, IsTrue}
 use Rattle.std.specs.Ordering.{int_eq}
+use Rattle.std.specs.Int.{w128}
+use Rattle.fixed_num.proofs.SignedLemmas.{back_from_abs}
 use Rattle.std.proofs.lemmas.Bool.Decides.{nat_tests, Decides-int_eq}
 use Rattle.std.proofs.lemmas.List.FromFn.{get_or-map-range_with_len}
 use Rattle.std.proofs.lemmas.List.Elements.{All-head, All-tail, All-filter, All-weaker, filter_passes}
@@ -56,6 +58,20 @@ not_false false h = absurd (cc)
 -- a load, unless it is 0
 abbrev pub nonzero : ℤ → Option ℤ
 nonzero z = cond (int_eq z (pos 0)) None (Some z)
+
+-- by the bits of the load
+pub none_by_bits : (z : ℤ) → unsigned_abs z < 10 ^ 20 → of_z w128 z ≡ 0 → nonzero z ≡ None
+none_by_bits z h e =
+    let small : unsigned_abs z < 2 ^ 127 = omega (arith, h) in
+    let zero_is : z ≡ pos 0 = sym (back_from_abs z small) ∙ ap (to_z w128) e in
+    ap nonzero zero_is
+
+pub some_by_bits : (z : ℤ) → (of_z w128 z ≡ 0 → ⊥) → nonzero z ≡ Some z
+some_by_bits z h = by (int_eq z (pos 0)) refl
+  where
+    by : (b : Bool) → int_eq z (pos 0) ≡ b → cond b None (Some z) ≡ Some z
+    by true e = absurd (h (ap (of_z w128) ((Decides-int_eq z (pos 0)).0 e)))
+    by false e = refl
 
 unwrap_nonzero : (z : ℤ) → unwrap_or (nonzero z) (pos 0) ≡ z
 unwrap_nonzero z = by (int_eq z (pos 0)) refl

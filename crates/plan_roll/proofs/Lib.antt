@@ -4,3 +4,7 @@ pub mod RiskLemmas
 pub mod FitLaw
 pub mod PlanLaw
 pub mod BegunLemmas
+pub mod NamesLaw
+pub mod WithinLaw
+pub mod TextLaw
+pub mod ViewLaw

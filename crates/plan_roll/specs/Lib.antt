@@ -2,3 +2,4 @@
 pub mod Rolled
 pub mod Begun
 pub mod Laws
+pub mod Texts

@@ -7,6 +7,7 @@
 
 mod kept;
 mod laws;
+mod view;
 
 pub use instance_model::Rule;
 pub use kept::kept_fault;
