@@ -1,7 +1,7 @@
 -- What was read of the files of a check.
 use Rattle.std.proofs.Common.{ℕ, ◌≤◌, List, Option}
 use Rattle.plan_desk.specs.Desk.{Shown}
-use Rattle.instance_model.specs.Limits.{standard_limits}
+use Rattle.instance_model.specs.declared.limits.Limits.{Limits}
 use Rattle.instance_model.specs.Tables.{Tables}
 use Rattle.branch_tree.specs.declared.certificate.Certificate.{Certificate}
 use Rattle.command_frame.specs.Sources.{Source}
@@ -18,52 +18,53 @@ use Rattle.command_frame.proofs.ReadLemmas.{due_within, after_instance}
 use Rattle.command_frame.proofs.CertificateLemmas.{certificate_cause_due, given_cause_due, after_given}
 
 -- what is due for the certificate of a check
-abbrev pub OnChecked : List ℕ → Tables → (old new : Shown) → Option (List (Option ℕ)) → Answer → Type 0
-OnChecked cert_name inst old new given =
-    OnCertificate standard_limits inst (reading old new) 4 cert_name (Checks inst given)
+abbrev pub OnChecked : Limits → List ℕ → Tables → (old new : Shown) → Option (List (Option ℕ)) → Answer → Type 0
+OnChecked limits cert_name inst old new given =
+    OnCertificate limits inst (reading old new) 4 cert_name (Checks inst given)
 
-pub check_refuses_plan : (source : Source) (name : Option (List ℕ)) (cert_name : List ℕ) (old mid new : Shown)
-    (inst : Tables) (r : Refusal)
-    → ReadsInstance standard_limits source old inst → IsRead old mid
-    → IsGivenCause 3 name inst mid new r
-    → IsDueAs (AnswersCheck standard_limits (reading old new) source.slack source.instance name cert_name) r
-check_refuses_plan source name cert_name old mid new inst r reads read cause =
-    due_within (OnGiven standard_limits inst (reading mid new) 3 name (OnChecked cert_name inst old new))
-    (AnswersCheck standard_limits (reading old new) source.slack source.instance name cert_name) r
-    (λ a due. after_instance source old new inst
-    (λ i. OnGiven standard_limits i (reading old new) 3 name (OnChecked cert_name i old new)) a reads
-    (on_given_other standard_limits inst (reading mid new) (reading old new) 3 name name
-    (OnChecked cert_name inst old new) (OnChecked cert_name inst old new) a (before_given name old mid new read)
-    (λ x b n. n) due))
-    (given_cause_due 3 name inst mid new (OnChecked cert_name inst old new) r cause)
+pub check_refuses_plan : (limits : Limits) (source : Source) (name : Option (List ℕ)) (cert_name : List ℕ)
+    (old mid new : Shown) (inst : Tables) (r : Refusal)
+    → ReadsInstance limits source old inst → IsRead old mid
+    → IsGivenCause limits 3 name inst mid new r
+    → IsDueAs (AnswersCheck limits (reading old new) source.slack source.instance name cert_name) r
+check_refuses_plan limits source name cert_name old mid new inst r reads read cause =
+    due_within (OnGiven limits inst (reading mid new) 3 name (OnChecked limits cert_name inst old new))
+    (AnswersCheck limits (reading old new) source.slack source.instance name cert_name) r
+    (λ a due. after_instance limits source old new inst
+    (λ i. OnGiven limits i (reading old new) 3 name (OnChecked limits cert_name i old new)) a reads
+    (on_given_other limits inst (reading mid new) (reading old new) 3 name name
+    (OnChecked limits cert_name inst old new) (OnChecked limits cert_name inst old new) a
+    (before_given name old mid new read) (λ x b n. n) due))
+    (given_cause_due limits 3 name inst mid new (OnChecked limits cert_name inst old new) r cause)
 
-pub check_refuses_certificate : (source : Source) (name : Option (List ℕ)) (cert_name : List ℕ)
+pub check_refuses_certificate : (limits : Limits) (source : Source) (name : Option (List ℕ)) (cert_name : List ℕ)
     (old mid last new : Shown) (inst : Tables) (given : Option (List (Option ℕ))) (r : Refusal)
-    → ReadsInstance standard_limits source old inst → IsRead old mid → ReadsGiven standard_limits name inst mid given
-    → mid.faults ≤ last.faults → AfterGiven name mid last → IsCertificateCause 4 cert_name inst last new r
-    → IsDueAs (AnswersCheck standard_limits (reading old new) source.slack source.instance name cert_name) r
-check_refuses_certificate source name cert_name old mid last new inst given r reads read reads_given later after cause =
-    due_within (OnCertificate standard_limits inst (reading last new) 4 cert_name (Checks inst given))
-    (AnswersCheck standard_limits (reading old new) source.slack source.instance name cert_name) r
-    (λ a due. after_instance source old new inst
-    (λ i. OnGiven standard_limits i (reading old new) 3 name (OnChecked cert_name i old new)) a reads
-    (after_given 3 name old mid new inst given (OnChecked cert_name inst old new) a read reads_given
-    (on_other (reading last new) (reading old new) 4 cert_name cert_name (RefusesCertificate standard_limits inst)
-    (SpellsOne standard_limits inst) (Checks inst given) (Checks inst given) a
+    → ReadsInstance limits source old inst → IsRead old mid → ReadsGiven limits name inst mid given
+    → mid.faults ≤ last.faults → AfterGiven name mid last → IsCertificateCause limits 4 cert_name inst last new r
+    → IsDueAs (AnswersCheck limits (reading old new) source.slack source.instance name cert_name) r
+check_refuses_certificate limits source name cert_name old mid last new inst given r reads read reads_given later
+    after cause =
+    due_within (OnCertificate limits inst (reading last new) 4 cert_name (Checks inst given))
+    (AnswersCheck limits (reading old new) source.slack source.instance name cert_name) r
+    (λ a due. after_instance limits source old new inst
+    (λ i. OnGiven limits i (reading old new) 3 name (OnChecked limits cert_name i old new)) a reads
+    (after_given limits 3 name old mid new inst given (OnChecked limits cert_name inst old new) a read reads_given
+    (on_other (reading last new) (reading old new) 4 cert_name cert_name (RefusesCertificate limits inst)
+    (SpellsOne limits inst) (Checks inst given) (Checks inst given) a
     (before_reading cert_name old last new (read_given name old mid last read later after)) (λ x b n. n) due)))
-    (certificate_cause_due 4 cert_name inst last new (Checks inst given) r cause)
+    (certificate_cause_due limits 4 cert_name inst last new (Checks inst given) r cause)
 
-pub check_answers : (source : Source) (name : Option (List ℕ)) (cert_name : List ℕ) (old mid last new : Shown)
-    (inst : Tables) (given : Option (List (Option ℕ))) (cert : Certificate) (a : Answer)
-    → ReadsInstance standard_limits source old inst → IsRead old mid → ReadsGiven standard_limits name inst mid given
+pub check_answers : (limits : Limits) (source : Source) (name : Option (List ℕ)) (cert_name : List ℕ)
+    (old mid last new : Shown) (inst : Tables) (given : Option (List (Option ℕ))) (cert : Certificate) (a : Answer)
+    → ReadsInstance limits source old inst → IsRead old mid → ReadsGiven limits name inst mid given
     → mid.faults ≤ last.faults → AfterGiven name mid last
-    → ReadsCertificate standard_limits cert_name inst last cert → Checks inst given cert a
-    → AnswersCheck standard_limits (reading old new) source.slack source.instance name cert_name a
-check_answers source name cert_name old mid last new inst given cert a reads read reads_given later
+    → ReadsCertificate limits cert_name inst last cert → Checks inst given cert a
+    → AnswersCheck limits (reading old new) source.slack source.instance name cert_name a
+check_answers limits source name cert_name old mid last new inst given cert a reads read reads_given later
     after reads_cert checks =
-    let here = reads_before cert_name old last (λ bytes. SpellsOne standard_limits inst bytes cert)
+    let here = reads_before cert_name old last (λ bytes. SpellsOne limits inst bytes cert)
     (read_given name old mid last read later after) reads_cert in
-    after_instance source old new inst
-    (λ i. OnGiven standard_limits i (reading old new) 3 name (OnChecked cert_name i old new)) a reads
-    (after_given 3 name old mid new inst given (OnChecked cert_name inst old new) a read reads_given
+    after_instance limits source old new inst
+    (λ i. OnGiven limits i (reading old new) 3 name (OnChecked limits cert_name i old new)) a reads
+    (after_given limits 3 name old mid new inst given (OnChecked limits cert_name inst old new) a read reads_given
     (stands here.bytes cert a here.held here.such checks))

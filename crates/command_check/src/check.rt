@@ -3,6 +3,7 @@
 ghost use Rattle.std.specs.Prelude.{◌≡◌, ◌<◌, ◌≤◌, ◌^◌, length, option_copied, Some, IfSome, IfOk, IfErr, OnOk};
 ghost use Rattle.std.specs.Prelude.{unsigned_abs};
 ghost use Rattle.instance_model.specs.Limits.{standard_limits};
+ghost use Rattle.instance_shape.specs.Ranges.{AreStandard};
 ghost use Rattle.branch_tree.specs.Ranges.{IsInRange};
 ghost use Rattle.plan_desk.specs.Contents.{OnlyReads};
 ghost use Rattle.command_frame.specs.Sources.{source_view};
@@ -18,7 +19,7 @@ use command_frame::{
     Refusal, Report, Source, accepted_text, certificate_of, given_plan_of, infeasible_text,
     instance_of, leaf_text, say_report,
 };
-use instance_model::Instance;
+use instance_model::{Instance, Limits};
 use plan_desk::Desk;
 use plan_score::{Rule, broken_rule, plan_values};
 use plan_text::Plan;
@@ -45,31 +46,34 @@ pub fn check_files<D: Desk>(
     ensures { RunsCheck standard_limits (source_view source.now) (option_copied plan.entry) certificate.now
         (D.shows desk.old) (D.shows desk.new) result }
 {
-    let report = check_certificate(alloc, source, plan, certificate, desk);
+    let limits = Limits::standard();
+    let report = check_certificate(alloc, &limits, source, plan, certificate, desk);
     say_report(alloc, desk, report)
 }
 
 // Reads the instance, then the plan if one is given, then the certificate, and checks it.
 fn check_certificate<D: Desk>(
     alloc: Global,
+    limits: &Limits,
     source: &Source<'_>,
     plan: Option<&str>,
     certificate: &str,
     desk: &mut D,
 ) -> Result<Report, Refusal>
+    requires standard { AreStandard limits.now }
     requires small { source.now.slack ≤ 1_000_000_000 }
-    ensures ok { IfOk result (λ report. AnswersCheck standard_limits (reading (D.shows desk.old) (D.shows desk.new))
+    ensures ok { IfOk result (λ report. AnswersCheck limits.now (reading (D.shows desk.old) (D.shows desk.new))
         source.now.slack source.now.instance.now (option_copied plan.entry) certificate.now
         (reply report.status report.text)) }
-    ensures err { IfErr result (IsDueAs (AnswersCheck standard_limits (reading (D.shows desk.old) (D.shows desk.new))
+    ensures err { IfErr result (IsDueAs (AnswersCheck limits.now (reading (D.shows desk.old) (D.shows desk.new))
         source.now.slack source.now.instance.now (option_copied plan.entry) certificate.now)) }
     ensures last { OnOk result ((D.shows desk.new).last ≡ (D.shows desk.old).last) }
     ensures kept { IfErr result (KeepsLast (D.shows desk.old) (D.shows desk.new)) }
     ensures only_reads { OnlyReads (D.shows desk.old) (D.shows desk.new) }
 {
-    let inst = instance_of(alloc, 2, source, desk)?;
-    let plan = given_plan_of(alloc, &inst, 3, plan, desk)?;
-    let certificate = certificate_of(alloc, &inst, 4, certificate, desk)?;
+    let inst = instance_of(alloc, limits, 2, source, desk)?;
+    let plan = given_plan_of(alloc, limits, &inst, 3, plan, desk)?;
+    let certificate = certificate_of(alloc, limits, &inst, 4, certificate, desk)?;
     match report_on(alloc, &inst, &plan, &certificate) {
         Ok(report) => Ok(report),
         Err(_) => Err(Refusal::Memory),

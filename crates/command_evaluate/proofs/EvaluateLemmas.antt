@@ -2,7 +2,7 @@
 use Rattle.std.proofs.Common.{◌≡◌, ℕ, List, Option, Some, None, true, false, sym, ◌∙◌, ap, subst}
 use Rattle.std.specs.Prelude.{is_some}
 use Rattle.plan_desk.specs.Desk.{Shown}
-use Rattle.instance_model.specs.Limits.{standard_limits}
+use Rattle.instance_model.specs.declared.limits.Limits.{Limits}
 use Rattle.instance_model.specs.Tables.{Tables}
 use Rattle.instance_model.specs.Rules.{first_rule}
 use Rattle.instance_model.specs.declared.rule.Rule.{Rule}
@@ -22,14 +22,14 @@ use Rattle.command_frame.proofs.FileLemmas.{IsRead}
 use Rattle.command_frame.proofs.ReadLemmas.{after_instance, after_plan}
 use Rattle.command_frame.proofs.RuleNames.{rule_names}
 
-pub evaluate_judges : (source : Source) (name : List ℕ) (old mid new : Shown) (inst : Tables)
+pub evaluate_judges : (limits : Limits) (source : Source) (name : List ℕ) (old mid new : Shown) (inst : Tables)
     (plan : List (Option ℕ)) (a : Answer)
-    → ReadsInstance standard_limits source old inst → IsRead old mid
-    → ReadsPlan standard_limits name inst mid plan → Judges inst plan a
-    → AnswersEvaluate standard_limits (reading old new) source.slack source.instance name a
-evaluate_judges source name old mid new inst plan a reads read reads_plan judges =
-    after_instance source old new inst (λ i. OnPlan standard_limits i (reading old new) 3 name (Judges i)) a reads
-    (after_plan name old mid new inst plan (Judges inst) a read reads_plan judges)
+    → ReadsInstance limits source old inst → IsRead old mid
+    → ReadsPlan limits name inst mid plan → Judges inst plan a
+    → AnswersEvaluate limits (reading old new) source.slack source.instance name a
+evaluate_judges limits source name old mid new inst plan a reads read reads_plan judges =
+    after_instance limits source old new inst (λ i. OnPlan limits i (reading old new) 3 name (Judges i)) a reads
+    (after_plan limits name old mid new inst plan (Judges inst) a read reads_plan judges)
 
 -- ---- the verdict
 

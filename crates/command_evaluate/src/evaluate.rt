@@ -1,6 +1,7 @@
 //! The command `evaluate`: both files are read, the plan is judged, and the report is said.
 ghost use Rattle.std.specs.Prelude.{◌≡◌, ◌≤◌, length, IfOk, IfErr, OnOk};
 ghost use Rattle.instance_model.specs.Limits.{standard_limits};
+ghost use Rattle.instance_shape.specs.Ranges.{AreStandard};
 ghost use Rattle.plan_desk.specs.Contents.{OnlyReads};
 ghost use Rattle.command_frame.specs.Sources.{source_view};
 ghost use Rattle.command_frame.specs.Ending.{reply};
@@ -11,7 +12,7 @@ ghost use Rattle.command_frame.specs.Refusals.{KeepsLast, IsDueAs};
 use command_frame::{
     Refusal, Report, Source, feasible_text, infeasible_text, instance_of, plan_of, say_report,
 };
-use instance_model::Instance;
+use instance_model::{Instance, Limits};
 use plan_desk::Desk;
 use plan_score::{Verdict, judge};
 use plan_text::Plan;
@@ -23,28 +24,31 @@ pub fn evaluate_files<D: Desk>(alloc: Global, source: &Source<'_>, plan: &str, d
     ensures { RunsEvaluate standard_limits (source_view source.now) plan.now (D.shows desk.old)
         (D.shows desk.new) result }
 {
-    let report = evaluate(alloc, source, plan, desk);
+    let limits = Limits::standard();
+    let report = evaluate(alloc, &limits, source, plan, desk);
     say_report(alloc, desk, report)
 }
 
 // Reads the instance, then the plan, and judges it.
 fn evaluate<D: Desk>(
     alloc: Global,
+    limits: &Limits,
     source: &Source<'_>,
     plan: &str,
     desk: &mut D,
 ) -> Result<Report, Refusal>
+    requires standard { AreStandard limits.now }
     requires small { source.now.slack ≤ 1_000_000_000 }
-    ensures ok { IfOk result (λ report. AnswersEvaluate standard_limits (reading (D.shows desk.old) (D.shows desk.new))
+    ensures ok { IfOk result (λ report. AnswersEvaluate limits.now (reading (D.shows desk.old) (D.shows desk.new))
         source.now.slack source.now.instance.now plan.now (reply report.status report.text)) }
-    ensures err { IfErr result (IsDueAs (AnswersEvaluate standard_limits (reading (D.shows desk.old) (D.shows desk.new))
+    ensures err { IfErr result (IsDueAs (AnswersEvaluate limits.now (reading (D.shows desk.old) (D.shows desk.new))
         source.now.slack source.now.instance.now plan.now)) }
     ensures last { OnOk result ((D.shows desk.new).last ≡ (D.shows desk.old).last) }
     ensures kept { IfErr result (KeepsLast (D.shows desk.old) (D.shows desk.new)) }
     ensures only_reads { OnlyReads (D.shows desk.old) (D.shows desk.new) }
 {
-    let inst = instance_of(alloc, 2, source, desk)?;
-    let plan = plan_of(alloc, &inst, 3, plan, desk)?;
+    let inst = instance_of(alloc, limits, 2, source, desk)?;
+    let plan = plan_of(alloc, limits, &inst, 3, plan, desk)?;
     match report_on(alloc, &inst, &plan) {
         Ok(report) => Ok(report),
         Err(_) => Err(Refusal::Memory),

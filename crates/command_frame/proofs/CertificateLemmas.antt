@@ -2,7 +2,7 @@
 use Rattle.std.proofs.Common.{◌≡◌, ◌≢◌, ℕ, ◌≤◌, ◌⊎◌, inl, inr, List, length, Option, Some, None, refl, sym, ◌∙◌, subst}
 use Rattle.std.specs.Prelude.{Result, Ok, Err}
 use Rattle.plan_desk.specs.Desk.{Shown}
-use Rattle.instance_model.specs.Limits.{standard_limits}
+use Rattle.instance_model.specs.declared.limits.Limits.{Limits}
 use Rattle.instance_model.specs.Tables.{Tables}
 use Rattle.branch_tree.specs.declared.certificate.Certificate.{Certificate}
 use Rattle.branch_certificate.specs.declared.fault.CertFault.{CertFault}
@@ -60,12 +60,12 @@ err_not_ok : (answer : Result Certificate CertFault) (a : CertFault) (c : Certif
 err_not_ok answer a c e not (inl f) = ok_not_err answer c a f (inl e)
 err_not_ok answer a c e not (inr f) = not (one_err answer a Memory e f)
 
-pub reads_certificate : (name : List ℕ) (inst : Tables) (old : Shown) (bytes : List ℕ)
+pub reads_certificate : (limits : Limits) (name : List ℕ) (inst : Tables) (old : Shown) (bytes : List ℕ)
     (answer : Result Certificate CertFault) (cert : Certificate)
-    → length bytes ≤ standard_limits.certificate_bytes → ReadsBytes name old bytes
+    → length bytes ≤ limits.certificate_bytes → ReadsBytes name old bytes
     → Answered inst bytes answer → answer ≡ Ok cert → IsTextOf inst bytes cert
-    → ReadsCertificate standard_limits name inst old cert
-reads_certificate name inst old bytes answer cert within held answered is text =
+    → ReadsCertificate limits name inst old cert
+reads_certificate limits name inst old bytes answer cert within held answered is text =
     record {
       bytes = bytes;
       held = held;
@@ -76,12 +76,12 @@ reads_certificate name inst old bytes answer cert within held answered is text =
       };
     }
 
-pub reads_certificate_fault : (name : List ℕ) (inst : Tables) (old : Shown) (bytes : List ℕ)
+pub reads_certificate_fault : (limits : Limits) (name : List ℕ) (inst : Tables) (old : Shown) (bytes : List ℕ)
     (answer : Result Certificate CertFault) (fault : CertFault)
-    → length bytes ≤ standard_limits.certificate_bytes → ReadsBytes name old bytes
+    → length bytes ≤ limits.certificate_bytes → ReadsBytes name old bytes
     → Answered inst bytes answer → answer ≡ Err fault → fault ≢ Memory → HasCertFault inst bytes fault
-    → ReadsSuch name old (λ b. HasOneFault standard_limits inst b fault)
-reads_certificate_fault name inst old bytes answer fault within held answered is not has =
+    → ReadsSuch name old (λ b. HasOneFault limits inst b fault)
+reads_certificate_fault limits name inst old bytes answer fault within held answered is not has =
     record {
       bytes = bytes;
       held = held;
@@ -94,46 +94,46 @@ reads_certificate_fault name inst old bytes answer fault within held answered is
 
 -- ---- a refusal is due
 
-pub certificate_cause_due : (word : ℕ) (name : List ℕ) (inst : Tables) (old new : Shown)
+pub certificate_cause_due : (limits : Limits) (word : ℕ) (name : List ℕ) (inst : Tables) (old new : Shown)
     (Next : Certificate → Answer → Type 0) (r : Refusal)
-    → IsCertificateCause word name inst old new r
-    → IsDueAs (OnCertificate standard_limits inst (reading old new) word name Next) r
-certificate_cause_due word name inst old new Next (refusal.Unread w) (is, fails) =
-    inr (subst (λ (n : ℕ). OnCertificate standard_limits inst (reading old new) word name Next (reply 7 (read_line n)))
+    → IsCertificateCause limits word name inst old new r
+    → IsDueAs (OnCertificate limits inst (reading old new) word name Next) r
+certificate_cause_due limits word name inst old new Next (refusal.Unread w) (is, fails) =
+    inr (subst (λ (n : ℕ). OnCertificate limits inst (reading old new) word name Next (reply 7 (read_line n)))
     (sym is) (unread fails))
-certificate_cause_due word name inst old new Next refusal.LongCertificate held =
-    inr (long_refused word name old new (RefusesCertificate standard_limits inst)
-    (SpellsOne standard_limits inst) Next _ standard_limits.certificate_bytes (λ bytes l. long_certificate l) held)
-certificate_cause_due word name inst old new Next (refusal.Certificate fault) reads =
+certificate_cause_due limits word name inst old new Next refusal.LongCertificate held =
+    inr (long_refused word name old new (RefusesCertificate limits inst)
+    (SpellsOne limits inst) Next _ limits.certificate_bytes (λ bytes l. long_certificate l) held)
+certificate_cause_due limits word name inst old new Next (refusal.Certificate fault) reads =
     inr (refused reads.bytes _ reads.held (faulty_certificate fault reads.such))
-certificate_cause_due word name inst old new Next refusal.Memory cause = inl refl
-certificate_cause_due word name inst old new Next refusal.LongInstance cause = absurd cause
-certificate_cause_due word name inst old new Next (refusal.Instance fault) cause = absurd cause
-certificate_cause_due word name inst old new Next refusal.LongPlan cause = absurd cause
-certificate_cause_due word name inst old new Next (refusal.Plan fault) cause = absurd cause
-certificate_cause_due word name inst old new Next refusal.LongScript cause = absurd cause
-certificate_cause_due word name inst old new Next (refusal.Script fault) cause = absurd cause
+certificate_cause_due limits word name inst old new Next refusal.Memory cause = inl refl
+certificate_cause_due limits word name inst old new Next refusal.LongInstance cause = absurd cause
+certificate_cause_due limits word name inst old new Next (refusal.Instance fault) cause = absurd cause
+certificate_cause_due limits word name inst old new Next refusal.LongPlan cause = absurd cause
+certificate_cause_due limits word name inst old new Next (refusal.Plan fault) cause = absurd cause
+certificate_cause_due limits word name inst old new Next refusal.LongScript cause = absurd cause
+certificate_cause_due limits word name inst old new Next (refusal.Script fault) cause = absurd cause
 
-pub given_cause_due : (word : ℕ) (name : Option (List ℕ)) (inst : Tables) (old new : Shown)
+pub given_cause_due : (limits : Limits) (word : ℕ) (name : Option (List ℕ)) (inst : Tables) (old new : Shown)
     (Next : Option (List (Option ℕ)) → Answer → Type 0) (r : Refusal)
-    → IsGivenCause word name inst old new r
-    → IsDueAs (OnGiven standard_limits inst (reading old new) word name Next) r
-given_cause_due word None inst old new Next r cause = absurd cause
-given_cause_due word (Some name) inst old new Next r cause =
-    plan_cause_due word name inst old new (λ p. Next (Some p)) r cause
+    → IsGivenCause limits word name inst old new r
+    → IsDueAs (OnGiven limits inst (reading old new) word name Next) r
+given_cause_due limits word None inst old new Next r cause = absurd cause
+given_cause_due limits word (Some name) inst old new Next r cause =
+    plan_cause_due limits word name inst old new (λ p. Next (Some p)) r cause
 
 -- ---- the plan was read, if one is given
 
 -- the plan was read, if one is given, and then the next answer is due
-pub after_given : (word : ℕ) (name : Option (List ℕ)) (old mid new : Shown) (inst : Tables)
+pub after_given : (limits : Limits) (word : ℕ) (name : Option (List ℕ)) (old mid new : Shown) (inst : Tables)
     (plan : Option (List (Option ℕ))) (Next : Option (List (Option ℕ)) → Answer → Type 0) (a : Answer)
     → IsRead old mid
-    → ReadsGiven standard_limits name inst mid plan → Next plan a
-    → OnGiven standard_limits inst (reading old new) word name Next a
-after_given word None old mid new inst None Next a read reads next = next
-after_given word None old mid new inst (Some plan) Next a read reads next = absurd reads
-after_given word (Some name) old mid new inst None Next a read reads next = absurd reads
-after_given word (Some name) old mid new inst (Some plan) Next a read reads next =
+    → ReadsGiven limits name inst mid plan → Next plan a
+    → OnGiven limits inst (reading old new) word name Next a
+after_given limits word None old mid new inst None Next a read reads next = next
+after_given limits word None old mid new inst (Some plan) Next a read reads next = absurd reads
+after_given limits word (Some name) old mid new inst None Next a read reads next = absurd reads
+after_given limits word (Some name) old mid new inst (Some plan) Next a read reads next =
     let here = reads_before name old mid
-    (λ bytes. Spells standard_limits inst bytes plan) read reads in stands here.bytes plan a here.held here.such
+    (λ bytes. Spells limits inst bytes plan) read reads in stands here.bytes plan a here.held here.such
     next

@@ -2,7 +2,7 @@
 use Rattle.std.specs.Prelude.{◌≡◌, ◌≢◌, ◌⊎◌, ℕ, ◌<◌, ⊤, List, [], length, take, Option, Some, None, Result, Ok, Err}
 use Rattle.plan_desk.specs.Desk.{Shown, ShowsSame, after_take_in}
 use Rattle.plan_desk.specs.Contents.{WhereToldHolds, Says}
-use Rattle.instance_model.specs.Limits.{standard_limits}
+use Rattle.instance_model.specs.declared.limits.Limits.{Limits}
 use Rattle.instance_model.specs.Tables.{Tables}
 use Rattle.instance_shape.specs.FileFaults.{FileFault}
 use Rattle.instance_read.specs.Faults.{fault_of}
@@ -63,44 +63,44 @@ pub data IsReadCause (name : List ℕ) (word most : ℕ) (long : Refusal) (old n
   no_memory : IsReadCause name word most long old new Memory
 
 -- why the instance file of this name, which is this word, is refused
-abbrev pub IsInstanceCause : ℕ → List ℕ → (old new : Shown) → Refusal → Type 0
-IsInstanceCause at name old new (Unread word) = (word ≡ at) × ReadFails name old new
-IsInstanceCause at name old new LongInstance = WhereToldHolds old name (IsLongInstance standard_limits)
-IsInstanceCause at name old new (Instance fault) = (told : FileFault) × (fault_of fault ≡ Some told)
-    × ReadsSuch name old (λ bytes. IsOneFault standard_limits bytes told)
-IsInstanceCause at name old new Memory = ⊤
-IsInstanceCause at name old new _ = ⊥
+abbrev pub IsInstanceCause : Limits → ℕ → List ℕ → (old new : Shown) → Refusal → Type 0
+IsInstanceCause limits at name old new (Unread word) = (word ≡ at) × ReadFails name old new
+IsInstanceCause limits at name old new LongInstance = WhereToldHolds old name (IsLongInstance limits)
+IsInstanceCause limits at name old new (Instance fault) = (told : FileFault) × (fault_of fault ≡ Some told)
+    × ReadsSuch name old (λ bytes. IsOneFault limits bytes told)
+IsInstanceCause limits at name old new Memory = ⊤
+IsInstanceCause limits at name old new _ = ⊥
 
 -- why the plan file of this name, which is this word, is refused for an instance
-abbrev pub IsPlanCause : ℕ → List ℕ → Tables → (old new : Shown) → Refusal → Type 0
-IsPlanCause at name inst old new (Unread word) = (word ≡ at) × ReadFails name old new
-IsPlanCause at name inst old new LongPlan = WhereToldHolds old name (IsLongPlan standard_limits)
-IsPlanCause at name inst old new (Plan fault) = ReadsSuch name old (λ bytes. HasFault standard_limits inst bytes fault)
-IsPlanCause at name inst old new Memory = ⊤
-IsPlanCause at name inst old new _ = ⊥
+abbrev pub IsPlanCause : Limits → ℕ → List ℕ → Tables → (old new : Shown) → Refusal → Type 0
+IsPlanCause limits at name inst old new (Unread word) = (word ≡ at) × ReadFails name old new
+IsPlanCause limits at name inst old new LongPlan = WhereToldHolds old name (IsLongPlan limits)
+IsPlanCause limits at name inst old new (Plan fault) = ReadsSuch name old (λ bytes. HasFault limits inst bytes fault)
+IsPlanCause limits at name inst old new Memory = ⊤
+IsPlanCause limits at name inst old new _ = ⊥
 
 -- why the script file of this name, which is this word, is refused for an instance
-abbrev pub IsScriptCause : ℕ → List ℕ → Tables → (old new : Shown) → Refusal → Type 0
-IsScriptCause at name inst old new (Unread word) = (word ≡ at) × ReadFails name old new
-IsScriptCause at name inst old new LongScript = WhereToldHolds old name (IsLongScript standard_limits)
-IsScriptCause at name inst old new (Script fault) =
-    ReadsSuch name old (λ bytes. HasFaultyLine standard_limits inst bytes fault)
-IsScriptCause at name inst old new Memory = ⊤
-IsScriptCause at name inst old new _ = ⊥
+abbrev pub IsScriptCause : Limits → ℕ → List ℕ → Tables → (old new : Shown) → Refusal → Type 0
+IsScriptCause limits at name inst old new (Unread word) = (word ≡ at) × ReadFails name old new
+IsScriptCause limits at name inst old new LongScript = WhereToldHolds old name (IsLongScript limits)
+IsScriptCause limits at name inst old new (Script fault) =
+    ReadsSuch name old (λ bytes. HasFaultyLine limits inst bytes fault)
+IsScriptCause limits at name inst old new Memory = ⊤
+IsScriptCause limits at name inst old new _ = ⊥
 
 -- why the certificate file of this name, which is this word, is refused for an instance
-abbrev pub IsCertificateCause : ℕ → List ℕ → Tables → (old new : Shown) → Refusal → Type 0
-IsCertificateCause at name inst old new (Unread word) = (word ≡ at) × ReadFails name old new
-IsCertificateCause at name inst old new LongCertificate = WhereToldHolds old name (IsLongCertificate standard_limits)
-IsCertificateCause at name inst old new (Certificate fault) =
-    ReadsSuch name old (λ bytes. HasOneFault standard_limits inst bytes fault)
-IsCertificateCause at name inst old new Memory = ⊤
-IsCertificateCause at name inst old new _ = ⊥
+abbrev pub IsCertificateCause : Limits → ℕ → List ℕ → Tables → (old new : Shown) → Refusal → Type 0
+IsCertificateCause limits at name inst old new (Unread word) = (word ≡ at) × ReadFails name old new
+IsCertificateCause limits at name inst old new LongCertificate = WhereToldHolds old name (IsLongCertificate limits)
+IsCertificateCause limits at name inst old new (Certificate fault) =
+    ReadsSuch name old (λ bytes. HasOneFault limits inst bytes fault)
+IsCertificateCause limits at name inst old new Memory = ⊤
+IsCertificateCause limits at name inst old new _ = ⊥
 
 -- why the plan file of a check is refused, if a plan is given
-abbrev pub IsGivenCause : ℕ → Option (List ℕ) → Tables → (old new : Shown) → Refusal → Type 0
-IsGivenCause at None inst old new refusal = ⊥
-IsGivenCause at (Some name) inst old new refusal = IsPlanCause at name inst old new refusal
+abbrev pub IsGivenCause : Limits → ℕ → Option (List ℕ) → Tables → (old new : Shown) → Refusal → Type 0
+IsGivenCause limits at None inst old new refusal = ⊥
+IsGivenCause limits at (Some name) inst old new refusal = IsPlanCause limits at name inst old new refusal
 
 -- what is shown after the plan file was read, if a plan is given
 abbrev pub AfterGiven : Option (List ℕ) → (old new : Shown) → Type 0

@@ -1,6 +1,6 @@
 //! The files of a command are read. None is changed, and nothing is said.
 ghost use Rattle.std.specs.Prelude.{◌≡◌, ◌≤◌, [], length, pos, All, option_copied, IfSome, IfOk, IfErr, OnOk};
-ghost use Rattle.instance_model.specs.Limits.{standard_limits};
+ghost use Rattle.instance_shape.specs.Ranges.{AreStandard};
 ghost use Rattle.plan_desk.specs.Desk.{ShowsSame, after_take_in};
 ghost use Rattle.plan_moves.specs.Scripts.{NamesKnown};
 ghost use Rattle.branch_tree.specs.Ranges.{IsInRange};
@@ -22,39 +22,26 @@ use plan_desk::{Bytes, Desk, ReadFault, read_all};
 use plan_text::{Plan, PlanFault, read_plan};
 use std::alloc::Global;
 
-/// How many bytes a plan file may have.
-const PLAN_BYTES: u64 = 1 << 24;
-
-/// How many bytes a script file may have.
-const SCRIPT_BYTES: u64 = 1 << 29;
-
-/// How many bytes a certificate file may have.
-const CERTIFICATE_BYTES: u64 = 1 << 28;
-
 /// The instance of a command, its bands widened by the slack. Its file is this word.
 pub fn instance_of<D: Desk>(
     alloc: Global,
+    limits: &Limits,
     word: u64,
     source: &Source<'_>,
     desk: &mut D,
 ) -> Result<Instance, Refusal>
+    requires standard { AreStandard limits.now }
     requires small { source.now.slack ≤ 1_000_000_000 }
-    ensures ok { IfOk result (ReadsInstance standard_limits (source_view source.now) (D.shows desk.old)) }
-    ensures err { IfErr result (IsInstanceCause word source.now.instance.now (D.shows desk.old) (D.shows desk.new)) }
+    ensures ok { IfOk result (ReadsInstance limits.now (source_view source.now) (D.shows desk.old)) }
+    ensures err { IfErr result
+        (IsInstanceCause limits.now word source.now.instance.now (D.shows desk.old) (D.shows desk.new)) }
     ensures read { OnOk result
         (ShowsSame (D.shows desk.new) (after_take_in source.now.instance.now [] (D.shows desk.old))) }
     ensures last { OnOk result ((D.shows desk.new).last ≡ (D.shows desk.old).last) }
     ensures kept { IfErr result (KeepsLast (D.shows desk.old) (D.shows desk.new)) }
     ensures only_reads { OnlyReads (D.shows desk.old) (D.shows desk.new) }
 {
-    let limits = Limits::standard();
-    match read_instance_from(
-        alloc,
-        &limits,
-        widening(source.slack),
-        desk,
-        source.instance,
-    ) {
+    match read_instance_from(alloc, limits, widening(source.slack), desk, source.instance) {
         Ok(inst) => Ok(inst),
         Err(StreamFault::Failed) => Err(Refusal::Unread { word }),
         Err(StreamFault::TooLong) => Err(Refusal::LongInstance),
@@ -103,20 +90,22 @@ fn bytes_of<D: Desk>(
 /// The plan of the file of this name, which is this word.
 pub fn plan_of<D: Desk>(
     alloc: Global,
+    limits: &Limits,
     inst: &Instance,
     word: u64,
     name: &str,
     desk: &mut D,
 ) -> Result<Plan, Refusal>
-    ensures ok { IfOk result (ReadsPlan standard_limits name.now inst.now (D.shows desk.old)) }
+    ensures ok { IfOk result (ReadsPlan limits.now name.now inst.now (D.shows desk.old)) }
     ensures each { IfOk result (λ plan. length plan ≡ length inst.now.names) }
-    ensures err { IfErr result (IsPlanCause word name.now inst.now (D.shows desk.old) (D.shows desk.new)) }
+    ensures err { IfErr result (IsPlanCause limits.now word name.now inst.now (D.shows desk.old) (D.shows desk.new)) }
     ensures read { OnOk result (ShowsSame (D.shows desk.new) (after_take_in name.now [] (D.shows desk.old))) }
     ensures last { OnOk result ((D.shows desk.new).last ≡ (D.shows desk.old).last) }
     ensures kept { IfErr result (KeepsLast (D.shows desk.old) (D.shows desk.new)) }
     ensures only_reads { OnlyReads (D.shows desk.old) (D.shows desk.new) }
 {
-    let bytes = bytes_of(alloc, name, word, PLAN_BYTES, Refusal::LongPlan, desk)?;
+    let most = limits.plan_bytes;
+    let bytes = bytes_of(alloc, name, word, most, Refusal::LongPlan, desk)?;
     match read_plan(alloc, inst, bytes.as_slice()) {
         Ok(plan) => Ok(plan),
         Err(PlanFault::Memory) => Err(Refusal::Memory),
@@ -127,19 +116,21 @@ pub fn plan_of<D: Desk>(
 /// The script of the file of this name, which is this word.
 pub fn script_of<D: Desk>(
     alloc: Global,
+    limits: &Limits,
     inst: &Instance,
     word: u64,
     name: &str,
     desk: &mut D,
 ) -> Result<Script, Refusal>
-    ensures ok { IfOk result (ReadsScript standard_limits name.now inst.now (D.shows desk.old)) }
+    ensures ok { IfOk result (ReadsScript limits.now name.now inst.now (D.shows desk.old)) }
     ensures known { IfOk result (All (NamesKnown inst.now)) }
-    ensures err { IfErr result (IsScriptCause word name.now inst.now (D.shows desk.old) (D.shows desk.new)) }
+    ensures err { IfErr result (IsScriptCause limits.now word name.now inst.now (D.shows desk.old) (D.shows desk.new)) }
     ensures last { OnOk result ((D.shows desk.new).last ≡ (D.shows desk.old).last) }
     ensures kept { IfErr result (KeepsLast (D.shows desk.old) (D.shows desk.new)) }
     ensures only_reads { OnlyReads (D.shows desk.old) (D.shows desk.new) }
 {
-    let bytes = bytes_of(alloc, name, word, SCRIPT_BYTES, Refusal::LongScript, desk)?;
+    let most = limits.script_bytes;
+    let bytes = bytes_of(alloc, name, word, most, Refusal::LongScript, desk)?;
     match read_script(alloc, inst, bytes.as_slice()) {
         Ok(script) => Ok(script),
         Err(ScriptFault::Memory) => Err(Refusal::Memory),
@@ -150,15 +141,16 @@ pub fn script_of<D: Desk>(
 /// The plan of the file of this name, which is this word, if one is given.
 pub fn given_plan_of<D: Desk>(
     alloc: Global,
+    limits: &Limits,
     inst: &Instance,
     word: u64,
     name: Option<&str>,
     desk: &mut D,
 ) -> Result<Option<Plan>, Refusal>
-    ensures ok { IfOk result (ReadsGiven standard_limits (option_copied name.entry) inst.now (D.shows desk.old)) }
+    ensures ok { IfOk result (ReadsGiven limits.now (option_copied name.entry) inst.now (D.shows desk.old)) }
     ensures each { IfOk result (λ given. IfSome given (λ plan. length plan ≡ length inst.now.names)) }
     ensures err { IfErr result
-        (IsGivenCause word (option_copied name.entry) inst.now (D.shows desk.old) (D.shows desk.new)) }
+        (IsGivenCause limits.now word (option_copied name.entry) inst.now (D.shows desk.old) (D.shows desk.new)) }
     ensures read { OnOk result (AfterGiven (option_copied name.entry) (D.shows desk.old) (D.shows desk.new)) }
     ensures last { OnOk result ((D.shows desk.new).last ≡ (D.shows desk.old).last) }
     ensures kept { IfErr result (KeepsLast (D.shows desk.old) (D.shows desk.new)) }
@@ -166,33 +158,29 @@ pub fn given_plan_of<D: Desk>(
 {
     match name {
         None => Ok(None),
-        Some(name) => Ok(Some(plan_of(alloc, inst, word, name, desk)?)),
+        Some(name) => Ok(Some(plan_of(alloc, limits, inst, word, name, desk)?)),
     }
 }
 
 /// The certificate of the file of this name, which is this word.
 pub fn certificate_of<D: Desk>(
     alloc: Global,
+    limits: &Limits,
     inst: &Instance,
     word: u64,
     name: &str,
     desk: &mut D,
 ) -> Result<Certificate, Refusal>
-    ensures ok { IfOk result (ReadsCertificate standard_limits name.now inst.now (D.shows desk.old)) }
+    ensures ok { IfOk result (ReadsCertificate limits.now name.now inst.now (D.shows desk.old)) }
     ensures in_range { IfOk result (IsInRange inst.now) }
-    ensures err { IfErr result (IsCertificateCause word name.now inst.now (D.shows desk.old) (D.shows desk.new)) }
+    ensures err { IfErr result
+        (IsCertificateCause limits.now word name.now inst.now (D.shows desk.old) (D.shows desk.new)) }
     ensures last { OnOk result ((D.shows desk.new).last ≡ (D.shows desk.old).last) }
     ensures kept { IfErr result (KeepsLast (D.shows desk.old) (D.shows desk.new)) }
     ensures only_reads { OnlyReads (D.shows desk.old) (D.shows desk.new) }
 {
-    let bytes = bytes_of(
-        alloc,
-        name,
-        word,
-        CERTIFICATE_BYTES,
-        Refusal::LongCertificate,
-        desk,
-    )?;
+    let most = limits.certificate_bytes;
+    let bytes = bytes_of(alloc, name, word, most, Refusal::LongCertificate, desk)?;
     match read_certificate(alloc, inst, bytes.as_slice()) {
         Ok(certificate) => Ok(certificate),
         Err(CertFault::Memory) => Err(Refusal::Memory),

@@ -20,7 +20,7 @@ use Rattle.command_frame.specs.Files.OnFile.{stands}
 use Rattle.command_frame.specs.Openings.{IsOpeningOf}
 use Rattle.command_replay.specs.Replaying.{Replays, AnswersReplay}
 use Rattle.command_replay.specs.Replaying.Replays.{broken_start, ended, not_allowed, nothing_to_undo}
-use Rattle.instance_model.specs.Limits.{standard_limits}
+use Rattle.instance_model.specs.declared.limits.Limits.{Limits}
 use Rattle.command_frame.specs.Reports.{infeasible_report}
 use Rattle.command_frame.specs.Sources.{Source}
 use Rattle.command_replay.specs.declared.replay.Opening.{Opening}
@@ -192,12 +192,12 @@ broken_answer inst plan script old new opening report text status opens is same 
       subst (λ (t : List ℕ). SaysOrFails 1 t old new status) (same ∙ found.2) says,
     )
 
-pub read_answer : (source : Source) (name script_name : List ℕ) (old mid new : Shown) (inst : Tables)
+pub read_answer : (limits : Limits) (source : Source) (name script_name : List ℕ) (old mid new : Shown) (inst : Tables)
     (plan : List (Option ℕ)) (script : List ScriptLine) (status : ℕ)
-    → AreRead source name script_name old inst plan script
-    → SaysAnswer (Replays inst plan script) mid new status → SaysAnswer (AnswersReplay standard_limits (reading old mid)
+    → AreRead limits source name script_name old inst plan script
+    → SaysAnswer (Replays inst plan script) mid new status → SaysAnswer (AnswersReplay limits (reading old mid)
     source.slack source.instance name script_name) mid new status
-read_answer source name script_name old mid new inst plan script status read (inl (due, text, is, says)) = inl (
+read_answer limits source name script_name old mid new inst plan script status read (inl (due, text, is, says)) = inl (
   due,
   text,
   stands read.reads.bytes inst _ read.reads.held read.reads.such
@@ -205,4 +205,4 @@ read_answer source name script_name old mid new inst plan script status read (in
       (stands read.reads_script.bytes script _ read.reads_script.held read.reads_script.such is)),
   says,
 )
-read_answer source name script_name old mid new inst plan script status read (inr says) = inr says
+read_answer limits source name script_name old mid new inst plan script status read (inr says) = inr says

@@ -3,7 +3,7 @@ use Rattle.std.specs.Prelude.{◌≡◌, ℕ, List, length, All, Option, Some}
 use Rattle.plan_desk.specs.Desk.{Shown}
 use Rattle.plan_moves.specs.declared.script_line.ScriptLine.{ScriptLine}
 use Rattle.plan_moves.specs.Scripts.{NamesKnown}
-use Rattle.instance_model.specs.Limits.{standard_limits}
+use Rattle.instance_model.specs.declared.limits.Limits.{Limits}
 use Rattle.instance_model.specs.Tables.{Tables}
 use Rattle.instance_model.specs.Rules.{first_start_rule}
 use Rattle.instance_model.specs.declared.rule.Rule.{Rule}
@@ -15,11 +15,11 @@ use Rattle.command_frame.specs.Files.{ReadsInstance, ReadsPlan, ReadsScript}
 use Rattle.command_frame.specs.Openings.{IsOpeningOf}
 
 -- the three files of `replay` were read
-pub record AreRead (source : Source) (name script_name : List ℕ) (old : Shown) (inst : Tables) (plan : List (Option ℕ))
-    (script : List ScriptLine) : Type 0 where
-  pub reads : ReadsInstance standard_limits source old inst
-  pub reads_plan : ReadsPlan standard_limits name inst old plan
-  pub reads_script : ReadsScript standard_limits script_name inst old script
+pub record AreRead (limits : Limits) (source : Source) (name script_name : List ℕ) (old : Shown) (inst : Tables)
+    (plan : List (Option ℕ)) (script : List ScriptLine) : Type 0 where
+  pub reads : ReadsInstance limits source old inst
+  pub reads_plan : ReadsPlan limits name inst old plan
+  pub reads_script : ReadsScript limits script_name inst old script
   pub each : length plan ≡ length inst.names
   pub known : All (NamesKnown inst) script
 

@@ -1,6 +1,7 @@
 //! The command `replay`: all files are read, and the keys along the script are said.
 ghost use Rattle.std.specs.Prelude.{◌≡◌, ◌≤◌, length, map, All, Some, IfOk, IfErr, OnOk, unwrap_or};
 ghost use Rattle.instance_model.specs.Limits.{standard_limits};
+ghost use Rattle.instance_shape.specs.Ranges.{AreStandard};
 ghost use Rattle.instance_model.specs.Plans.{AreAllowedStarts};
 ghost use Rattle.plan_moves.specs.Scripts.{NamesKnown};
 ghost use Rattle.plan_desk.specs.Contents.{OnlyReads, KeepsFiles};
@@ -14,7 +15,7 @@ use command_frame::{
     MEMORY_LINE, Refusal, Source, Text, infeasible_text, instance_of, plan_of, refuse, say,
     say_numbered, script_of,
 };
-use instance_model::{Instance, Starts};
+use instance_model::{Instance, Limits, Starts};
 use move_script::{ReplayFault, Script, replay};
 use plan_desk::Desk;
 use plan_score::broken_start;
@@ -51,7 +52,8 @@ pub fn replay_files<R: Row, D: Desk>(
     ensures { RunsReplay standard_limits (source_view source.now) plan.now script.now
         (D.shows desk.old) (D.shows desk.new) result }
 {
-    match read_files(alloc, source, plan, script, desk) {
+    let limits = Limits::standard();
+    match read_files(alloc, &limits, source, plan, script, desk) {
         Ok(files) => replay_read::<R, D>(alloc, &files, desk),
         Err(refusal) => refuse(alloc, desk, &refusal),
     }
@@ -60,23 +62,26 @@ pub fn replay_files<R: Row, D: Desk>(
 // Reads the three files.
 fn read_files<D: Desk>(
     alloc: Global,
+    limits: &Limits,
     source: &Source<'_>,
     plan: &str,
     script: &str,
     desk: &mut D,
 ) -> Result<Files, Refusal>
+    requires standard { AreStandard limits.now }
     requires small { source.now.slack ≤ 1_000_000_000 }
     ensures ok { IfOk result (λ files.
-        AreRead (source_view source.now) plan.now script.now (D.shows desk.old) files.inst files.plan files.script) }
-    ensures err { IfErr result (IsDueAs (AnswersReplay standard_limits (reading (D.shows desk.old) (D.shows desk.new))
+        AreRead limits.now (source_view source.now) plan.now script.now (D.shows desk.old) files.inst files.plan
+        files.script) }
+    ensures err { IfErr result (IsDueAs (AnswersReplay limits.now (reading (D.shows desk.old) (D.shows desk.new))
         source.now.slack source.now.instance.now plan.now script.now)) }
     ensures last { OnOk result ((D.shows desk.new).last ≡ (D.shows desk.old).last) }
     ensures kept { IfErr result (KeepsLast (D.shows desk.old) (D.shows desk.new)) }
     ensures only_reads { OnlyReads (D.shows desk.old) (D.shows desk.new) }
 {
-    let inst = instance_of(alloc, 2, source, desk)?;
-    let plan = plan_of(alloc, &inst, 3, plan, desk)?;
-    let script = script_of(alloc, &inst, 4, script, desk)?;
+    let inst = instance_of(alloc, limits, 2, source, desk)?;
+    let plan = plan_of(alloc, limits, &inst, 3, plan, desk)?;
+    let script = script_of(alloc, limits, &inst, 4, script, desk)?;
     Ok(Files { inst, plan, script })
 }
 

@@ -438,8 +438,8 @@ module _ (source : Source) (files : SolveFiles) (turns : ℕ) (old mid new : Sho
       → Ends (DueSolve standard_limits source files turns old) old new status
   solution_ends inst status read last (told a solves tells) =
       told_ends Answers old mid a reads last
-      (after_instance source old mid inst (λ i. Solves standard_limits i files turns) a read solves) new status stays
-      tells
+      (after_instance standard_limits source old mid inst (λ i. Solves standard_limits i files turns) a read solves) new
+      status stays tells
   solution_ends inst status read last (no_memory_left keeps says) =
       memory_ends Answers old mid new status reads keeps last says
 
@@ -451,8 +451,8 @@ module _ (source : Source) (files : SolveFiles) (turns : ℕ) (old mid new : Sho
 
   -- the instance was refused
   pub refused_ends : (refusal : Refusal) (status : ℕ) → KeepsFiles mid new → KeepsLast old mid refusal
-      → IsInstanceCause 2 source.instance old mid refusal → SaysRefused refusal mid new status
+      → IsInstanceCause standard_limits 2 source.instance old mid refusal → SaysRefused refusal mid new status
       → Ends (DueSolve standard_limits source files turns old) old new status
   refused_ends refusal status keeps kept cause says =
       refusal_ends Answers old mid new refusal status (stays new) reads keeps kept
-      (refuses_instance source old mid (λ i. Solves standard_limits i files turns) refusal cause) says
+      (refuses_instance standard_limits source old mid (λ i. Solves standard_limits i files turns) refusal cause) says

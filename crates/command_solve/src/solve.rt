@@ -12,7 +12,7 @@ use command_frame::{
     MEMORY_LINE, Source, WRITE_WORDS, instance_of, put_certificate, put_moves, put_plan, refuse,
     say, say_numbered,
 };
-use instance_model::{Instance, Starts};
+use instance_model::{Instance, Limits, Starts};
 use plan_desk::Desk;
 use quantile_index::Row;
 use std::alloc::Global;
@@ -42,7 +42,8 @@ pub fn solve_files<R: Row, D: Desk>(
     ensures { RunsSolve standard_limits (source_view source.now) (files_view files.now) turns
         (D.shows desk.old) (D.shows desk.new) result }
 {
-    match instance_of(alloc, 2, source, desk) {
+    let limits = Limits::standard();
+    match instance_of(alloc, &limits, 2, source, desk) {
         Ok(inst) => solve_instance::<R, D>(alloc, &inst, files, turns, desk),
         Err(refusal) => refuse(alloc, desk, &refusal),
     }

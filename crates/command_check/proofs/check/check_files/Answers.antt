@@ -1,9 +1,10 @@
 -- A run of `check` from what it read and what it said.
 use Rattle.std.specs.Prelude.{option_copied}
-use Rattle.instance_model.specs.Limits.{standard_limits}
+use Rattle.std.proofs.Common.{subst}
+use Rattle.instance_model.specs.declared.limits.Limits.{Limits}
 use Rattle.command_frame.specs.Sources.{source_view}
 use Rattle.command_frame.specs.Files.{reading}
-use Rattle.command_check.specs.Checking.{AnswersCheck}
+use Rattle.command_check.specs.Checking.{AnswersCheck, RunsCheck}
 use Rattle.command_frame.proofs.EndLemmas.{reads_keep, report_ends}
 use Rattle.command_check.proofs.CheckRun.{check_stays, check_runs}
 use Rattle.command_check.proofs.check.check_files.Goals as goal
@@ -15,12 +16,15 @@ returns g c =
     let new = g.D.Desk.shows c.say_report.new.desk in
     let source = source_view c.args.source.now in
     let plan = option_copied c.args.plan in
+    let limits = c.standard.result in
     let e = c.check_certificate-report.ensures in
-    check_runs standard_limits source plan c.args.certificate.now old new c.say_report.result
-    (report_ends (λ at. AnswersCheck standard_limits
+    subst (λ (l : Limits). RunsCheck l source plan c.args.certificate.now old new c.say_report.result)
+    c.standard.ensures
+    (check_runs limits source plan c.args.certificate.now old new c.say_report.result
+    (report_ends (λ at. AnswersCheck limits
     (reading old at) source.slack source.instance plan c.args.certificate.now) old mid new
     c.check_certificate-report.result
     c.say_report.result
-    (check_stays standard_limits source plan c.args.certificate.now old mid new e.only_reads.later) e.only_reads
+    (check_stays limits source plan c.args.certificate.now old mid new e.only_reads.later) e.only_reads
     c.say_report.ensures.keeps e.last e.kept e.ok e.err c.say_report.ensures.ends)
-    (reads_keep old mid new e.only_reads c.say_report.ensures.keeps)
+    (reads_keep old mid new e.only_reads c.say_report.ensures.keeps))

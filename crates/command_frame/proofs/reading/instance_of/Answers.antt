@@ -6,11 +6,11 @@ use Rattle.command_frame.proofs.reading.instance_of.Goals as goal
 pub returns-in-Ok-clause-ok : goal.returns-in-Ok-clause-ok
 returns-in-Ok-clause-ok g c =
     reads_instance (source_view c.args.source.now)
-    (g.D.Desk.shows c.args.desk.now) c.standard-limits.result c.widening.result c.in-Ok.inst c.standard-limits.ensures
-    c.widening.ensures c.in-Ok.ensures.built
+    (g.D.Desk.shows c.args.desk.now) c.args.limits.now c.widening.result c.in-Ok.inst c.widening.ensures
+    c.in-Ok.ensures.built
 
 pub returns-in-Err-Text-clause-err : goal.returns-in-Err-Text-clause-err
 returns-in-Err-Text-clause-err g c =
     reads_faulty c.args.source.now.instance.now
-    (g.D.Desk.shows c.args.desk.now) c.standard-limits.result c.in-Err-Text.fault c.standard-limits.ensures
+    (g.D.Desk.shows c.args.desk.now) c.args.limits.now c.in-Err-Text.fault
     (c.read_instance_from.ensures.fault c.in-Err-Text.fault (search rules))

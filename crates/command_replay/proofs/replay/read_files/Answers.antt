@@ -1,7 +1,6 @@
 -- What is due for `replay`, where a file is refused, and where all were read.
 use Rattle.std.proofs.Common.{◌∙◌}
 use Rattle.std.proofs.lemmas.Result.{err_from_is_err_and}
-use Rattle.instance_model.specs.Limits.{standard_limits}
 use Rattle.command_frame.specs.Sources.{source_view}
 use Rattle.command_frame.specs.Files.{reading, OnPlan, OnScript}
 use Rattle.command_replay.specs.Replaying.{Replays}
@@ -16,9 +15,10 @@ returns-in_err-inst-clause-err g c =
     let new = g.D.Desk.shows c.instance_of.new.desk in
     let p = err_from_is_err_and c.from_residual.result c.from_residual.ensures.1 in
     rw (p.1, p.2)
-    (refuses_instance (source_view c.args.source.now) old new
-    (λ i. OnPlan standard_limits i (reading old new) 3 c.args.plan.now
-    (λ q. OnScript standard_limits i (reading old new) 4 c.args.script.now (Replays i q))) _ c.in_err-inst.ensures.err)
+    (refuses_instance c.args.limits.now (source_view c.args.source.now) old new
+    (λ i. OnPlan c.args.limits.now i (reading old new) 3 c.args.plan.now
+    (λ q. OnScript c.args.limits.now i (reading old new) 4 c.args.script.now (Replays i q))) _
+    c.in_err-inst.ensures.err)
 
 pub returns-in_err-plan-clause-err : goal.returns-in_err-plan-clause-err
 returns-in_err-plan-clause-err g c =
@@ -27,8 +27,8 @@ returns-in_err-plan-clause-err g c =
     let new = g.D.Desk.shows c.plan_of.new.desk in
     let p = err_from_is_err_and c.from_residual-in_err-plan.result c.from_residual-in_err-plan.ensures.1 in
     rw (p.1, p.2)
-    (refuses_plan (source_view c.args.source.now) c.args.plan.now old mid new c.in_ok-inst.inst
-    (λ i q. OnScript standard_limits i (reading old new) 4 c.args.script.now (Replays i q)) _ c.in_ok-inst.ensures.ok
+    (refuses_plan c.args.limits.now (source_view c.args.source.now) c.args.plan.now old mid new c.in_ok-inst.inst
+    (λ i q. OnScript c.args.limits.now i (reading old new) 4 c.args.script.now (Replays i q)) _ c.in_ok-inst.ensures.ok
     (is_read c.args.source.now.instance.now old mid c.in_ok-inst.ensures.read c.in_ok-inst.ensures.only_reads.later)
     c.in_err-plan.ensures.err)
 
@@ -39,7 +39,8 @@ returns-in_err-script-clause-err g c =
     let last = g.D.Desk.shows c.plan_of.new.desk in
     let p = err_from_is_err_and c.from_residual-in_err-script.result c.from_residual-in_err-script.ensures.1 in
     rw (p.1, p.2)
-    (replay_refuses_script (source_view c.args.source.now) c.args.plan.now c.args.script.now old mid last
+    (replay_refuses_script c.args.limits.now (source_view c.args.source.now) c.args.plan.now c.args.script.now old mid
+    last
     (g.D.Desk.shows c.script_of.new.desk) c.in_ok-inst.inst c.in_ok-plan.plan _ c.in_ok-inst.ensures.ok
     (is_read c.args.source.now.instance.now old mid c.in_ok-inst.ensures.read c.in_ok-inst.ensures.only_reads.later)
     c.in_ok-plan.ensures.ok
@@ -66,8 +67,8 @@ returns-clause-ok g c =
     let old = g.D.Desk.shows c.args.desk.now in
     let mid = g.D.Desk.shows c.instance_of.new.desk in
     let last = g.D.Desk.shows c.plan_of.new.desk in
-    replay_reads (source_view c.args.source.now) c.args.plan.now c.args.script.now old mid last c.in_ok-inst.inst
-    c.in_ok-plan.plan c.in_ok-script.script c.in_ok-inst.ensures.ok
+    replay_reads c.args.limits.now (source_view c.args.source.now) c.args.plan.now c.args.script.now old mid last
+    c.in_ok-inst.inst c.in_ok-plan.plan c.in_ok-script.script c.in_ok-inst.ensures.ok
     (is_read c.args.source.now.instance.now old mid c.in_ok-inst.ensures.read c.in_ok-inst.ensures.only_reads.later)
     c.in_ok-plan.ensures.ok
     (is_read c.args.plan.now mid last c.in_ok-plan.ensures.read c.in_ok-plan.ensures.only_reads.later)

@@ -1,8 +1,9 @@
 -- A run of `replay` from what it read and what it said.
-use Rattle.instance_model.specs.Limits.{standard_limits}
+use Rattle.std.proofs.Common.{subst}
+use Rattle.instance_model.specs.declared.limits.Limits.{Limits}
 use Rattle.command_frame.specs.Sources.{source_view}
 use Rattle.command_frame.specs.Files.{reading}
-use Rattle.command_replay.specs.Replaying.{AnswersReplay}
+use Rattle.command_replay.specs.Replaying.{AnswersReplay, RunsReplay}
 use Rattle.command_frame.proofs.EndLemmas.{reads_keep, answer_ends, refusal_ends}
 use Rattle.command_replay.proofs.ReplayLemmas.{read_answer}
 use Rattle.command_replay.proofs.ReplayRun.{replay_stays, replay_runs}
@@ -16,15 +17,17 @@ returns-in-Ok g c =
     let source = source_view c.args.source.now in
     let plan = c.args.plan.now in
     let script = c.args.script.now in
+    let limits = c.standard.result in
     let e = c.in-Ok.ensures in
-    replay_runs standard_limits source plan script old new c.replay_read.result
-    (answer_ends (λ at. AnswersReplay standard_limits (reading old at) source.slack source.instance plan script) old mid
+    subst (λ (l : Limits). RunsReplay l source plan script old new c.replay_read.result) c.standard.ensures
+    (replay_runs limits source plan script old new c.replay_read.result
+    (answer_ends (λ at. AnswersReplay limits (reading old at) source.slack source.instance plan script) old mid
     new c.replay_read.result
-    (replay_stays standard_limits source plan script old mid new e.only_reads.later) e.only_reads
+    (replay_stays limits source plan script old mid new e.only_reads.later) e.only_reads
     c.replay_read.ensures.keeps e.last
-    (read_answer source plan script old mid new c.in-Ok.files.inst c.in-Ok.files.plan c.in-Ok.files.script
+    (read_answer limits source plan script old mid new c.in-Ok.files.inst c.in-Ok.files.plan c.in-Ok.files.script
     c.replay_read.result e.ok c.replay_read.ensures.ends))
-    (reads_keep old mid new e.only_reads c.replay_read.ensures.keeps)
+    (reads_keep old mid new e.only_reads c.replay_read.ensures.keeps))
 
 pub returns-in-Err : goal.returns-in-Err
 returns-in-Err g c =
@@ -34,10 +37,12 @@ returns-in-Err g c =
     let source = source_view c.args.source.now in
     let plan = c.args.plan.now in
     let script = c.args.script.now in
+    let limits = c.standard.result in
     let e = c.in-Err.ensures in
-    replay_runs standard_limits source plan script old new c.refuse.result
-    (refusal_ends (λ at. AnswersReplay standard_limits (reading old at) source.slack source.instance plan script) old
+    subst (λ (l : Limits). RunsReplay l source plan script old new c.refuse.result) c.standard.ensures
+    (replay_runs limits source plan script old new c.refuse.result
+    (refusal_ends (λ at. AnswersReplay limits (reading old at) source.slack source.instance plan script) old
     mid new c.in-Err.refusal c.refuse.result
-    (replay_stays standard_limits source plan script old mid new e.only_reads.later) e.only_reads c.refuse.ensures.keeps
+    (replay_stays limits source plan script old mid new e.only_reads.later) e.only_reads c.refuse.ensures.keeps
     e.kept e.err c.refuse.ensures.ends)
-    (reads_keep old mid new e.only_reads c.refuse.ensures.keeps)
+    (reads_keep old mid new e.only_reads c.refuse.ensures.keeps))

@@ -1,7 +1,10 @@
 -- A run of `solve` from what it read, wrote and said.
-use Rattle.std.proofs.Common.{arith}
+use Rattle.std.proofs.Common.{arith, subst}
+use Rattle.instance_model.specs.declared.limits.Limits.{Limits}
 use Rattle.instance_model.specs.Limits.{standard_limits}
 use Rattle.command_frame.specs.Sources.{source_view}
+use Rattle.command_frame.specs.Files.{ReadsInstance}
+use Rattle.command_frame.specs.Refusals.{IsInstanceCause}
 use Rattle.command_solve.specs.Made.{files_view}
 use Rattle.command_solve.proofs.SolveRun.{solve_runs, solution_ends, solution_later, refused_ends}
 use Rattle.command_solve.proofs.solve.solve_files.Goals as goal
@@ -17,7 +20,8 @@ returns-in-Ok g c =
     let status = c.solve_instance.result in
     solve_runs standard_limits source files c.args.turns old new c.requires.distinct (g.met.D.Desk.names c.args.desk.now)
     status
-    (solution_ends source files c.args.turns old mid new read.only_reads c.in-Ok.inst status read.ok read.last
+    (solution_ends source files c.args.turns old mid new read.only_reads c.in-Ok.inst status
+    (subst (λ (l : Limits). ReadsInstance l source old c.in-Ok.inst) c.standard.ensures read.ok) read.last
     c.solve_instance.ensures)
     (solution_later source files c.args.turns old mid new read.only_reads c.in-Ok.inst status
     c.solve_instance.ensures)
@@ -33,5 +37,7 @@ returns-in-Err g c =
     solve_runs standard_limits source files c.args.turns old new c.requires.distinct (g.met.D.Desk.names c.args.desk.now)
     c.refuse.result
     (refused_ends source files c.args.turns old mid new read.only_reads c.in-Err.refusal c.refuse.result
-    c.refuse.ensures.keeps read.kept read.err c.refuse.ensures.ends)
+    c.refuse.ensures.keeps read.kept
+    (subst (λ (l : Limits). IsInstanceCause l 2 source.instance old mid c.in-Err.refusal) c.standard.ensures read.err)
+    c.refuse.ensures.ends)
     (omega (arith, read.only_reads.later, c.refuse.ensures.keeps.later))
