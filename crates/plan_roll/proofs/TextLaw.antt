@@ -105,6 +105,7 @@ pub text_is_read : TextsAreRead → DecimalsSpell → (limits : Limits) (slack :
     (plan : List (Option ℕ)) (period : ℕ)
     → AreStandard limits → Defines limits (pos 0) bytes inst → Defines limits slack bytes wide
     → Defines limits slack (rolled_text inst plan period) (rolled wide plan period)
+unfolding rolled_text
 text_is_read texts spell limits slack bytes inst wide plan period a d w =
     let fits = defined_fits limits (pos 0) bytes inst a no_slack d in
     let small = defined_small limits bytes inst d in

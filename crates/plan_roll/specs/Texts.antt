@@ -9,7 +9,7 @@ use Rattle.instance_text.specs.Written.{instance_text}
 use Rattle.plan_roll.specs.Rolled.{rolled}
 
 -- the text: counts with 12 decimals, Quantile and Alpha with 6
-abbrev pub rolled_text : Tables → List (Option ℕ) → ℕ → List ℕ
+unfoldable pub rolled_text : Tables → List (Option ℕ) → ℕ → List ℕ
 rolled_text inst plan period = instance_text decimals (rolled inst plan period)
 
 -- each band limit is below 10^20 in absolute value, as where the bands aren't widened
