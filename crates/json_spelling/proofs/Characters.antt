@@ -12,17 +12,17 @@ use Rattle.json_grammar.specs.Grammar.{Between, IsUtf8Tail, IsShortEscape, IsCha
 use Rattle.json_spelling.specs.Spelling.{needs_escape, escaped, quoted}
 use Rattle.json_spelling.specs.Spellable.{IsSpellableText}
 
-escaped-nil : escaped [] ≡ []
+pub escaped-nil : escaped [] ≡ []
 unfolding escaped
 escaped-nil = refl
 
 -- a byte that is no quote and no backslash stays as it is
-escaped-other : (b : ℕ) (bs : List ℕ) → needs_escape b ≡ false → escaped (b ∷ bs) ≡ b ∷ escaped bs
+pub escaped-other : (b : ℕ) (bs : List ℕ) → needs_escape b ≡ false → escaped (b ∷ bs) ≡ b ∷ escaped bs
 unfolding escaped
 escaped-other b bs e = rw e refl
 
 -- a quote or a backslash gets a backslash
-escaped-escape : (b : ℕ) (bs : List ℕ) → needs_escape b ≡ true → escaped (b ∷ bs) ≡ 92 ∷ b ∷ escaped bs
+pub escaped-escape : (b : ℕ) (bs : List ℕ) → needs_escape b ≡ true → escaped (b ∷ bs) ≡ 92 ∷ b ∷ escaped bs
 unfolding escaped
 escaped-escape b bs e = rw e refl
 
@@ -35,14 +35,14 @@ escaped-append (x ∷ a) b = elim (needs_escape x) as
     [ true ↦ ap (λ z. 92 ∷ x ∷ z) (escaped-append a b) | false ↦ ap (λ z. x ∷ z) (escaped-append a b) ]
 
 -- none of the bytes is ASCII
-abbrev AreHigh : List ℕ → Type 0
+abbrev pub AreHigh : List ℕ → Type 0
 AreHigh [] = Unit {0}
 AreHigh (b ∷ bs) = (128 ≤ b) × AreHigh bs
 
 high_needs_no_escape : (b : ℕ) → 128 ≤ b → needs_escape b ≡ false
 high_needs_no_escape b h = grind (arith, nat_tests)
 
-escaped-high : (x : List ℕ) → AreHigh x → escaped x ≡ x
+pub escaped-high : (x : List ℕ) → AreHigh x → escaped x ≡ x
 escaped-high [] h = escaped-nil
 escaped-high (b ∷ bs) h =
     escaped-other b bs (high_needs_no_escape b h.0) ∙ ap (λ z. b ∷ z) (escaped-high bs h.1)

@@ -1,10 +1,12 @@
--- Values and fields from lists: each is sound and nested at most so deep where the parts are. ASCII texts.
+-- Values and fields from lists: each is sound and nested at most so deep where the parts are. ASCII texts, and strings.
 use Rattle.std.specs.Prelude.{All, ◌&&◌, nat_le, nat_lt}
 use Rattle.std.proofs.Common.{◌≡◌, ℕ, zero, suc, ◌≤◌, ◌<◌, List, [], ◌∷◌, Bool, true, arith}
 use Rattle.std.proofs.lemmas.Bool.{and_parts}
 use Rattle.std.proofs.lemmas.Bool.Decides.{nat_tests}
 use Rattle.std.proofs.lemmas.List.Elements.{All-nil, All-cons, All-head, All-tail}
-use Rattle.std.proofs.lemmas.Str.{IsUtf8-from_ascii}
+use Rattle.std.proofs.lemmas.Str.{IsUtf8-from_ascii, IsUtf8-string_bytes}
+use Rattle.std.specs.Prelude.{string_bytes}
+use Rattle.std.specs.declared.string.String.{String}
 use Rattle.std.specs.Str.{IsAscii}
 use Rattle.json_spelling.specs.Value.{Value, Field, values_of, fields_of, depth, values_depth, fields_depth}
 use Rattle.json_spelling.specs.Spellable.{IsSpellableText, IsSound, AreSound, AreSoundFields}
@@ -70,3 +72,8 @@ printable_all (b ∷ bs) h =
 pub IsSpellableText-from_ascii : (bs : List ℕ) → are_printable bs ≡ true → IsSpellableText bs
 IsSpellableText-from_ascii bs h =
     record { utf8 = IsUtf8-from_ascii bs (printable_ascii bs h); printable = printable_all bs h }
+
+-- the bytes of a string
+pub IsSpellableText-string_bytes : {Z : Type 0} (s : String Z) → All (λ b. 32 ≤ b) (string_bytes s)
+    → IsSpellableText (string_bytes s)
+IsSpellableText-string_bytes s h = record { utf8 = IsUtf8-string_bytes s; printable = h }

@@ -3,4 +3,4 @@
 
 mod spelling_laws;
 
-pub use spelling_laws::{spelled_alike_is_alike, spelled_is_read};
+pub use spelling_laws::{spelled_alike_is_alike, spelled_is_read, spelled_is_shortest};

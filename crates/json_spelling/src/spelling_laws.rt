@@ -1,7 +1,8 @@
 //! Laws of the text of a value. The functions do nothing: the contract is the law.
 
-ghost use Rattle.std.specs.Prelude.{◌≡◌, None};
+ghost use Rattle.std.specs.Prelude.{◌≡◌, ℕ, ◌≤◌, List, length, None};
 ghost use Rattle.json_grammar.specs.Grammar.{IsText};
+ghost use Rattle.json_grammar.specs.Tree.{Tree};
 ghost use Rattle.json_grammar.specs.Prefix.{first_past};
 ghost use Rattle.json_spelling.specs.Value.{Value};
 ghost use Rattle.json_spelling.specs.Spelling.{spell};
@@ -19,4 +20,9 @@ pub fn spelled_is_read()
 /// Two spellable values with one text are the same.
 pub fn spelled_alike_is_alike()
     ensures { (v w : Value) → IsSpellable v → IsSpellable w → spell v ≡ spell w → v ≡ w }
+{}
+
+/// No JSON text is shorter than what is spelled of its value.
+pub fn spelled_is_shortest()
+    ensures { (bytes : List ℕ) (tree : Tree) → IsText bytes tree → length (spell (value_of tree)) ≤ length bytes }
 {}
