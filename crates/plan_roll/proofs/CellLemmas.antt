@@ -136,7 +136,8 @@ load_is inst plan period i s c t f h a =
 
 -- ---- the cells are those of the rolled instance
 
-both : (P Q : LoadCell → Type 0) (cells : List LoadCell) → All P cells → All Q cells → All (λ cell. P cell × Q cell) cells
+both : (P Q : LoadCell → Type 0) (cells : List LoadCell) → All P cells → All Q cells
+    → All (λ cell. P cell × Q cell) cells
 both P Q cells p q = λ k d l. (p k d l, q k d l)
 
 left_of_kept : (inst : Tables) (plan : List (Option ℕ)) (period i : ℕ) (cell : LoadCell)

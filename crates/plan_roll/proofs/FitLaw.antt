@@ -20,7 +20,8 @@ use Rattle.plan_roll.proofs.RiskLemmas.{length-risks, all_entries_fewer, risks_s
 -- ---- durations
 
 all_rows : (P : List ℕ → Type 0) (inst : Tables) (plan : List (Option ℕ)) (period : ℕ)
-    → ((i : ℕ) → i < length inst.names → P (rolled_durations inst plan period i)) → All P (rolled inst plan period).delta
+    → ((i : ℕ) → i < length inst.names → P (rolled_durations inst plan period i))
+    → All P (rolled inst plan period).delta
 all_rows P inst plan period h = All-from_get_or P (rolled inst plan period).delta [] (λ i l.
     let few : i < length inst.names =
     omega (arith, length-map-range_with_len (rolled_durations inst plan period) 0 (length inst.names)) in

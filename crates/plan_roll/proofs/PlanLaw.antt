@@ -98,7 +98,8 @@ score_same : (inst : Tables) (plan : List (Option ℕ)) (period : ℕ) (new : Li
 unfolding sum_of_floors rank_of scenarios_of
 score_same inst plan period new h =
     sum_below_same inst.periods _ _
-    (λ u l. ap (λ xs. floor_of (numerator_in inst.alpha (rank_of inst (u + 1)) xs) (scenarios_of inst (u + 1))) (h (u + 1)))
+    (λ u l. ap (λ xs. floor_of (numerator_in inst.alpha (rank_of inst (u + 1)) xs) (scenarios_of inst (u + 1)))
+    (h (u + 1)))
 
 pub values_same : (inst : Tables) (plan : List (Option ℕ)) (period : ℕ) (new : List (Option ℕ)) → IsFitting inst
     → AllAreLeft inst plan period new → HasSameValues (rolled inst plan period) inst new

@@ -52,7 +52,8 @@ pub delta_left : (inst : Tables) (plan : List (Option ℕ)) (period i s : ℕ) �
 unfolding rolled_delta
 delta_left inst plan period i s e = rw e refl
 
-pub delta_past : (inst : Tables) (plan : List (Option ℕ)) (period i s : ℕ) → may_start period (start_of plan i) s ≡ false
+pub delta_past : (inst : Tables) (plan : List (Option ℕ)) (period i s : ℕ)
+    → may_start period (start_of plan i) s ≡ false
     → rolled_delta inst plan period i s ≡ inst.periods + 1
 unfolding rolled_delta
 delta_past inst plan period i s e = rw e refl

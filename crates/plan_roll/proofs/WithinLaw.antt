@@ -129,7 +129,8 @@ rolled_names inst plan period h = record {
 
 pub rolled_unrounded : (inst : Tables) (plan : List (Option ℕ)) (period : ℕ) → IsUnrounded (rolled inst plan period)
 rolled_unrounded inst plan period = record {
-  soft = All-replicate (λ b. b ≡ false) (all_entries (with_rolled_durations inst plan period) periods_before) false refl;
+  soft =
+      All-replicate (λ b. b ≡ false) (all_entries (with_rolled_durations inst plan period) periods_before) false refl;
   rounded = refl;
 }
 

@@ -17,8 +17,8 @@ pub record HasSmallBands (inst : Tables) : Type 0 where
   pub upper : All (λ z. unsigned_abs z < 10 ^ 20) inst.upper
   pub lower : All (λ z. unsigned_abs z < 10 ^ 20) inst.lower
 
--- Where bytes define an instance without a slack, the text of its rolled one defines, with each slack, the rolled one of
--- what the bytes define with that slack. The limits are the same.
+-- Where bytes define an instance without a slack, the text of its rolled one defines, with each slack, the rolled one
+-- of what the bytes define with that slack. The limits are the same.
 abbrev pub RolledTextIsRead : Type 0
 RolledTextIsRead = (limits : Limits) (slack : ℤ) (bytes : List ℕ) (inst wide : Tables) (plan : List (Option ℕ))
     (period : ℕ) → AreStandard limits → Defines limits (pos 0) bytes inst → Defines limits slack bytes wide

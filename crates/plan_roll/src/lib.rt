@@ -11,4 +11,4 @@ mod view;
 
 pub use instance_model::Rule;
 pub use kept::kept_fault;
-pub use laws::{plans_roll, rolled_tables_fit};
+pub use laws::{plans_roll, rolled_tables_fit, rolled_text_is_read};
