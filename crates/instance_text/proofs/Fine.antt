@@ -4,11 +4,13 @@ use Rattle.std.proofs.Common.{◌≡◌, ℕ, suc, ◌+◌, ◌<◌, ◌≤◌, 
 use Rattle.std.proofs.Common.{List, [], ◌∷◌, ◌++◌, length, get_or, refl, sym, ◌∙◌, ap, subst, arith}
 use Rattle.std.proofs.Common.{length-append}
 use Rattle.std.specs.Prelude.{All, AllPairs}
-use Rattle.std.proofs.lemmas.List.Elements.{All-head, All-tail}
+use Rattle.std.proofs.lemmas.List.Elements.{All-head, All-tail, All-weaker}
 use Rattle.json_grammar.specs.Grammar.{IsNumber}
 use Rattle.json_grammar.specs.Tree.{Tree, tree, Node, Members}
-use Rattle.json_spelling.specs.Value.{Value, values_of, Field, fields_of, depth, values_depth, fields_depth}
-use Rattle.json_spelling.specs.Spellable.{IsSpellableText, IsSound, AreSound, AreSoundFields}
+use Rattle.json_spelling.specs.Value.{Value, values_of, Field, fields_of, depth}
+use Rattle.json_spelling.specs.Spellable.{IsSpellableText, IsSound}
+use Rattle.json_spelling.proofs.Parts.{AreSound-values_of, IsSoundField, AreSoundFields-fields_of, values_depth-values_of}
+use Rattle.json_spelling.proofs.Parts.{fields_depth-fields_of}
 use Rattle.json_spelling.specs.Spelling.{spell, quoted}
 use Rattle.json_spelling.specs.Placed.{placed_at, placed_values, placed_fields}
 use Rattle.instance_model.specs.declared.limits.Limits.{Limits}
@@ -100,23 +102,6 @@ text_fine limits n s text h own plain = record {
 
 -- ---- lists
 
-values_sound : (limits : Limits) (n : ℕ) (s : Spot) (vs : List Value) → All (IsFine limits n s) vs
-    → AreSound (values_of vs)
-values_sound limits n s [] h = tt
-values_sound limits n s (v ∷ vs) h = (
-  (All-head (IsFine limits n s) v vs h).sound,
-  values_sound limits n s vs (All-tail (IsFine limits n s) v vs h),
-)
-
-values_shallow : (limits : Limits) (n : ℕ) (s : Spot) (vs : List Value) → All (IsFine limits n s) vs
-    → values_depth (values_of vs) ≤ n
-values_shallow limits n s [] h = omega arith
-values_shallow limits n s (v ∷ vs) h = omega (
-  arith,
-  (All-head (IsFine limits n s) v vs h).shallow,
-  values_shallow limits n s vs (All-tail (IsFine limits n s) v vs h),
-)
-
 values_clear : (limits : Limits) (n : ℕ) (s q : Spot) (vs : List Value) (m k : ℕ)
     → ((j : ℕ) → m ≤ j → j < m + length vs → element s j ≡ q) → All (IsFine limits n q) vs
     → AreClear limits (placed_elements s m (placed_values k (values_of vs)))
@@ -133,8 +118,12 @@ pub list_fine : (limits : Limits) (n : ℕ) (s q : Spot) (vs : List Value)
     → is_count (kind_of s) ≡ false → ((m : ℕ) → m < length vs → element s m ≡ q) → All (IsFine limits n q) vs
     → IsFine limits (suc n) s (Value.list (values_of vs))
 list_fine limits n s q vs own plain e h = record {
-  sound = values_sound limits n q vs h;
-  shallow = omega (arith, values_shallow limits n q vs h);
+  sound = AreSound-values_of vs (All-weaker (IsFine limits n q) IsSound (λ v f. f.sound) vs h);
+  shallow = omega (
+    arith,
+    values_depth-values_of n vs
+        (All-weaker (IsFine limits n q) (λ v. depth v ≤ n) (λ v f. f.shallow) vs h),
+  );
   clear = λ k. both_clear limits (record { spot = s; tree = placed_at k (Value.list (values_of vs)) } ∷ []) _
       (alone_clear limits s (placed_at k (Value.list (values_of vs))) (own k (k + length (spell (Value.list (values_of vs)))) (suc k)) (λ c. cc))
       (values_clear limits n s q vs 0 (suc k) (λ j l r. e j (omega arith)) h);
@@ -146,22 +135,6 @@ list_fine limits n s q vs own plain e h = record {
 pub record IsFineField (limits : Limits) (n : ℕ) (s : Spot) (f : Field) : Type 0 where
   pub key : IsSpellableText f.key
   pub value : IsFine limits n (under s f.key) f.value
-
-fields_sound : (limits : Limits) (n : ℕ) (s : Spot) (fs : List Field) → All (IsFineField limits n s) fs
-    → AreSoundFields (fields_of fs)
-fields_sound limits n s [] h = tt
-fields_sound limits n s (f ∷ fs) h =
-    let first = All-head (IsFineField limits n s) f fs h in
-    (first.key, first.value.sound, fields_sound limits n s fs (All-tail (IsFineField limits n s) f fs h))
-
-fields_shallow : (limits : Limits) (n : ℕ) (s : Spot) (fs : List Field) → All (IsFineField limits n s) fs
-    → fields_depth (fields_of fs) ≤ n
-fields_shallow limits n s [] h = omega arith
-fields_shallow limits n s (f ∷ fs) h = omega (
-  arith,
-  (All-head (IsFineField limits n s) f fs h).value.shallow,
-  fields_shallow limits n s fs (All-tail (IsFineField limits n s) f fs h),
-)
 
 fields_clear : (limits : Limits) (n : ℕ) (s : Spot) (fs : List Field) → All (IsFineField limits n s) fs → (k : ℕ)
     → AreClear limits (placed_members s (placed_fields k (fields_of fs)))
@@ -177,8 +150,13 @@ pub object_fine : (limits : Limits) (n : ℕ) (s : Spot) (fs : List Field)
     → ((k last : ℕ) → inside_faults limits s last (Node.object (placed_fields k (fields_of fs))) ≡ [])
     → All (IsFineField limits n s) fs → IsFine limits (suc n) s (object_of fs)
 object_fine limits n s fs own plain inside h = record {
-  sound = fields_sound limits n s fs h;
-  shallow = omega (arith, fields_shallow limits n s fs h);
+  sound = AreSoundFields-fields_of fs (All-weaker (IsFineField limits n s) IsSoundField
+      (λ f g. record { key = g.key; value = g.value.sound }) fs h);
+  shallow = omega (
+    arith,
+    fields_depth-fields_of n fs
+        (All-weaker (IsFineField limits n s) (λ f. depth f.value ≤ n) (λ f g. g.value.shallow) fs h),
+  );
   clear = λ k. both_clear limits (record { spot = s; tree = placed_at k (object_of fs) } ∷ []) _
       (alone_clear limits s (placed_at k (object_of fs))
       (clear_both (own_faults limits s k (Node.object (placed_fields (suc k) (fields_of fs)))) _

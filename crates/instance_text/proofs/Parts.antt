@@ -1,14 +1,11 @@
 -- Objects with required keys, and what objects of names and of periods and starts take at the spots of an instance.
-use Rattle.std.proofs.Common.{◌≡◌, ℕ, suc, ◌<◌, ◌≤◌, Bool, true, ◌&&◌, List, [], ◌∷◌}
+use Rattle.std.proofs.Common.{◌≡◌, ℕ, suc, ◌<◌, ◌≤◌, true, List, [], ◌∷◌}
 use Rattle.std.proofs.Common.{Some, refl, arith}
-use Rattle.std.specs.Prelude.{All, nat_lt, nat_le}
-use Rattle.std.proofs.lemmas.Bool.{ne_eqb, and_parts, leb-true, ltb-true}
-use Rattle.std.proofs.lemmas.List.Elements.{All-nil, All-cons, All-weaker}
+use Rattle.std.proofs.lemmas.Bool.{ne_eqb}
 use Rattle.std.proofs.lemmas.List.Elements.{All-from_recursion}
-use Rattle.std.proofs.lemmas.Str.{IsUtf8-from_ascii}
-use Rattle.std.proofs.lemmas.Str.Ascii.{IsAscii-from_all}
 use Rattle.json_spelling.specs.Value.{Value, Field}
 use Rattle.json_spelling.specs.Spellable.{IsSpellableText}
+use Rattle.json_spelling.proofs.Parts.{are_printable, IsSpellableText-from_ascii}
 use Rattle.instance_model.specs.declared.limits.Limits.{Limits}
 use Rattle.instance_shape.specs.declared.fault.Known.{Known}
 use Rattle.instance_shape.specs.declared.fault.Known.TheVariants as known
@@ -17,7 +14,7 @@ use Rattle.instance_shape.specs.declared.fault.Which.{Which}
 use Rattle.instance_shape.specs.declared.fault.Which.TheVariants as which
 use Rattle.instance_shape.specs.declared.spot.Spot.{Spot}
 use Rattle.instance_shape.specs.declared.spot.Spot.TheVariants as spot
-use Rattle.instance_shape.specs.Keys.{text_of, all_bytes}
+use Rattle.instance_shape.specs.Keys.{text_of}
 use Rattle.instance_shape.specs.Shape as Shape
 use Rattle.instance_shape.specs.ShapeFaults.{first_past}
 use Rattle.instance_text.specs.Written.{object_of}
@@ -27,35 +24,13 @@ use Rattle.instance_text.proofs.Keys.{TakesNumbers, TakesNames}
 
 -- ---- required keys
 
--- printed ASCII
-is_plain : ℕ → Bool
-is_plain b = nat_le 32 b && nat_lt b 128
+known_printable : (k : Known) → are_printable (text_of k) ≡ true
+known_printable known.Resources = refl
+known_printable _ = refl
 
-plain_all : (bs : List ℕ) → all_bytes is_plain bs ≡ true → All (λ b. (32 ≤ b) × (b < 128)) bs
-unfolding is_plain
-plain_all [] h = All-nil (λ b. (32 ≤ b) × (b < 128))
-plain_all (b ∷ bs) h =
-    let both = and_parts (nat_le 32 b && nat_lt b 128) (all_bytes is_plain bs) h in
-    let sizes = and_parts (nat_le 32 b) (nat_lt b 128) both.0 in
-    All-cons (λ b. (32 ≤ b) × (b < 128)) b bs (leb-true 32 b sizes.0, ltb-true b 128 sizes.1) (plain_all bs both.1)
-
-plain_spelled : (bs : List ℕ) → all_bytes is_plain bs ≡ true → IsSpellableText bs
-plain_spelled bs h =
-    let each = plain_all bs h in
-    record {
-      utf8 = IsUtf8-from_ascii bs (IsAscii-from_all bs
-          (All-weaker (λ b. (32 ≤ b) × (b < 128)) (λ b. b < 128) (λ b p. p.1) bs each));
-      printable = All-weaker (λ b. (32 ≤ b) × (b < 128)) (λ b. 32 ≤ b) (λ b p. p.0) bs each;
-    }
-
-known_plain : (k : Known) → all_bytes is_plain (text_of k) ≡ true
-unfolding is_plain
-known_plain known.Resources = refl
-known_plain _ = refl
-
--- required keys are printed ASCII
+-- required keys are spelled
 known_spelled : (k : Known) → IsSpellableText (text_of k)
-known_spelled k = plain_spelled (text_of k) (known_plain k)
+known_spelled k = IsSpellableText-from_ascii (text_of k) (known_printable k)
 
 -- ---- objects of periods and starts
 

@@ -1,0 +1,10 @@
+pub mod StartLemmas
+pub mod CellLemmas
+pub mod RiskLemmas
+pub mod FitLaw
+pub mod PlanLaw
+pub mod BegunLemmas
+pub mod NamesLaw
+pub mod WithinLaw
+pub mod TextLaw
+pub mod ViewLaw

@@ -1,0 +1,5 @@
+-- What the contracts cite.
+pub mod Rolled
+pub mod Begun
+pub mod Laws
+pub mod Texts

@@ -1,0 +1,25 @@
+-- Defines the text of the rolled instance, which is read as the rolled one of what the instance's text is read as.
+use Rattle.std.specs.Prelude.{ℕ, ◌^◌, ◌<◌, ℤ, pos, List, Option, All, unsigned_abs}
+use Rattle.instance_model.specs.declared.limits.Limits.{Limits}
+use Rattle.instance_model.specs.Tables.{Tables}
+use Rattle.instance_shape.specs.Defined.{Defines}
+use Rattle.instance_shape.specs.Ranges.{AreStandard}
+use Rattle.instance_text.specs.Styles.{decimals}
+use Rattle.instance_text.specs.Written.{instance_text}
+use Rattle.plan_roll.specs.Rolled.{rolled}
+
+-- the text: counts with 12 decimals, Quantile and Alpha with 6
+unfoldable pub rolled_text : Tables → List (Option ℕ) → ℕ → List ℕ
+rolled_text inst plan period = instance_text decimals (rolled inst plan period)
+
+-- each band limit is below 10^20 in absolute value, as where the bands aren't widened
+pub record HasSmallBands (inst : Tables) : Type 0 where
+  pub upper : All (λ z. unsigned_abs z < 10 ^ 20) inst.upper
+  pub lower : All (λ z. unsigned_abs z < 10 ^ 20) inst.lower
+
+-- Where bytes define an instance without a slack, the text of its rolled one defines, with each slack, the rolled one
+-- of what the bytes define with that slack. The limits are the same.
+abbrev pub RolledTextIsRead : Type 0
+RolledTextIsRead = (limits : Limits) (slack : ℤ) (bytes : List ℕ) (inst wide : Tables) (plan : List (Option ℕ))
+    (period : ℕ) → AreStandard limits → Defines limits (pos 0) bytes inst → Defines limits slack bytes wide
+    → Defines limits slack (rolled_text inst plan period) (rolled wide plan period)
