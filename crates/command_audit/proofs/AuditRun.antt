@@ -21,8 +21,22 @@ use Rattle.command_frame.proofs.TakenLemmas.{on_taken, bad_instance, on_spelled,
 use Rattle.command_audit.specs.Auditing.{IsValidFor, FailsFirstFor, Audits, AnswersAudit, DueAudit, ReadsAudit}
 use Rattle.command_audit.specs.Auditing.{BehindAudit, AuditedFiles, TellsAudited, ExpectsAudit, RunsAudit}
 use Rattle.command_audit.specs.Auditing.Audits.{accepted, failing_leaf}
-use Rattle.command_audit.specs.Auditing.BehindAudit as behind
-use Rattle.command_audit.specs.Auditing.ExpectsAudit as expects
+use Rattle.command_audit.specs.Auditing.BehindAudit.{accepted as behind_accepted}
+use Rattle.command_audit.specs.Auditing.BehindAudit.{refused_certificate as behind_refused_certificate}
+use Rattle.command_audit.specs.Auditing.BehindAudit.{refused_instance as behind_refused_instance}
+use Rattle.command_audit.specs.Auditing.BehindAudit.{refused_leaf as behind_refused_leaf}
+use Rattle.command_audit.specs.Auditing.BehindAudit.{refused_plan as behind_refused_plan}
+use Rattle.command_audit.specs.Auditing.BehindAudit.{unread_certificate as behind_unread_certificate}
+use Rattle.command_audit.specs.Auditing.BehindAudit.{unread_instance as behind_unread_instance}
+use Rattle.command_audit.specs.Auditing.BehindAudit.{unread_plan as behind_unread_plan}
+use Rattle.command_audit.specs.Auditing.ExpectsAudit.{failing_leaf as expects_failing_leaf}
+use Rattle.command_audit.specs.Auditing.ExpectsAudit.{no_certificate as expects_no_certificate}
+use Rattle.command_audit.specs.Auditing.ExpectsAudit.{no_instance as expects_no_instance}
+use Rattle.command_audit.specs.Auditing.ExpectsAudit.{no_plan as expects_no_plan}
+use Rattle.command_audit.specs.Auditing.ExpectsAudit.{refused_certificate as expects_refused_certificate}
+use Rattle.command_audit.specs.Auditing.ExpectsAudit.{refused_instance as expects_refused_instance}
+use Rattle.command_audit.specs.Auditing.ExpectsAudit.{refused_plan as expects_refused_plan}
+use Rattle.command_audit.specs.Auditing.ExpectsAudit.{valid_certificate as expects_valid_certificate}
 use Rattle.command_audit.proofs.AuditAnswers.{audited_files_once}
 
 -- what is answered to a certificate, and to a plan
@@ -58,9 +72,9 @@ audited_behind : (limits : Limits) (source : Source) (name cert_name : List ℕ)
     → Audits files.inst files.plan files.cert a → Says a.text old new
     → BehindAudit limits source name cert_name old new a.status
 audited_behind limits source name cert_name old new files a (accepted all) says =
-    behind.accepted (record { files = files; valid = all.valid; bounds = all.bounds; says = says })
+    behind_accepted (record { files = files; valid = all.valid; bounds = all.bounds; says = says })
 audited_behind limits source name cert_name old new files a (failing_leaf n leaf) says =
-    behind.refused_leaf (record { files = files; n = n; first = leaf.first; says = says })
+    behind_refused_leaf (record { files = files; n = n; first = leaf.first; says = says })
 
 certificate_behind : (limits : Limits) (source : Source) (name cert_name : List ℕ) (old new : Shown) (inst : Tables)
     (plan : List (Option ℕ)) (a : Answer)
@@ -68,11 +82,11 @@ certificate_behind : (limits : Limits) (source : Source) (name cert_name : List 
     → OnAudited limits (reading old new) cert_name inst plan a → Says a.text old new
     → BehindAudit limits source name cert_name old new a.status
 certificate_behind limits source name cert_name old new inst plan a reads reads_plan (unread fails) says =
-    behind.unread_certificate inst plan reads reads_plan (record { fails = fails; says = says })
+    behind_unread_certificate inst plan reads reads_plan (record { fails = fails; says = says })
 certificate_behind limits source name cert_name old new inst plan a reads reads_plan (refused bytes b held is) says =
     subst (λ (n : ℕ). BehindAudit limits source name cert_name old new n)
     (sym (certificate_status limits inst bytes b is))
-    (behind.refused_certificate inst plan reads reads_plan
+    (behind_refused_certificate inst plan reads reads_plan
     (say_refusal cert_name (RefusesCertificate limits inst) old new bytes b held is says))
 certificate_behind limits source name cert_name old new inst plan a reads reads_plan
     (stands bytes cert b held spells audits) says =
@@ -91,10 +105,10 @@ plan_behind : (limits : Limits) (source : Source) (name cert_name : List ℕ) (o
     → ReadsInstance limits source old inst → OnPlanned limits (reading old new) name cert_name inst a
     → Says a.text old new → BehindAudit limits source name cert_name old new a.status
 plan_behind limits source name cert_name old new inst a reads (unread fails) says =
-    behind.unread_plan inst reads (record { fails = fails; says = says })
+    behind_unread_plan inst reads (record { fails = fails; says = says })
 plan_behind limits source name cert_name old new inst a reads (refused bytes b held is) says =
     subst (λ (n : ℕ). BehindAudit limits source name cert_name old new n) (sym (plan_status limits inst bytes b is))
-    (behind.refused_plan inst reads (say_refusal name (RefusesPlan limits inst) old new bytes b held is says))
+    (behind_refused_plan inst reads (say_refusal name (RefusesPlan limits inst) old new bytes b held is says))
 plan_behind limits source name cert_name old new inst a reads (stands bytes plan b held spells due) says =
     certificate_behind limits source name cert_name old new inst plan b reads
     (record { bytes = bytes; held = held; such = spells }) due says
@@ -103,10 +117,10 @@ audit_behind : (limits : Limits) (source : Source) (name cert_name : List ℕ) (
     → AnswersAudit limits (reading old new) source.slack source.instance name cert_name a → Says a.text old new
     → BehindAudit limits source name cert_name old new a.status
 audit_behind limits source name cert_name old new a (unread fails) says =
-    behind.unread_instance (record { fails = fails; says = says })
+    behind_unread_instance (record { fails = fails; says = says })
 audit_behind limits source name cert_name old new a (refused bytes b held is) says =
     subst (λ (n : ℕ). BehindAudit limits source name cert_name old new n) (sym (instance_status limits bytes b is))
-    (behind.refused_instance (say_refusal source.instance (RefusesInstance limits) old new bytes b held is says))
+    (behind_refused_instance (say_refusal source.instance (RefusesInstance limits) old new bytes b held is says))
 audit_behind limits source name cert_name old new a (stands bytes inst b held takes due) says =
     plan_behind limits source name cert_name old new inst b (record { bytes = bytes; held = held; such = takes }) due
     says
@@ -152,38 +166,38 @@ on_text limits source name cert_name old new files a tells due =
 audit_expects : (limits : Limits) (source : Source) (name cert_name : List ℕ) (old new : Shown) (expected : ℕ)
     → ExpectsAudit limits source name cert_name old expected → (a : Answer)
     → AnswersAudit limits (reading old new) source.slack source.instance name cert_name a → OrUnread expected a
-audit_expects limits source name cert_name old new expected (expects.no_instance missing) a due =
+audit_expects limits source name cert_name old new expected (expects_no_instance missing) a due =
     inl (missing_file 2 source.instance old new (RefusesInstance limits) (TakesOne limits source.slack)
     (OnPlanned limits (reading old new) name cert_name) a missing due)
-audit_expects limits source name cert_name old new expected (expects.refused_instance tells) a due =
+audit_expects limits source name cert_name old new expected (expects_refused_instance tells) a due =
     bad_instance limits source old new (OnPlanned limits (reading old new) name cert_name) a tells due
-audit_expects limits source name cert_name old new expected (expects.no_plan inst tells missing) a due =
+audit_expects limits source name cert_name old new expected (expects_no_plan inst tells missing) a due =
     then_next (OnPlanned limits (reading old new) name cert_name inst a) 7 a
     (λ d. inl (missing_file 3 name old new (RefusesPlan limits inst) (Spells limits inst)
     (OnAudited limits (reading old new) cert_name inst) a missing d))
     (on_taken limits source old new (OnPlanned limits (reading old new) name cert_name) inst a tells due)
-audit_expects limits source name cert_name old new expected (expects.refused_plan inst tells bad) a due =
+audit_expects limits source name cert_name old new expected (expects_refused_plan inst tells bad) a due =
     then_next (OnPlanned limits (reading old new) name cert_name inst a) 4 a
     (bad_plan limits inst name old new (OnAudited limits (reading old new) cert_name inst) a bad)
     (on_taken limits source old new (OnPlanned limits (reading old new) name cert_name) inst a tells due)
-audit_expects limits source name cert_name old new expected (expects.no_certificate inst plan tells spells missing) a
+audit_expects limits source name cert_name old new expected (expects_no_certificate inst plan tells spells missing) a
     due =
     then_next (OnAudited limits (reading old new) cert_name inst plan a) 7 a
     (λ d. inl (missing_file 4 cert_name old new (RefusesCertificate limits inst) (SpellsOne limits inst)
     (Audits inst plan) a missing d))
     (on_planned limits source name cert_name old new inst plan a tells spells due)
-audit_expects limits source name cert_name old new expected (expects.refused_certificate inst plan tells spells bad) a
+audit_expects limits source name cert_name old new expected (expects_refused_certificate inst plan tells spells bad) a
     due =
     then_next (OnAudited limits (reading old new) cert_name inst plan a) 5 a
     (refused_file 4 cert_name old new (RefusesCertificate limits inst) (SpellsOne limits inst) (Audits inst plan) a
     (IsRefusedCertificate limits inst) 5 bad
     (λ bytes x one. refused_apart limits inst bytes x one) (certificate_status limits inst))
     (on_planned limits source name cert_name old new inst plan a tells spells due)
-audit_expects limits source name cert_name old new expected (expects.valid_certificate files tells valid) a due =
+audit_expects limits source name cert_name old new expected (expects_valid_certificate files tells valid) a due =
     then_next (Audits files.inst files.plan files.cert a) 0 a
     (valid_verdict files.inst files.plan files.cert a valid)
     (on_text limits source name cert_name old new files a tells due)
-audit_expects limits source name cert_name old new expected (expects.failing_leaf files n tells first) a due =
+audit_expects limits source name cert_name old new expected (expects_failing_leaf files n tells first) a due =
     then_next (Audits files.inst files.plan files.cert a) 5 a
     (leaf_verdict files.inst files.plan files.cert n a first)
     (on_text limits source name cert_name old new files a tells due)

@@ -158,8 +158,12 @@ module _ (inst : Tables) (old : List (Option ℕ)) (turns : ℕ) (given : Option
 
     among_plan : (b : ℤ) → answer.cert.bound ≡ Least b → Among (Some best) b → Among (Some plan) b
     among_plan b bound (inl (p, p_is, value)) =
-        inl (plan, refl, met b bound
-        (subst (λ (xs : List ℕ). change_value old inst xs ≡ b) (sym (same_plan best p p_is)) value))
+        inl (
+          plan,
+          refl,
+          met b bound
+              (subst (λ (xs : List ℕ). change_value old inst xs ≡ b) (sym (same_plan best p p_is)) value),
+        )
     among_plan b bound (inr leaf) = inr leaf
 
     least_among : (b : ℤ) → answer.cert.bound ≡ Least b → ((z : ℤ) → Among (Some best) z → b ≤ℤ z) → (z : ℤ)

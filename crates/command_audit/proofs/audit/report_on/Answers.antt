@@ -2,8 +2,8 @@ use Rattle.std.proofs.Common.{◌∙◌}
 use Rattle.command_audit.proofs.AuditLemmas.{valid_audits, leaf_audits}
 use Rattle.command_audit.proofs.audit.report_on.Goals as goal
 
-pub returns-in_ok-audited_text-in-Valid : goal.returns-in_ok-audited_text-in-Valid
-returns-in_ok-audited_text-in-Valid c =
+pub returns-in-Valid : goal.returns-in-Valid
+returns-in-Valid c =
     valid_audits c.args.inst.now c.args.plan.now c.in_ok-goal.goal c.args.certificate.now c.in_ok-verdict.verdict
     c.in_ok-audited_text-in-Valid.field-0 (c.in_ok-goal.ensures ∙ c.as_slice.ensures) c.in-Valid.is
     (record {
@@ -12,8 +12,8 @@ returns-in_ok-audited_text-in-Valid c =
       bounds = c.in_ok-verdict.ensures.bounds;
     }) c.bounds_count_changes.ensures c.in_ok-audited_text-in-Valid.ensures
 
-pub returns-in_ok-leaf_text-in-LeafFails : goal.returns-in_ok-leaf_text-in-LeafFails
-returns-in_ok-leaf_text-in-LeafFails c =
+pub returns : goal.returns
+returns c =
     leaf_audits c.args.inst.now c.args.plan.now c.in_ok-goal.goal c.args.certificate.now c.in_ok-verdict.verdict
     c.in-LeafFails.n c.in_ok-leaf_text-in-LeafFails.field-0 (c.in_ok-goal.ensures ∙ c.as_slice.ensures)
     c.in-LeafFails.is
