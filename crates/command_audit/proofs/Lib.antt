@@ -1,0 +1,4 @@
+pub mod AuditReading
+pub mod AuditLemmas
+pub mod AuditAnswers
+pub mod AuditRun

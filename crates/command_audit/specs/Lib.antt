@@ -1,0 +1,2 @@
+-- What the contract of the command cites.
+pub mod Auditing

@@ -1,0 +1,3 @@
+pub mod OpeningLemmas
+pub mod IncumbentLemmas
+pub mod RepairLemmas

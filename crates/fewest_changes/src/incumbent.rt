@@ -1,0 +1,36 @@
+//! The plan that the search is given.
+ghost use Rattle.std.specs.Prelude.{IfOk};
+ghost use Rattle.instance_model.specs.Plans.{AreAllowedStarts};
+ghost use Rattle.fewest_changes.specs.Incumbents.{IsIncumbent};
+
+use crate::descent::feasible_end;
+use instance_model::{Instance, Starts, plan_of};
+use plan_changes::give_back;
+use plan_score::broken_rule;
+use quantile_index::Row;
+use std::alloc::{AllocError, Global};
+
+/// The opening, where it is feasible; else what the end of a descent from it gives back, where that end is feasible.
+pub(crate) fn incumbent_of<R: Row>(
+    alloc: Global,
+    inst: &Instance,
+    old: &[Option<u32>],
+    opening: &[u32],
+    turns: u32,
+) -> Result<Option<Starts>, AllocError>
+    requires { AreAllowedStarts inst.now opening.now }
+    ensures { IfOk result (IsIncumbent inst.now old.now turns opening.now) }
+{
+    let plan = plan_of(alloc, opening)?;
+    if broken_rule(inst, plan.as_slice()).is_none() {
+        let starts = Vec::from_slice(alloc, opening)?;
+        return Ok(Some(Starts::from_vec(starts)));
+    }
+    match feasible_end::<R>(alloc, inst, opening, turns)? {
+        None => Ok(None),
+        Some(end) => {
+            let given = give_back(alloc, inst, old, end.as_slice())?;
+            Ok(Some(given))
+        }
+    }
+}

@@ -1,0 +1,50 @@
+//! Where a repair sets out.
+ghost use Rattle.std.specs.Prelude.{ℕ, ◌<◌, length, IfOk, IfSome, IfNone, IsTrue};
+ghost use Rattle.instance_model.specs.Tables.{is_allowed};
+ghost use Rattle.fewest_changes.specs.Openings.{IsOpeningStart, OpensAs};
+
+use duration_calendar::first_allowed;
+use instance_model::{Instance, Starts};
+use plan_changes::old_start;
+use std::alloc::{AllocError, Global};
+
+/// The plan from which a repair sets out, or why there is none.
+#[derive(Drop)]
+pub enum Opening {
+    /// The old start of each intervention where that is allowed, and else its least allowed start.
+    From(Starts),
+    /// The first intervention without an allowed start.
+    Without { i: u32 },
+}
+
+/// The start from which intervention `i` sets out, where this was the old one, if it has an allowed start.
+fn opening_start(inst: &Instance, i: u32, old: Option<u32>) -> Option<u32>
+    requires { i < length inst.now.names }
+    ensures found { IfSome result (IsOpeningStart inst.now old i) }
+    ensures none { IfNone result ((s : ℕ) → ¬ IsTrue (is_allowed inst.now i s)) }
+{
+    if let Some(s) = old {
+        if inst.allowed(i, s) {
+            return Some(s);
+        }
+    }
+    first_allowed(inst, i, 1, inst.tmax(i))
+}
+
+/// The plan of old starts where they are allowed, and of least allowed starts elsewhere.
+pub fn opening_of(
+    alloc: Global,
+    inst: &Instance,
+    old: &[Option<u32>],
+) -> Result<Opening, AllocError>
+    ensures { IfOk result (OpensAs inst.now old.now) }
+{
+    let mut starts = Vec::new(alloc);
+    for i in 0..inst.interventions() {
+        match opening_start(inst, i, old_start(old, i as usize)) {
+            Some(start) => starts.push(start)?,
+            None => return Ok(Opening::Without { i }),
+        }
+    }
+    Ok(Opening::From(Starts::from_vec(starts)))
+}

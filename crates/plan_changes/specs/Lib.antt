@@ -1,0 +1,4 @@
+-- What the contracts cite.
+pub mod Changes
+pub mod GoalLemmas
+pub mod Returning
