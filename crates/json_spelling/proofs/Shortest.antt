@@ -21,7 +21,7 @@ one_twice : (b : ℕ) (bs : List ℕ) → (needs_escape b ≡ true) ⊎ (needs_e
 one_twice b bs (inl e) = omega (arith, ap length (escaped-escape b bs e))
 one_twice b bs (inr e) = omega (arith, ap length (escaped-other b bs e))
 
-length-escaped-le : (x : List ℕ) → length (escaped x) ≤ 2 * length x
+pub length-escaped-le : (x : List ℕ) → length (escaped x) ≤ 2 * length x
 length-escaped-le [] = omega (arith, ap length escaped-nil)
 length-escaped-le (b ∷ bs) = omega (arith, one_twice b bs (cases_Bool (needs_escape b)), length-escaped-le bs)
 
