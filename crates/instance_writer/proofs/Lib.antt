@@ -8,3 +8,6 @@ pub mod RootLemmas
 pub mod SizeLemmas
 pub mod NumberSizes
 pub mod FileLemmas
+pub mod PartSizes
+pub mod WholeSize
+pub mod ZeroLemmas

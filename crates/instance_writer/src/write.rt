@@ -36,7 +36,6 @@ pub fn instance_length<V: InstanceView>(view: &V) -> u64
     requires { IsViewOf (V.base view.now) (V.tables view.now) }
     ensures { result ≡ length (instance_text decimals (V.tables view.now)) }
 {
-    view.instance().fits();
     let mut count = ByteCount::zero();
     put_instance(view, &mut count);
     count.count()
