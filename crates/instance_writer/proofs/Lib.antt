@@ -1,0 +1,12 @@
+pub mod TextLemmas
+pub mod LoopLemmas
+pub mod Items
+pub mod ListLemmas
+pub mod ViewLemmas
+pub mod FilledLemmas
+pub mod RootLemmas
+pub mod SizeLemmas
+pub mod NumberSizes
+pub mod FileLemmas
+pub mod PartSizes
+pub mod WholeSize

@@ -1,0 +1,14 @@
+use Rattle.std.specs.Prelude.{List, ℕ}
+use Rattle.instance_text.specs.Styles.{decimals}
+use Rattle.instance_text.specs.Written.{workload_of}
+use Rattle.instance_writer.proofs.LoopLemmas.{HasFields}
+use Rattle.instance_writer.proofs.Items.{named_item}
+use Rattle.instance_writer.proofs.loads.put_workload.Given as goal
+
+abbrev pub invariant-loop-c : goal.invariant-loop-c
+invariant-loop-c g l =
+    let view = g.V.InstanceView.tables l.view in
+    record {
+      ready : g.S.Sink.IsReady l.sink;
+      fields : HasFields g.S.Sink.Takes (named_item view.resource_names (workload_of decimals view l.i)) l.c l.first l.fn.sink l.sink;
+    }

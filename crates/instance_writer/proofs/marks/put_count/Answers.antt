@@ -1,0 +1,12 @@
+use Rattle.std.proofs.Common.{◌∙◌, ap, to_z-of_z}
+use Rattle.fixed_num.specs.Texts.{fixed_text}
+use Rattle.instance_writer.proofs.TextLemmas.{number_in_list}
+use Rattle.instance_writer.proofs.LoopLemmas.{respelled, two}
+use Rattle.instance_writer.proofs.marks.put_count.Goals as goal
+
+pub returns-clause-text : goal.returns-clause-text
+returns-clause-text g c =
+    respelled g.S.Sink.Takes (number_in_list c.args.first (fixed_text c.args.z))
+    (two g.S.Sink.Takes g.met.S.Sink.takes_more c.separate.ensures.text
+    (respelled g.S.Sink.Takes (c.bytes.ensures.value ∙ c.of_fixed.ensures ∙ ap fixed_text (to_z-of_z c.ranges.z))
+    c.put.ensures.text))

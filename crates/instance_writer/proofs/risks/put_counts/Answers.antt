@@ -1,0 +1,36 @@
+use Rattle.std.proofs.Common.{[], ◌∷◌, length, refl, sym, ◌∙◌, ap, arith}
+use Rattle.std.specs.Prelude.{ℤ, pos}
+use Rattle.std.proofs.lemmas.List.{get_or_default}
+use Rattle.fixed_num.proofs.SignedLemmas.{back_from_abs}
+use Rattle.instance_text.specs.Styles.{decimals}
+use Rattle.instance_text.specs.Written.{count_number}
+use Rattle.instance_writer.specs.Steps.{values_text}
+use Rattle.instance_writer.proofs.ListLemmas.{map-counts}
+use Rattle.instance_writer.proofs.LoopLemmas.{respelled, begin_values, next_values, end_values}
+use Rattle.instance_writer.proofs.Items.{count_item}
+use Rattle.instance_writer.proofs.risks.put_counts.Goals as goal
+
+pub loop-z-init : goal.loop-z-init
+loop-z-init g c = record {
+  ready = c.put.ensures.ready;
+  values = begin_values g.S.Sink.Takes g.met.S.Sink.takes_more c.put.ensures.text;
+}
+
+pub loop-z-preserved : goal.loop-z-preserved
+loop-z-preserved g c =
+    let counts = c.args.counts.now in
+    record {
+      ready = c.put_count.ensures.ready;
+      values = next_values g.S.Sink.Takes g.met.S.Sink.takes_more (count_item counts) c.loop-z.z-index
+          c.loop-z.invariant.values
+          (respelled g.S.Sink.Takes
+          (ap (λ (z : ℤ). values_text c.loop-z.first (count_number decimals z ∷ []))
+          (back_from_abs c.count.result (omega (arith, c.count.ensures.small)) ∙ c.count.ensures.value ∙ c.z-item.is
+          ∙ get_or_default counts c.loop-z.z-index _ (pos 0) c.loop-z-test.true)) c.put_count.ensures.text) refl;
+    }
+
+pub returns-clause-text : goal.returns-clause-text
+returns-clause-text g c =
+    let counts = c.args.counts.now in
+    end_values g.S.Sink.Takes g.met.S.Sink.takes_more (count_item counts) _ c.loop-z.z-index (length counts) (omega arith)
+    (sym (map-counts counts)) c.loop-z.invariant.values c.put-2.ensures.text

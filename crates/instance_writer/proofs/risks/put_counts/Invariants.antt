@@ -1,0 +1,10 @@
+use Rattle.instance_writer.proofs.LoopLemmas.{HasValues}
+use Rattle.instance_writer.proofs.Items.{count_item}
+use Rattle.instance_writer.proofs.risks.put_counts.Given as goal
+
+abbrev pub invariant-loop-z : goal.invariant-loop-z
+invariant-loop-z g l =
+    record {
+      ready : g.S.Sink.IsReady l.sink;
+      values : HasValues g.S.Sink.Takes (count_item l.counts) l.z-index l.first l.fn.sink l.sink;
+    }

@@ -1,0 +1,14 @@
+use Rattle.std.proofs.Common.{[], ◌∙◌, sym}
+use Rattle.std.specs.Prelude.{slice_index_or}
+use Rattle.std.proofs.lemmas.Option.{get_or_from_slice_get}
+use Rattle.instance_text.specs.Written.{season_value}
+use Rattle.instance_writer.proofs.LoopLemmas.{put_field}
+use Rattle.instance_writer.proofs.seasons.put_season.Goals as goal
+
+pub returns-clause-text : goal.returns-clause-text
+returns-clause-text g c =
+    let inst = c.args.inst.now in
+    put_field g.S.Sink.Takes g.met.S.Sink.takes_more c.args.first _ (slice_index_or inst.season_names c.args.q [])
+    (season_value inst c.args.q)
+    (c.as_bytes.ensures.value ∙ sym (get_or_from_slice_get inst.season_names c.args.q _ [] c.season_name.ensures.value))
+    c.put_key.ensures.text c.put_season_periods.ensures.text
