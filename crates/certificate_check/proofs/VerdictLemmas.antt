@@ -20,7 +20,8 @@ one_first : (Holds : Leaf → Type 0) (ls : List Leaf) (m n : ℕ) → FailsFirs
     → FailsFirst Holds ls n → Leaf → m < n → ⊥
 one_first Holds ls m n f g d l = f.fails d (g.before (m - 1) d (omega (arith, f.from, l)))
 
-same_or_apart : (m n : ℕ) → (m ≡ n) ⊎ (m < n) ⊎ (n < m)
+-- two numbers are the same, or one is below the other
+pub same_or_apart : (m n : ℕ) → (m ≡ n) ⊎ (m < n) ⊎ (n < m)
 same_or_apart m n = at (nat_le m n) refl (nat_le n m) refl
   where
     at : (a : Bool) → nat_le m n ≡ a → (b : Bool) → nat_le n m ≡ b → (m ≡ n) ⊎ (m < n) ⊎ (n < m)

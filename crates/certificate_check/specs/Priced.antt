@@ -1,4 +1,4 @@
--- Tables of the price lists of a certificate. Cited by private functions only: no part of any promise.
+-- Tables of the price lists of a certificate.
 use Rattle.std.specs.Prelude.{◌≡◌, ℕ, ◌+◌, ◌<◌, List, length, slice_index_or}
 use Rattle.instance_model.specs.Tables.{Tables}
 use Rattle.lagrange_bound.specs.declared.span.Span.{Span}

@@ -13,5 +13,7 @@ mod tables;
 mod verdict;
 
 pub use checking::check_for;
+pub use point::{is_single, starts_of};
 pub use score::check;
+pub use tables::tables_of;
 pub use verdict::CertVerdict;

@@ -11,8 +11,8 @@ use lagrange_bound::{Goal, Span};
 use plan_score::broken_rule;
 use std::alloc::{AllocError, Global};
 
-/// Whether each interval is a single start.
-fn is_single(spans: &[Span]) -> bool
+/// Whether each interval is a single start. Takes no memory.
+pub fn is_single(spans: &[Span]) -> bool
     ensures { IsTrue result ↔ IsSingle spans.now }
 {
     for span in spans {
@@ -24,7 +24,7 @@ fn is_single(spans: &[Span]) -> bool
 }
 
 /// The first start of each interval.
-fn starts_of(alloc: Global, spans: &[Span]) -> Result<Vec<u32>, AllocError>
+pub fn starts_of(alloc: Global, spans: &[Span]) -> Result<Vec<u32>, AllocError>
     ensures { IfOk result (λ starts. starts.items ≡ first_starts spans.now) }
 {
     let mut starts = Vec::new(alloc);

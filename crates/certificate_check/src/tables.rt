@@ -8,7 +8,7 @@ use lagrange_bound::{Goal, PriceTable, Prices, tabulate};
 use std::alloc::{AllocError, Global};
 
 /// The tables of the list of zeros and of each price list.
-pub(crate) fn tables_of<G: Goal>(
+pub fn tables_of<G: Goal>(
     alloc: Global,
     goal: &G,
     inst: &Instance,

@@ -1,3 +1,4 @@
 -- What the contract of the command cites.
 pub mod Checking
+pub mod Accepting
 pub mod Standing

@@ -3,11 +3,9 @@ pub mod SplitLemmas
 pub mod RootLemmas
 pub mod AnswerLemmas
 pub mod TrailLemmas
-pub mod CheckableLemmas
 pub mod PlanLemmas
 pub mod SolutionLemmas
 pub mod OpeningLemmas
 pub mod MakingLemmas
 pub mod ReportLemmas
-pub mod HoldLemmas
 pub mod SolveRun

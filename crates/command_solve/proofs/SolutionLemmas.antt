@@ -29,7 +29,8 @@ use Rattle.command_check.proofs.CheckRun.{best_plan}
 use Rattle.command_solve.specs.Solved.{IsWithoutStart, empty_certificate}
 use Rattle.command_solve.specs.Solving.{SolveFiles, none_report, cert_write, trail_write, IsReplayable, IsFound, Solves}
 use Rattle.command_solve.specs.Solving.Solves.{found, nothing, none, no_start}
-use Rattle.command_solve.specs.Made.{AreWritable, IsShortValid, IsMade, IsAcceptable, CanReport, IsReportOf}
+use Rattle.command_check.specs.Accepting.{IsShortValid, IsAcceptable}
+use Rattle.command_solve.specs.Made.{AreWritable, IsMade, CanReport, IsReportOf}
 use Rattle.command_solve.specs.Made.{plan_writes, IsWritablePlan, IsSolution}
 use Rattle.command_solve.proofs.AnswerLemmas.{some_has_bound, best_feasible, gap_is_spent, enough_meets, is_nothing}
 use Rattle.command_solve.proofs.PlanLemmas.{writable_plan, evaluable}
@@ -84,7 +85,7 @@ module _ (inst : Tables) (turns : ℕ) (changes : List Change) (answer : TreeEnd
           (best_feasible inst solved.prices solved.given turns answer solved.searched plan is)
       at None is = tt
 
-  module _ (good : IsAcceptable inst answer.cert) where
+  module _ (good : IsAcceptable standard_limits inst answer.cert) where
     nothing_between : (a b : ℤ) → a ≡ b → a -ℤ b ≡ pos 0
     nothing_between a b e = omega (arith, signed_arith)
 
@@ -155,7 +156,7 @@ module _ (inst : Tables) (i : ℕ) (without : IsWithoutStart inst i) where
     tree = (leaf (Empty i), record { order = refl; in_range = without.number });
   }
 
-  pub empty_is_good : TextsFitFiles → IsFitting inst → IsShortValid inst (empty_certificate i)
+  pub empty_is_good : TextsFitFiles → IsFitting inst → IsShortValid standard_limits inst (empty_certificate i)
   empty_is_good law fit = record {
     in_range = empty_in_range;
     valid = record {
@@ -175,8 +176,8 @@ module _ (inst : Tables) (i : ℕ) (without : IsWithoutStart inst i) where
     small = All-nil HasSmallStart;
   }
 
-  pub no_start_solution : IsAcceptable inst (empty_certificate i) → (cert : Certificate) (changes : List Change)
-      (text : List ℕ) → cert ≡ empty_certificate i → changes ≡ [] → text ≡ none_report inst cert changes
+  pub no_start_solution : IsAcceptable standard_limits inst (empty_certificate i) → (cert : Certificate)
+      (changes : List Change) (text : List ℕ) → cert ≡ empty_certificate i → changes ≡ [] → text ≡ none_report inst cert changes
       → (turns : ℕ) → IsSolution inst turns (record {
         report = record { status = 10; text = text };
         certificate = cert;

@@ -3,7 +3,7 @@ use Rattle.std.proofs.Common.{◌≡◌, ◌≢◌, ◌⊎◌, inl, inr, ℕ, �
 use Rattle.std.proofs.Common.{map, Option, Some, None}
 use Rattle.std.proofs.lemmas.List.{length-map}
 use Rattle.std.proofs.lemmas.List.Elements.{All-nil, All-cons}
-use Rattle.plan_desk.specs.Desk.{Shown, Output, TellsNames}
+use Rattle.plan_desk.specs.Desk.{Shown, TellsNames}
 use Rattle.plan_desk.specs.Contents.{HoldsBytes, Says, OnlyReads, KeepsFiles}
 use Rattle.plan_desk.specs.FileWrites.{FileWrite, after_writes}
 use Rattle.instance_model.specs.declared.limits.Limits.{Limits}
@@ -33,11 +33,16 @@ use Rattle.command_frame.proofs.AnswerLemmas.{instance_status}
 use Rattle.command_frame.proofs.TakenLemmas.{on_taken, bad_instance}
 use Rattle.command_frame.proofs.EndLemmas.{Stays, memory_ends, refusal_ends, ends_quiet, ends_allowed, ends_exact}
 use Rattle.command_frame.proofs.WriteLemmas.{told_ends, told_later, wrote_behind}
+use Rattle.command_output.specs.Outputs.{holding}
+use Rattle.command_output.proofs.HoldLemmas.{IsNoneOf, named_output, named_after, others_after, held_after}
+use Rattle.command_output.proofs.HoldLemmas.{held_alike, others_stopped}
+use Rattle.command_output.proofs.OutputLemmas.{same_holding}
 use Rattle.command_check.specs.Checking.{IsKeptPlan, BoundsEveryPlan, AnswersCheck}
+use Rattle.command_check.specs.Accepting.{IsCheckable}
 use Rattle.command_solve.specs.Solved.{AreEnough, IsWithoutStart, empty_certificate}
-use Rattle.command_solve.specs.Solving.{SolveFiles, AreDistinct, cert_write, trail_write, plan_write, IsCheckable}
+use Rattle.command_solve.specs.Solving.{SolveFiles, AreDistinct, cert_write, trail_write, plan_write}
 use Rattle.command_solve.specs.Solving.{Solves, AnswersSolve, DueSolve, BehindSolve, ExpectsSolve, KeepsOthers, Opens}
-use Rattle.command_solve.specs.Solving.{RunsSolve, holding}
+use Rattle.command_solve.specs.Solving.{RunsSolve}
 use Rattle.command_solve.specs.Solving.Solves.{found, nothing, none, no_start}
 use Rattle.command_solve.specs.Solving.BehindSolve.{found as behind_found, nothing as behind_nothing}
 use Rattle.command_solve.specs.Solving.BehindSolve.{none as behind_none, refused_instance as behind_refused_instance}
@@ -47,8 +52,6 @@ use Rattle.command_solve.specs.Solving.ExpectsSolve.{a_plan, no_plan}
 use Rattle.command_solve.specs.Made.{TellsSolution}
 use Rattle.command_solve.specs.Made.TellsSolution.{told, no_memory as no_memory_left}
 use Rattle.command_solve.proofs.AnswerLemmas.{best_feasible}
-use Rattle.command_solve.proofs.HoldLemmas.{IsNoneOf, named_output, named_after, others_after, held_after}
-use Rattle.command_solve.proofs.HoldLemmas.{held_alike, others_stopped, at_name}
 
 -- ---- from one way of meeting the instance file to another
 
@@ -116,9 +119,6 @@ due_files : (limits : Limits) (source : Source) (files : SolveFiles) (turns : �
 due_files limits source files turns old at a (answers b is) =
     answers_files limits (reading old at) source.slack source.instance files turns b is
 due_files limits source files turns old at a no_memory = none_of_none files [] refl
-
-same_holding : (old new : Shown) (name : List ℕ) → new.output ≡ old.output → holding new name ≡ holding old name
-same_holding old new name same = ap (λ (o : Output). at_name name o.holds) same
 
 -- ---- what stands behind a status
 

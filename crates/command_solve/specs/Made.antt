@@ -12,13 +12,10 @@ use Rattle.plan_score.specs.declared.values.Values.{Values}
 use Rattle.plan_moves.specs.declared.change.Change.{Change}
 use Rattle.plan_moves.specs.Scripts.{NamesKnown, line_of}
 use Rattle.move_script.specs.Spelling.{HasSmallStart}
-use Rattle.lagrange_bound.specs.Goals.{risk_base, risk_value}
 use Rattle.certificate_lines.specs.declared.line.Bound.{Bound}
 use Rattle.certificate_lines.specs.declared.line.Bound.TheVariants.{NoPlan, Least}
 use Rattle.branch_tree.specs.declared.certificate.Certificate.{Certificate}
 use Rattle.branch_tree.specs.Ranges.{IsInRange}
-use Rattle.branch_tree.specs.Validity.{IsValid}
-use Rattle.certificate_text.specs.Text.{certificate_text}
 use Rattle.branch_search.specs.declared.tree_end.TreeEnd.{TreeEnd}
 use Rattle.branch_search.specs.Best.{IsFeasiblePlan}
 use Rattle.command_frame.specs.declared.report.Report.{Report}
@@ -28,14 +25,14 @@ use Rattle.command_frame.specs.Ending.{Writing, Answer}
 use Rattle.command_frame.specs.Refusals.{SaysOrFails}
 use Rattle.command_frame.specs.Writing.{TellsAnswer}
 use Rattle.command_evaluate.specs.Evaluating.{EnclosesEveryReading}
-use Rattle.command_check.specs.Checking.{IsAccepted}
+use Rattle.command_check.specs.Accepting.{IsShortValid}
 use Rattle.command_solve.specs.declared.opening.Opening.{Opening}
 use Rattle.command_solve.specs.declared.opening.Opening.TheVariants.{From, Without}
 use Rattle.command_solve.specs.declared.making.Descended.{Descended}
 use Rattle.command_solve.specs.declared.solution.Solution.{Solution}
 use Rattle.command_solve.specs.declared.solve.SolveFiles.{SolveFiles as SolveNames}
 use Rattle.command_solve.specs.Solved.{end_of, IsTrail, IsSolved, AreEnough, IsWithoutStart}
-use Rattle.command_solve.specs.Solving.{SolveFiles, IsCheckable, counts_text, found_report, nothing_report, none_report}
+use Rattle.command_solve.specs.Solving.{SolveFiles, counts_text, found_report, nothing_report, none_report}
 use Rattle.command_solve.specs.Solving.{cert_write, trail_write, plan_write, Solves}
 
 -- ---- the descent and the search
@@ -57,27 +54,12 @@ pub record AreWritable (inst : Tables) (changes : List Change) : Type 0 where
   pub known : All (λ change. NamesKnown inst (line_of change)) changes
   pub small : All HasSmallStart changes
 
--- a valid certificate whose text is within the limit of certificate files
-pub record IsShortValid (inst : Tables) (cert : Certificate) : Type 0 where
-  pub in_range : IsInRange inst cert
-  pub valid : IsValid risk_base risk_value inst cert
-  pub short : length (certificate_text inst cert) ≤ standard_limits.certificate_bytes
-
 -- what a descent, a price list and a search made
 pub record IsMade (inst : Tables) (turns : ℕ) (changes : List Change) (answer : TreeEnd) : Type 0 where
   pub solved : IsSolved inst turns changes answer
   pub enough : AreEnough inst turns → answer.unfinished ≡ false
-  pub cert : IsShortValid inst answer.cert
+  pub cert : IsShortValid standard_limits inst answer.cert
   pub changes_are : AreWritable inst changes
-
--- `check` without a plan accepts a certificate and its text
-pub record IsAcceptable (inst : Tables) (cert : Certificate) : Type 0 where
-  pub checkable : IsCheckable standard_limits inst cert
-  pub accepted : IsAccepted inst None cert
-
--- it does so for each of those
-abbrev pub ShortValidIsAcceptable : Tables → Type 0
-ShortValidIsAcceptable inst = (cert : Certificate) → IsShortValid inst cert → IsAcceptable inst cert
 
 -- ---- the report
 

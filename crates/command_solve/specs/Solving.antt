@@ -2,7 +2,7 @@
 --
 -- `old` and `new` are what the desk shows before and after a run. Worths, scores and bounds are in parts of 10^-18.
 use Rattle.std.specs.Prelude.{◌≡◌, ◌≢◌, ◌⊎◌, ℕ, ◌≤◌, ℤ, ◌-ℤ◌, ◌<ℤ◌, List, [], ◌∷◌, ◌++◌, length, map}
-use Rattle.std.specs.Prelude.{Option, Some, None, option_map, codes, decimal}
+use Rattle.std.specs.Prelude.{Option, Some, None, codes, decimal}
 use Rattle.plan_desk.specs.Desk.{Shown}
 use Rattle.plan_desk.specs.Contents.{TellsSuch, HoldsBytes, Says}
 use Rattle.instance_model.specs.declared.limits.Limits.{Limits}
@@ -16,7 +16,6 @@ use Rattle.plan_moves.specs.Scripts.{line_of}
 use Rattle.move_script.specs.Spelling.{moves_text, IsScript}
 use Rattle.certificate_lines.specs.declared.line.Bound.TheVariants.{NoPlan, Least}
 use Rattle.branch_tree.specs.declared.certificate.Certificate.{Certificate}
-use Rattle.branch_tree.specs.Ranges.{IsInRange}
 use Rattle.certificate_text.specs.Text.{certificate_text}
 use Rattle.branch_search.specs.declared.tree_end.TreeEnd.{TreeEnd}
 use Rattle.command_frame.specs.Sources.{Source}
@@ -25,10 +24,12 @@ use Rattle.command_frame.specs.Reports.{accepted_report}
 use Rattle.command_frame.specs.Ending.{Writing, Answer, reply, OrMemory, IsQuiet, Ends, Behind, IsOneOf, IsAllowed}
 use Rattle.command_frame.specs.Ending.{IsAnswered, NoFault}
 use Rattle.command_frame.specs.Bytes.{RefusesInstance, IsRefusedInstance}
-use Rattle.command_frame.specs.Files.{Meeting, reading, by_bytes, OnInstance, OnPlan, OnCertificate, ReadsInstance}
+use Rattle.command_frame.specs.Files.{Meeting, reading, by_bytes, OnInstance, OnPlan, ReadsInstance}
 use Rattle.command_frame.specs.Files.{SaysUnread, SaysRefusal, TellsMissing, TellsBytes, TellsInstance}
+use Rattle.command_output.specs.Outputs.{holding}
 use Rattle.command_evaluate.specs.Evaluating.{Judges, AnswersEvaluate}
-use Rattle.command_check.specs.Checking.{IsKeptPlan, BoundsEveryPlan, IsBest, Checks, AnswersCheck}
+use Rattle.command_check.specs.Checking.{IsKeptPlan, BoundsEveryPlan, IsBest, AnswersCheck}
+use Rattle.command_check.specs.Accepting.{IsCheckable}
 use Rattle.command_solve.specs.Solved.{IsSolved, split_count, AreEnough, IsNothing, IsNone, IsWithoutStart}
 use Rattle.command_solve.specs.Solved.{empty_certificate}
 
@@ -93,14 +94,6 @@ plan_write inst files plan =
     record { word = 3; file = record { name = files.plan; bytes = plan_text inst.names plan } }
 
 -- ---- what holds of every certificate, trail and plan that is written
-
--- `check` without a plan accepts the text of the certificate for this instance; the certificate is in range, and its
--- bound holds for every plan
-pub record IsCheckable (limits : Limits) (inst : Tables) (cert : Certificate) : Type 0 where
-  pub in_range : IsInRange inst cert
-  pub accepted : OnCertificate limits inst by_bytes 4 (certificate_text inst cert) (Checks inst None)
-      (reply 0 (accepted_report inst cert.bound None))
-  pub bounds : BoundsEveryPlan inst cert.bound
 
 -- the text of the trail is the script of its changes
 abbrev pub IsReplayable : Tables → List Change → Type 0
@@ -253,10 +246,6 @@ pub data ExpectsSolve (limits : Limits) (source : Source) (turns : ℕ) (old : S
       → ExpectsSolve limits source turns old 10
 
 -- ---- what a run promises
-
--- what the file of this name holds, where that is told
-abbrev pub holding : Shown → List ℕ → Option (Option (List ℕ))
-holding s name = option_map (λ holds. holds name) s.output.holds
 
 -- every file but these three holds what it held
 abbrev pub KeepsOthers : SolveFiles → (old new : Shown) → Type 0

@@ -3,7 +3,6 @@
 //! `RunsSolve` states what a run promises, by what the desk shows before and after it.
 #![tactic(auto)]
 
-mod checking;
 mod making;
 mod opening;
 mod report;

@@ -6,13 +6,13 @@ ghost use Rattle.instance_model.specs.Keys.{IsOpening};
 ghost use Rattle.command_solve.specs.Solved.{IsWithoutStart, empty_certificate};
 ghost use Rattle.command_solve.specs.Made.{CanReport, ReportsPlan, IsReportOf, IsSolution};
 
-use crate::checking::valid_is_accepted;
 use crate::making::make;
 use crate::opening::{Opening, opening_of};
 use crate::report::{found_text, none_text, nothing_text};
 use branch_certificate::{Bound, Certificate, Node, Nodes, PriceLists, Version};
 use branch_search::TreeEnd;
 use certificate_text::texts_are_short;
+use command_check::valid_is_accepted;
 use command_frame::Report;
 use instance_model::{Instance, Starts, plan_of};
 use plan_moves::Moves;

@@ -16,10 +16,10 @@ returns g c =
     let new = g.D.Desk.shows c.say_report.new.desk in
     let source = source_view c.args.source.now in
     let plan = option_copied c.args.plan in
-    let limits = c.standard.result in
+    let limits = c.standard-limits.result in
     let e = c.check_certificate-report.ensures in
     subst (λ (l : Limits). RunsCheck l source plan c.args.certificate.now old new c.say_report.result)
-    c.standard.ensures
+    c.standard-limits.ensures
     (check_runs limits source plan c.args.certificate.now old new c.say_report.result
     (report_ends (λ at. AnswersCheck limits
     (reading old at) source.slack source.instance plan c.args.certificate.now) old mid new

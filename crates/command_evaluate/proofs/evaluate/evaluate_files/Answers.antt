@@ -14,9 +14,9 @@ returns g c =
     let mid = g.D.Desk.shows c.evaluate-report.new.desk in
     let new = g.D.Desk.shows c.say_report.new.desk in
     let source = source_view c.args.source.now in
-    let limits = c.standard.result in
+    let limits = c.standard-limits.result in
     let e = c.evaluate-report.ensures in
-    subst (λ (l : Limits). RunsEvaluate l source c.args.plan.now old new c.say_report.result) c.standard.ensures
+    subst (λ (l : Limits). RunsEvaluate l source c.args.plan.now old new c.say_report.result) c.standard-limits.ensures
     (evaluate_runs limits source c.args.plan.now old new c.say_report.result
     (report_ends (λ at. AnswersEvaluate limits (reading old at) source.slack source.instance c.args.plan.now)
     old mid new c.evaluate-report.result c.say_report.result

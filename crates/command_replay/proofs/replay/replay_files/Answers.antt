@@ -17,9 +17,9 @@ returns-in-Ok g c =
     let source = source_view c.args.source.now in
     let plan = c.args.plan.now in
     let script = c.args.script.now in
-    let limits = c.standard.result in
+    let limits = c.standard-limits.result in
     let e = c.in-Ok.ensures in
-    subst (λ (l : Limits). RunsReplay l source plan script old new c.replay_read.result) c.standard.ensures
+    subst (λ (l : Limits). RunsReplay l source plan script old new c.replay_read.result) c.standard-limits.ensures
     (replay_runs limits source plan script old new c.replay_read.result
     (answer_ends (λ at. AnswersReplay limits (reading old at) source.slack source.instance plan script) old mid
     new c.replay_read.result
@@ -37,9 +37,9 @@ returns-in-Err g c =
     let source = source_view c.args.source.now in
     let plan = c.args.plan.now in
     let script = c.args.script.now in
-    let limits = c.standard.result in
+    let limits = c.standard-limits.result in
     let e = c.in-Err.ensures in
-    subst (λ (l : Limits). RunsReplay l source plan script old new c.refuse.result) c.standard.ensures
+    subst (λ (l : Limits). RunsReplay l source plan script old new c.refuse.result) c.standard-limits.ensures
     (replay_runs limits source plan script old new c.refuse.result
     (refusal_ends (λ at. AnswersReplay limits (reading old at) source.slack source.instance plan script) old
     mid new c.in-Err.refusal c.refuse.result

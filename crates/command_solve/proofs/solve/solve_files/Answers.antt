@@ -21,7 +21,7 @@ returns-in-Ok g c =
     solve_runs standard_limits source files c.args.turns old new c.requires.distinct (g.met.D.Desk.names c.args.desk.now)
     status
     (solution_ends source files c.args.turns old mid new read.only_reads c.in-Ok.inst status
-    (subst (λ (l : Limits). ReadsInstance l source old c.in-Ok.inst) c.standard.ensures read.ok) read.last
+    (subst (λ (l : Limits). ReadsInstance l source old c.in-Ok.inst) c.standard-limits.ensures read.ok) read.last
     c.solve_instance.ensures)
     (solution_later source files c.args.turns old mid new read.only_reads c.in-Ok.inst status
     c.solve_instance.ensures)
@@ -38,6 +38,7 @@ returns-in-Err g c =
     c.refuse.result
     (refused_ends source files c.args.turns old mid new read.only_reads c.in-Err.refusal c.refuse.result
     c.refuse.ensures.keeps read.kept
-    (subst (λ (l : Limits). IsInstanceCause l 2 source.instance old mid c.in-Err.refusal) c.standard.ensures read.err)
+    (subst (λ (l : Limits). IsInstanceCause l 2 source.instance old mid c.in-Err.refusal)
+    c.standard-limits.ensures read.err)
     c.refuse.ensures.ends)
     (omega (arith, read.only_reads.later, c.refuse.ensures.keeps.later))

@@ -1,6 +1,6 @@
 -- `check` accepts each valid certificate whose text is short.
 use Rattle.std.proofs.Common.{◌≡◌, ℕ, refl, sym, None}
-use Rattle.instance_model.specs.Limits.{standard_limits}
+use Rattle.instance_model.specs.declared.limits.Limits.{Limits}
 use Rattle.instance_model.specs.Tables.{Tables}
 use Rattle.instance_model.specs.Fitting.{IsFitting}
 use Rattle.instance_model.specs.Exact.{CostIsJustAboveScore}
@@ -21,9 +21,10 @@ use Rattle.command_frame.specs.Files.OnFile.{stands}
 use Rattle.command_check.specs.Checking.{IsAccepted}
 use Rattle.command_check.specs.Checking.Checks.{accepted}
 use Rattle.command_check.proofs.CheckLemmas.{bounds_every}
-use Rattle.command_solve.specs.Made.{IsShortValid, ShortValidIsAcceptable}
+use Rattle.command_check.specs.Accepting.{IsShortValid, ShortValidIsAcceptable}
 
-module _ (inst : Tables) (fit : IsFitting inst) (cert : Certificate) (good : IsShortValid inst cert) where
+module _ (limits : Limits) (inst : Tables) (fit : IsFitting inst) (cert : Certificate)
+    (good : IsShortValid limits inst cert) where
   -- the text has no fault
   sound : (fault : CertFault) → HasCertFault inst (certificate_text inst cert) fault → ⊥
   sound (Cut n) has = never (no_fault inst cert (certificate_text inst cert) (Cut n) fit good.in_range refl has)
@@ -40,7 +41,7 @@ module _ (inst : Tables) (fit : IsFitting inst) (cert : Certificate) (good : IsS
       never e = cc
   sound Memory has = has
 
-  spells : TextsTell → SpellsOne standard_limits inst (certificate_text inst cert) cert
+  spells : TextsTell → SpellsOne limits inst (certificate_text inst cert) cert
   spells tell = record {
     spells = record { within = good.short; text_of = record { in_range = good.in_range; text = refl } };
     only = λ other also. tell inst other cert fit also.in_range good.in_range (sym also.text);
@@ -65,12 +66,12 @@ module _ (inst : Tables) (fit : IsFitting inst) (cert : Certificate) (good : IsS
 
 pub acceptable : (inst : Tables) → IsFitting inst → CostIsJustAboveScore inst → NodesAreOneTree → TextsTell
     → ValidBoundsPlans risk_base risk_value → ShortValidIsAcceptable inst
-acceptable inst fit costs one tell law cert good =
-    let all = is_accepted inst fit cert good costs one law in
+acceptable inst fit costs one tell law limits cert good =
+    let all = is_accepted limits inst fit cert good costs one law in
     record {
       checkable = record {
         in_range = good.in_range;
-        accepted = stands (certificate_text inst cert) cert _ refl (spells inst fit cert good tell) (accepted all);
+        accepted = stands (certificate_text inst cert) cert _ refl (spells limits inst fit cert good tell) (accepted all);
         bounds = all.bounds;
       };
       accepted = all;

@@ -1,0 +1,5 @@
+pub mod LeafLemmas
+pub mod BoundLemmas
+pub mod TreeLemmas
+pub mod WalkLemmas
+pub mod ReboundLemmas

@@ -1,0 +1,4 @@
+-- What the contracts cite.
+pub mod Rebinding
+pub mod Rebounds
+pub mod Steps

@@ -1,0 +1,15 @@
+//! Certificates for changed bands: a certificate with the same splits and price lists that is valid for an instance.
+//!
+//! A certificate that was made for an instance is in range for one with other bands. Each of its leaves becomes the
+//! first that is right for its box there, and the bound becomes the least of what the new leaves are worth. Worths,
+//! values and bounds are in parts of 10^-18.
+#![tactic(auto)]
+
+mod certificate;
+mod growth;
+mod leaf;
+mod rebounded;
+mod walk;
+
+pub use certificate::rebound;
+pub use rebounded::Rebounded;
