@@ -1,0 +1,4 @@
+pub mod ReadingLemmas
+pub mod MakingLemmas
+pub mod ReboundAnswers
+pub mod ReboundRun

@@ -1,0 +1,62 @@
+//! What is made of an instance and a certificate.
+ghost use Rattle.std.specs.Prelude.{◌≡◌, ◌++◌, IfOk, OnOk, codes};
+ghost use Rattle.branch_tree.specs.Ranges.{IsInRange};
+ghost use Rattle.command_frame.specs.Lines.{numbered_line};
+ghost use Rattle.command_rebound.specs.Rebinding.{new_bound_line, rebound_report};
+ghost use Rattle.command_rebound.specs.Made.{IsMade};
+
+use band_rebound::{Rebounded, rebound};
+use branch_certificate::{Bound, Certificate};
+use command_check::valid_is_accepted;
+use command_frame::{Text, push_bound_line, push_rounded};
+use instance_model::Instance;
+use std::alloc::{AllocError, Global};
+
+/// What a certificate becomes, and what is said of it.
+#[derive(Drop)]
+pub(crate) struct Made {
+    pub rebounded: Rebounded,
+    pub report: Text,
+}
+
+/// Makes what the certificate becomes, and the report on it.
+pub(crate) fn make(alloc: Global, inst: &Instance, cert: &Certificate) -> Result<Made, AllocError>
+    requires { IsInRange inst.now cert.now }
+    ensures { IfOk result (IsMade inst.now cert.now) }
+{
+    valid_is_accepted(inst);
+    let rebounded = rebound(alloc, inst, cert)?;
+    let report = report_on(alloc, inst, &rebounded)?;
+    Ok(Made { rebounded, report })
+}
+
+// The report on the new certificate.
+fn report_on(alloc: Global, inst: &Instance, rebounded: &Rebounded) -> Result<Text, AllocError>
+    ensures { IfOk result (λ text. text ≡ rebound_report inst.now rebounded.now) }
+{
+    let mut text = Text::new(alloc);
+    text.push("rebound\n")?;
+    push_bound(&mut text, rebounded.cert.bound)?;
+    push_count(&mut text, "kept ", rebounded.kept)?;
+    push_count(&mut text, "changed ", rebounded.changed)?;
+    push_rounded(&mut text, inst.rounded())?;
+    Ok(text)
+}
+
+fn push_bound(text: &mut Text, bound: Bound) -> Result<(), AllocError>
+    ensures { OnOk result (text.new ≡ text.old ++ new_bound_line bound) }
+{
+    match bound {
+        Bound::NoPlan => text.push("bound none\n"),
+        Bound::Least(least) => push_bound_line(text, least),
+    }
+}
+
+// Adds a line that ends with a count.
+fn push_count(text: &mut Text, words: &str, n: u64) -> Result<(), AllocError>
+    ensures { OnOk result (text.new ≡ text.old ++ numbered_line words.now n) }
+{
+    text.push(words)?;
+    text.push_number(n)?;
+    text.push("\n")
+}
