@@ -1,28 +1,28 @@
 -- The text of an instance is shorter than 2 ^ 64.
-use Rattle.std.proofs.Common.{◌≡◌, ◌⊎◌, inl, inr, ℕ, zero, suc, ◌+◌, ◌-◌, ◌*◌, ◌^◌, ◌<◌, ◌≤◌, Bool, true, false, cond, List, [], ◌∷◌, ◌++◌, length}
-use Rattle.std.proofs.Common.{refl, sym, ◌∙◌, ap, subst, arith, Option, Some, None, map, decimal, get_or, codes, length-append, ◌&&◌}
-use Rattle.std.specs.Prelude.{ℤ, pos, All, IfSome, unsigned_abs, find, option_map, slice_index_or}
+use Rattle.std.proofs.Common.{◌⊎◌, inl, inr, ℕ, zero, suc, ◌+◌, ◌*◌, ◌^◌, ◌<◌, ◌≤◌, Bool, true, false, cond, List, [], ◌∷◌, length}
+use Rattle.std.proofs.Common.{ap, arith, Some, None, map, codes, length-append, ◌&&◌}
+use Rattle.std.specs.Prelude.{All, unsigned_abs, find, option_map, slice_index_or}
 use Rattle.std.proofs.lemmas.List.Elements.{All-nil, All-cons, All-head, All-tail, All-get_or}
 use Rattle.std.proofs.lemmas.List.{get_or_past}
 use Rattle.std.proofs.lemmas.Bool.{cases_lt}
 use Rattle.instance_shape.proofs.ListsBelow.{all_lists, all_cond}
 use Rattle.fixed_num.specs.Sums.{list_of}
-use Rattle.json_spelling.specs.Value.{Value, values_of, Field}
-use Rattle.json_spelling.specs.Spelling.{spell, quoted}
+use Rattle.json_spelling.specs.Value.{Value, Field}
+use Rattle.json_spelling.specs.Spelling.{spell}
 use Rattle.instance_model.specs.declared.parts.LoadCell.{LoadCell}
 use Rattle.instance_model.specs.declared.parts.Exclusion.{Exclusion}
 use Rattle.instance_model.specs.Tables.{Tables, scenarios_of, durations, tmax, is_allowed, in_run, risk_of, is_cell_of}
 use Rattle.instance_model.specs.Tables.{upper_of, lower_of, in_season_of, exclusion_of}
-use Rattle.instance_model.specs.Fitting.{IsFitting, IsName, AreNames, AreCells}
+use Rattle.instance_model.specs.Fitting.{IsFitting, IsName}
 use Rattle.instance_model.proofs.FitLemmas.{tmax_small, scenarios_of_small, risk_of_small, upper_of_small, lower_of_small}
 use Rattle.instance_shape.specs.declared.fault.Known.TheVariants as known
 use Rattle.instance_shape.specs.FileTables.{lists_below}
 use Rattle.instance_text.specs.Styles.{decimals, part_text}
-use Rattle.instance_text.specs.Written.{count_number, count_list, whole_number, whole_list, object_of, filled, numbered}
+use Rattle.instance_text.specs.Written.{count_number, count_list, whole_number, whole_list, object_of, numbered}
 use Rattle.instance_text.specs.Written.{named, under, resource_value, season_periods, season_value, exclusion_words}
 use Rattle.instance_text.specs.Written.{exclusion_value, load_value, workload_of, workload_value, risks_of, risk_value}
-use Rattle.instance_text.specs.Written.{intervention_value, instance_value, instance_text}
-use Rattle.instance_writer.specs.Steps.{fields_text, values_text, start_load, period_loads, period_risks, number_fields}
+use Rattle.instance_text.specs.Written.{intervention_value, instance_text}
+use Rattle.instance_writer.specs.Steps.{fields_text, start_load, period_loads, period_risks, number_fields}
 use Rattle.instance_writer.proofs.RootLemmas.{resources, seasons, exclusions}
 use Rattle.instance_writer.proofs.SizeLemmas.{IsWithin, length-quoted, length-values, length-list, length-object}
 use Rattle.instance_writer.proofs.SizeLemmas.{length-field, length-more, filled_within}

@@ -1,6 +1,6 @@
 -- Defines what is seen of an instance: its tables, with other durations, and with what these leave of its risks and load
 -- cells.
-use Rattle.std.specs.Prelude.{◌≡◌, ℕ, ◌<◌, ◌≤◌, ℤ, pos, not, List, [], Option, IsTrue, length, map, filter, find}
+use Rattle.std.specs.Prelude.{◌≡◌, ℕ, ◌<◌, ◌≤◌, ℤ, pos, not, [], Option, IsTrue, length, map, filter, find}
 use Rattle.std.specs.Prelude.{option_map, slice_index_or}
 use Rattle.std.specs.Ordering.{int_eq}
 use Rattle.instance_model.specs.declared.parts.LoadCell.{LoadCell}

@@ -1,9 +1,9 @@
 use Rattle.std.proofs.Common.{length, ap, arith}
-use Rattle.instance_model.specs.Tables.{Tables, tmax}
+use Rattle.instance_model.specs.Tables.{Tables}
 use Rattle.std.specs.Prelude.{List, ℕ}
 use Rattle.instance_text.specs.Styles.{decimals}
 use Rattle.instance_text.specs.Written.{workload_of}
-use Rattle.instance_writer.proofs.ViewLemmas.{same_periods, same_resources}
+use Rattle.instance_writer.proofs.ViewLemmas.{same_resources}
 use Rattle.instance_writer.proofs.LoopLemmas.{begin_fields, next_fields, end_fields}
 use Rattle.instance_writer.proofs.Items.{named_item}
 use Rattle.instance_writer.proofs.loads.put_workload.Goals as goal
@@ -31,6 +31,6 @@ returns-clause-text g c =
       arith,
       ap (λ (inst : Tables). length inst.resource_names) c.instance.ensures,
       ap (λ (names : List (List ℕ)). length names)
-      (same_resources (g.V.InstanceView.base c.args.view.now) view c.requires.shown),
+          (same_resources (g.V.InstanceView.base c.args.view.now) view c.requires.shown),
     ))
     c.loop-c.invariant.fields c.put-2.ensures.text

@@ -1,4 +1,3 @@
-use Rattle.std.specs.Prelude.{List, ℕ}
 use Rattle.instance_text.specs.Styles.{decimals}
 use Rattle.instance_text.specs.Written.{workload_of}
 use Rattle.instance_writer.proofs.LoopLemmas.{HasFields}

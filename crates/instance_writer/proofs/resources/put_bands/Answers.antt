@@ -1,6 +1,5 @@
 use Rattle.std.proofs.Common.{[], ◌∷◌, ◌+◌, true, false, refl, codes}
 use Rattle.fixed_num.specs.Sums.{list_of}
-use Rattle.json_spelling.specs.Value.{field}
 use Rattle.instance_model.specs.Tables.{upper_of, lower_of}
 use Rattle.instance_shape.specs.declared.fault.Known.TheVariants as known
 use Rattle.instance_text.specs.Styles.{decimals}

@@ -1,8 +1,8 @@
-use Rattle.std.proofs.Common.{length, ap, arith}
-use Rattle.instance_model.specs.Tables.{Tables, tmax}
+use Rattle.std.proofs.Common.{ap, arith}
+use Rattle.instance_model.specs.Tables.{Tables}
 use Rattle.instance_text.specs.Styles.{decimals}
 use Rattle.instance_writer.specs.Steps.{period_risks}
-use Rattle.instance_writer.proofs.ViewLemmas.{same_periods, same_resources}
+use Rattle.instance_writer.proofs.ViewLemmas.{same_periods}
 use Rattle.instance_writer.proofs.LoopLemmas.{begin_fields, next_fields, end_fields}
 use Rattle.instance_writer.proofs.Items.{numbered_item}
 use Rattle.instance_writer.proofs.risks.put_risk.Goals as goal
