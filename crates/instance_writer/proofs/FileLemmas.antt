@@ -78,7 +78,8 @@ ends_as {T = T} false true text a p new (Err e) good kept takes ends =
     }))
 
 pub whole_written : {T : Type 0} (text : List ℕ) (a p : Progress) (new : Shown) (r : Result T Failed)
-    → a.failed ≡ false → a.kept ≡ [] → TakesText text a p → EndsAs p.failed p new r → PutsText writing text a.shown new r
+    → a.failed ≡ false → a.kept ≡ [] → TakesText text a p → EndsAs p.failed p new r → PutsText writing text a.shown
+    new r
 whole_written text a p new r good kept takes ends =
     ends_as a.failed p.failed text a p new r good kept takes ends
 

@@ -117,6 +117,7 @@ length-fields (suc n) f most each = omega (
   one_more n most,
 )
 
-pub filled_within : (fs : List Field) (most : ℕ) → length (fields_text false fs) ≤ most → IsWithin (most + 2) (filled fs)
+pub filled_within : (fs : List Field) (most : ℕ) → length (fields_text false fs) ≤ most → IsWithin (most + 2)
+    (filled fs)
 filled_within [] most low = tt
 filled_within (f ∷ fs) most low = omega (arith, length-object (f ∷ fs))

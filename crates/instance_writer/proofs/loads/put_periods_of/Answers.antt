@@ -18,14 +18,16 @@ loop-k-preserved g c =
     let view = g.V.InstanceView.tables c.args.view.now in
     record {
       ready = c.put_period_loads-first.ensures.ready;
-      fields = next_fields g.S.Sink.Takes g.met.S.Sink.takes_more (numbered_item (period_loads decimals view c.args.i c.args.c)) c.loop-k.k c.loop-k.invariant.fields
+      fields = next_fields g.S.Sink.Takes g.met.S.Sink.takes_more
+          (numbered_item (period_loads decimals view c.args.i c.args.c)) c.loop-k.k c.loop-k.invariant.fields
           c.put_period_loads-first.ensures.text c.put_period_loads-first.ensures.first;
     }
 
 pub returns-clause-text : goal.returns-clause-text
 returns-clause-text g c =
     let view = g.V.InstanceView.tables c.args.view.now in
-    end_fields g.S.Sink.Takes g.met.S.Sink.takes_more (numbered_item (period_loads decimals view c.args.i c.args.c)) c.loop-k.k view.periods
+    end_fields g.S.Sink.Takes g.met.S.Sink.takes_more (numbered_item (period_loads decimals view c.args.i c.args.c))
+    c.loop-k.k view.periods
     (omega (
       arith,
       ap (λ (inst : Tables). inst.periods) c.instance.ensures,

@@ -21,7 +21,8 @@ returns-then-not-has_load-clause-text g c =
 pub returns-then-not-has_load-clause-first : goal.returns-then-not-has_load-clause-first
 returns-then-not-has_load-clause-first g c =
     let view = g.V.InstanceView.tables c.args.view.now in
-    first_none c.args.first (slice_index_or view.resource_names c.args.c []) (workload_of decimals view c.args.i c.args.c)
+    first_none c.args.first (slice_index_or view.resource_names c.args.c [])
+    (workload_of decimals view c.args.i c.args.c)
     (is_none_of (workload_of decimals view c.args.i c.args.c) (sym c.has_load.ensures ∙ c.if-not-has_load.true))
 
 pub returns-clause-text : goal.returns-clause-text

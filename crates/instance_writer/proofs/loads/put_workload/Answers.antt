@@ -19,14 +19,16 @@ loop-c-preserved g c =
     let view = g.V.InstanceView.tables c.args.view.now in
     record {
       ready = c.put_resource_loads-first.ensures.ready;
-      fields = next_fields g.S.Sink.Takes g.met.S.Sink.takes_more (named_item view.resource_names (workload_of decimals view c.args.i)) c.loop-c.c c.loop-c.invariant.fields
+      fields = next_fields g.S.Sink.Takes g.met.S.Sink.takes_more
+          (named_item view.resource_names (workload_of decimals view c.args.i)) c.loop-c.c c.loop-c.invariant.fields
           c.put_resource_loads-first.ensures.text c.put_resource_loads-first.ensures.first;
     }
 
 pub returns-clause-text : goal.returns-clause-text
 returns-clause-text g c =
     let view = g.V.InstanceView.tables c.args.view.now in
-    end_fields g.S.Sink.Takes g.met.S.Sink.takes_more (named_item view.resource_names (workload_of decimals view c.args.i)) c.loop-c.c (length view.resource_names)
+    end_fields g.S.Sink.Takes g.met.S.Sink.takes_more
+    (named_item view.resource_names (workload_of decimals view c.args.i)) c.loop-c.c (length view.resource_names)
     (omega (
       arith,
       ap (λ (inst : Tables). length inst.resource_names) c.instance.ensures,

@@ -9,5 +9,6 @@ invariant-loop-c g l =
     let view = g.V.InstanceView.tables l.view in
     record {
       ready : g.S.Sink.IsReady l.sink;
-      fields : HasFields g.S.Sink.Takes (named_item view.resource_names (workload_of decimals view l.i)) l.c l.first l.fn.sink l.sink;
+      fields : HasFields g.S.Sink.Takes (named_item view.resource_names (workload_of decimals view l.i)) l.c l.first
+          l.fn.sink l.sink;
     }

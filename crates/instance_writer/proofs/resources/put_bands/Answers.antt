@@ -15,6 +15,8 @@ returns-clause-text g c =
     let lower = count_list decimals (list_of inst.periods (λ k. lower_of inst c.args.c (k + 1))) in
     whole_object g.S.Sink.Takes more (under known.Max upper ∷ under known.Min lower ∷ []) c.put.ensures.text
     (join_fields g.S.Sink.Takes more true (under known.Max upper ∷ []) (under known.Min lower ∷ [])
-    (put_field g.S.Sink.Takes more true (codes "max") (codes "max") upper refl c.put_key.ensures.text c.put_upper.ensures.text)
-    (put_field g.S.Sink.Takes more false (codes "min") (codes "min") lower refl c.put_key-2.ensures.text c.put_lower.ensures.text))
+    (put_field g.S.Sink.Takes more true (codes "max") (codes "max") upper refl c.put_key.ensures.text
+    c.put_upper.ensures.text)
+    (put_field g.S.Sink.Takes more false (codes "min") (codes "min") lower refl c.put_key-2.ensures.text
+    c.put_lower.ensures.text))
     c.put-2.ensures.text

@@ -17,14 +17,16 @@ loop-k-preserved g c =
     let view = g.V.InstanceView.tables c.args.view.now in
     record {
       ready = c.put_start_risks-first.ensures.ready;
-      fields = next_fields g.S.Sink.Takes g.met.S.Sink.takes_more (numbered_item (risks_of decimals view c.args.i c.args.t)) c.loop-k.k c.loop-k.invariant.fields
+      fields = next_fields g.S.Sink.Takes g.met.S.Sink.takes_more
+          (numbered_item (risks_of decimals view c.args.i c.args.t)) c.loop-k.k c.loop-k.invariant.fields
           c.put_start_risks-first.ensures.text c.put_start_risks-first.ensures.first;
     }
 
 pub returns-clause-text : goal.returns-clause-text
 returns-clause-text g c =
     let view = g.V.InstanceView.tables c.args.view.now in
-    end_fields g.S.Sink.Takes g.met.S.Sink.takes_more (numbered_item (risks_of decimals view c.args.i c.args.t)) c.loop-k.k (tmax view c.args.i)
+    end_fields g.S.Sink.Takes g.met.S.Sink.takes_more (numbered_item (risks_of decimals view c.args.i c.args.t))
+    c.loop-k.k (tmax view c.args.i)
     (omega (
       arith,
       ap (λ (inst : Tables). tmax inst c.args.i) c.instance.ensures,
