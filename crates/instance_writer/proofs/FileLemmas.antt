@@ -1,5 +1,5 @@
 -- A file that a text is written to, with bytes that are kept before.
-use Rattle.std.proofs.Common.{◌≡◌, ℕ, Bool, true, false, List, [], ◌++◌, Result, Ok, Err, refl, sym, ◌∙◌, ap, subst}
+use Rattle.std.proofs.Common.{◌≡◌, ℕ, Bool, true, false, List, [], ◌++◌, Result, Ok, Err, sym, ◌∙◌, ap, subst}
 use Rattle.std.proofs.Common.{true≢false}
 use Rattle.std.specs.Prelude.{IsTrue, IsErr}
 use Rattle.std.proofs.lemmas.List.{append-nil}
@@ -78,7 +78,8 @@ ends_as {T = T} false true text a p new (Err e) good kept takes ends =
     }))
 
 pub whole_written : {T : Type 0} (text : List ℕ) (a p : Progress) (new : Shown) (r : Result T Failed)
-    → a.failed ≡ false → a.kept ≡ [] → TakesText text a p → EndsAs p.failed p new r → PutsText writing text a.shown new r
+    → a.failed ≡ false → a.kept ≡ [] → TakesText text a p → EndsAs p.failed p new r → PutsText writing text a.shown
+    new r
 whole_written text a p new r good kept takes ends =
     ends_as a.failed p.failed text a p new r good kept takes ends
 

@@ -1,11 +1,11 @@
 -- Objects that are left out where they have no field.
-use Rattle.std.proofs.Common.{◌≡◌, ◌⊎◌, ℕ, zero, suc, ◌+◌, ◌<◌, ◌≤◌, true, false, List, [], ◌∷◌, ◌++◌, refl, sym, ◌∙◌, ap, subst, arith}
+use Rattle.std.proofs.Common.{◌≡◌, ◌⊎◌, ℕ, zero, suc, ◌+◌, ◌<◌, ◌≤◌, true, false, List, [], ◌∷◌, ◌++◌, refl, sym, ◌∙◌}
+use Rattle.std.proofs.Common.{ap, subst, arith}
 use Rattle.std.proofs.Common.{Option, Some, None, inl, inr, is_some, true≢false}
 use Rattle.std.proofs.lemmas.Bool.{cases_lt}
-use Rattle.json_spelling.specs.Value.{Value, Field, field}
+use Rattle.json_spelling.specs.Value.{Value, Field}
 use Rattle.instance_shape.specs.FileTables.{lists_below}
 use Rattle.instance_text.specs.Written.{object_of, optional, filled}
-use Rattle.instance_writer.specs.Steps.{is_first_after}
 use Rattle.instance_writer.proofs.LoopLemmas.{lists_more}
 
 abbrev pub IsFull : List Field → Type 0

@@ -1,5 +1,6 @@
 -- Texts that are taken piece by piece: one after another, and element by element in a loop.
-use Rattle.std.proofs.Common.{◌≡◌, ℕ, ◌+◌, Bool, true, false, List, [], ◌∷◌, ◌++◌, refl, sym, ◌∙◌, ap, subst, Option, Some, None}
+use Rattle.std.proofs.Common.{◌≡◌, ℕ, ◌+◌, Bool, true, false, List, [], ◌∷◌, ◌++◌, refl, sym, ◌∙◌, ap, subst, Option}
+use Rattle.std.proofs.Common.{Some, None}
 use Rattle.std.proofs.Common.{add-one}
 use Rattle.json_spelling.specs.Value.{Value, values_of, Field, field}
 use Rattle.json_spelling.specs.Spelling.{quoted, spell, spell_values, spell_fields}

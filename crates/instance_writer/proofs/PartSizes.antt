@@ -1,24 +1,20 @@
 -- How long the parts of an instance's text are at most.
-use Rattle.std.proofs.Common.{◌≡◌, ℕ, zero, suc, ◌+◌, ◌-◌, ◌*◌, ◌^◌, ◌<◌, ◌≤◌, Bool, true, false, cond, List, [], ◌∷◌, ◌++◌, length}
-use Rattle.std.proofs.Common.{refl, sym, ◌∙◌, ap, subst, arith, Option, Some, None, map, decimal}
-use Rattle.std.specs.Prelude.{ℤ, pos, All, IfSome, unsigned_abs, find, option_map, slice_index_or, IsTrue, codes}
-use Rattle.std.proofs.lemmas.List.Elements.{All-nil, All-head, All-tail, All-map, All-weaker, All-from_get_or}
+use Rattle.std.proofs.Common.{ℕ, ◌+◌, ◌*◌, ◌^◌, ◌<◌, ◌≤◌, false, List, [], length}
+use Rattle.std.proofs.Common.{arith, Option, map, decimal}
+use Rattle.std.specs.Prelude.{ℤ, All, unsigned_abs, slice_index_or}
+use Rattle.std.proofs.lemmas.List.Elements.{All-map, All-weaker}
 use Rattle.fixed_num.specs.Sums.{list_of}
 use Rattle.fixed_num.proofs.SumLemmas.{length-list_of}
-use Rattle.json_spelling.specs.Value.{Value, values_of, Field, field, fields_of}
+use Rattle.json_spelling.specs.Value.{Value}
 use Rattle.json_spelling.specs.Spelling.{spell}
-use Rattle.instance_model.specs.declared.parts.LoadCell.{LoadCell}
-use Rattle.instance_model.specs.Tables.{Tables, scenarios_of, tmax, is_allowed, in_run, risk_of, is_cell_of}
-use Rattle.instance_model.specs.Tables.{upper_of, lower_of, in_season_of, exclusion_of}
-use Rattle.instance_model.specs.Fitting.{IsFitting, IsName, AreNames, AreCells}
-use Rattle.instance_shape.specs.FileTables.{lists_below}
+use Rattle.instance_model.specs.Fitting.{IsName}
 use Rattle.instance_text.specs.Styles.{decimals}
-use Rattle.instance_text.specs.Written.{count_number, count_list, whole_number, whole_list, object_of, optional, filled}
+use Rattle.instance_text.specs.Written.{count_number, count_list, whole_number, whole_list}
 use Rattle.instance_text.specs.Written.{numbered, named}
-use Rattle.instance_writer.specs.Steps.{fields_text, values_text}
+use Rattle.instance_writer.specs.Steps.{fields_text}
 use Rattle.instance_writer.proofs.Items.{named_item, numbered_item}
-use Rattle.instance_writer.proofs.SizeLemmas.{IsWithin, length-values, length-list, length-object, length-optional}
-use Rattle.instance_writer.proofs.SizeLemmas.{length-fields, filled_within}
+use Rattle.instance_writer.proofs.SizeLemmas.{IsWithin, length-values, length-list, length-optional}
+use Rattle.instance_writer.proofs.SizeLemmas.{length-fields}
 use Rattle.instance_writer.proofs.NumberSizes.{length-whole, length-count}
 
 -- ---- lists of numbers

@@ -1,10 +1,9 @@
 -- How long texts are at most.
-use Rattle.std.proofs.Common.{◌≡◌, ℕ, zero, suc, ◌+◌, ◌*◌, ◌^◌, ◌<◌, ◌≤◌, Bool, true, false, cond, List, [], ◌∷◌, ◌++◌}
-use Rattle.std.proofs.Common.{length, refl, sym, ◌∙◌, ap, subst, arith, length-append, map, Option, Some, None, decimal}
+use Rattle.std.proofs.Common.{◌≡◌, ℕ, zero, suc, ◌+◌, ◌*◌, ◌<◌, ◌≤◌, Bool, true, false, cond, List, [], ◌∷◌, ◌++◌}
+use Rattle.std.proofs.Common.{length, refl, ◌∙◌, ap, arith, length-append, map, Option, Some, None}
 use Rattle.std.specs.Prelude.{IfSome, All}
 use Rattle.std.proofs.lemmas.List.Elements.{All-head, All-tail}
-use Rattle.std.proofs.lemmas.Fmt.{length-decimal-le_wide}
-use Rattle.json_spelling.specs.Value.{Value, values_of, Field, field, fields_of}
+use Rattle.json_spelling.specs.Value.{Value, values_of, Field, field}
 use Rattle.json_spelling.specs.Spelling.{escaped, needs_escape, quoted, spell, spell_values, spell_more_values}
 use Rattle.json_spelling.specs.Spelling.{spell_fields, spell_more_fields}
 use Rattle.instance_shape.specs.FileTables.{lists_below}
@@ -118,6 +117,7 @@ length-fields (suc n) f most each = omega (
   one_more n most,
 )
 
-pub filled_within : (fs : List Field) (most : ℕ) → length (fields_text false fs) ≤ most → IsWithin (most + 2) (filled fs)
+pub filled_within : (fs : List Field) (most : ℕ) → length (fields_text false fs) ≤ most → IsWithin (most + 2)
+    (filled fs)
 filled_within [] most low = tt
 filled_within (f ∷ fs) most low = omega (arith, length-object (f ∷ fs))

@@ -1,5 +1,6 @@
 -- The texts of lists and objects, piece by piece.
-use Rattle.std.proofs.Common.{◌≡◌, ◌⊎◌, ℕ, ◌+◌, ◌-◌, ◌/◌, ◌%◌, ◌<◌, ◌≤◌, Bool, true, false, List, [], ◌∷◌, ◌++◌, refl, sym, ◌∙◌, ap, append_assoc}
+use Rattle.std.proofs.Common.{◌≡◌, ◌⊎◌, ℕ, ◌+◌, ◌-◌, ◌/◌, ◌%◌, ◌<◌, ◌≤◌, Bool, true, false, List, [], ◌∷◌, ◌++◌, refl}
+use Rattle.std.proofs.Common.{sym, ◌∙◌, ap, append_assoc}
 use Rattle.std.proofs.Common.{cond, inl, inr, arith, length, take, get_or, decimal, map}
 use Rattle.std.specs.Prelude.{replicate}
 use Rattle.std.proofs.lemmas.Bool.Decides.{nat_tests}
@@ -47,7 +48,8 @@ unfolding spell_more_values
 more_values [] ws = refl
 more_values (v ∷ vs) ws =
     ap (λ l. 44 ∷ (spell v ++ l)) (more_values vs ws)
-    ∙ ap (λ l. 44 ∷ l) (sym (append_assoc (spell v) (spell_more_values (values_of vs)) (spell_more_values (values_of ws))))
+    ∙ ap (λ l. 44 ∷ l) (sym (append_assoc (spell v) (spell_more_values (values_of vs))
+    (spell_more_values (values_of ws))))
 
 pub values_text-append : (first : Bool) (vs ws : List Value) → values_text first (vs ++ ws)
     ≡ values_text first vs ++ values_text (is_first_after first vs) ws

@@ -1,11 +1,13 @@
 -- Starts, runs and load cells of a view.
-use Rattle.std.proofs.Common.{◌≡◌, ◌⊎◌, ℕ, ◌+◌, ◌-◌, ◌<◌, ◌≤◌, Bool, true, false, ◌&&◌, cond, List, [], ◌∷◌, refl, sym, ◌∙◌, ap, arith}
+use Rattle.std.proofs.Common.{◌≡◌, ◌⊎◌, ℕ, ◌+◌, ◌-◌, ◌<◌, ◌≤◌, Bool, true, false, ◌&&◌, cond, List, [], ◌∷◌, refl, sym}
+use Rattle.std.proofs.Common.{◌∙◌, ap, arith}
 use Rattle.std.proofs.Common.{Option, Some, None, inl, inr, is_some, length}
 use Rattle.std.specs.Prelude.{ℤ, nat_le, nat_lt, IsTrue, All, slice_index, slice_index_or, find, option_map}
 use Rattle.std.proofs.lemmas.Bool.Decides.{nat_tests}
 use Rattle.std.proofs.lemmas.List.Elements.{All-head, All-tail}
 use Rattle.instance_model.specs.declared.parts.LoadCell.{LoadCell}
-use Rattle.instance_model.specs.Tables.{Tables, tmax, delta_of, is_allowed, allowed_of, in_run, scenarios_of, risk_of, is_cell_of}
+use Rattle.instance_model.specs.Tables.{Tables, tmax, delta_of, is_allowed, allowed_of, in_run, scenarios_of, risk_of}
+use Rattle.instance_model.specs.Tables.{is_cell_of}
 use Rattle.instance_model.specs.Fitting.{AreCells}
 use Rattle.instance_text.specs.Styles.{Style}
 use Rattle.instance_text.specs.Written.{count_number, count_list, risks_of}
@@ -95,7 +97,8 @@ pub risks_running : (style : Style) (view : Tables) (i t s : ℕ) → (is_allowe
     → risks_of style view i t s
     ≡ Some (count_list style (list_of (scenarios_of view t) (λ k. risk_of view i s t (k + 1))))
 risks_running style view i t s runs =
-    ap (λ b. cond b (Some (count_list style (list_of (scenarios_of view t) (λ k. risk_of view i s t (k + 1))))) None) runs
+    ap (λ b. cond b (Some (count_list style (list_of (scenarios_of view t) (λ k. risk_of view i s t (k + 1))))) None)
+    runs
 
 -- ---- starts that a view allows
 

@@ -1,28 +1,30 @@
 -- The text of an instance is shorter than 2 ^ 64.
-use Rattle.std.proofs.Common.{◌≡◌, ◌⊎◌, inl, inr, ℕ, zero, suc, ◌+◌, ◌-◌, ◌*◌, ◌^◌, ◌<◌, ◌≤◌, Bool, true, false, cond, List, [], ◌∷◌, ◌++◌, length}
-use Rattle.std.proofs.Common.{refl, sym, ◌∙◌, ap, subst, arith, Option, Some, None, map, decimal, get_or, codes, length-append, ◌&&◌}
-use Rattle.std.specs.Prelude.{ℤ, pos, All, IfSome, unsigned_abs, find, option_map, slice_index_or}
+use Rattle.std.proofs.Common.{◌⊎◌, inl, inr, ℕ, zero, suc, ◌+◌, ◌*◌, ◌^◌, ◌<◌, ◌≤◌, Bool, true, false, cond, List, []}
+use Rattle.std.proofs.Common.{◌∷◌, length}
+use Rattle.std.proofs.Common.{ap, arith, Some, None, map, codes, length-append, ◌&&◌}
+use Rattle.std.specs.Prelude.{All, unsigned_abs, find, option_map, slice_index_or}
 use Rattle.std.proofs.lemmas.List.Elements.{All-nil, All-cons, All-head, All-tail, All-get_or}
 use Rattle.std.proofs.lemmas.List.{get_or_past}
 use Rattle.std.proofs.lemmas.Bool.{cases_lt}
 use Rattle.instance_shape.proofs.ListsBelow.{all_lists, all_cond}
 use Rattle.fixed_num.specs.Sums.{list_of}
-use Rattle.json_spelling.specs.Value.{Value, values_of, Field}
-use Rattle.json_spelling.specs.Spelling.{spell, quoted}
+use Rattle.json_spelling.specs.Value.{Value, Field}
+use Rattle.json_spelling.specs.Spelling.{spell}
 use Rattle.instance_model.specs.declared.parts.LoadCell.{LoadCell}
 use Rattle.instance_model.specs.declared.parts.Exclusion.{Exclusion}
 use Rattle.instance_model.specs.Tables.{Tables, scenarios_of, durations, tmax, is_allowed, in_run, risk_of, is_cell_of}
 use Rattle.instance_model.specs.Tables.{upper_of, lower_of, in_season_of, exclusion_of}
-use Rattle.instance_model.specs.Fitting.{IsFitting, IsName, AreNames, AreCells}
-use Rattle.instance_model.proofs.FitLemmas.{tmax_small, scenarios_of_small, risk_of_small, upper_of_small, lower_of_small}
+use Rattle.instance_model.specs.Fitting.{IsFitting, IsName}
+use Rattle.instance_model.proofs.FitLemmas.{tmax_small, scenarios_of_small, risk_of_small, upper_of_small}
+use Rattle.instance_model.proofs.FitLemmas.{lower_of_small}
 use Rattle.instance_shape.specs.declared.fault.Known.TheVariants as known
 use Rattle.instance_shape.specs.FileTables.{lists_below}
 use Rattle.instance_text.specs.Styles.{decimals, part_text}
-use Rattle.instance_text.specs.Written.{count_number, count_list, whole_number, whole_list, object_of, filled, numbered}
+use Rattle.instance_text.specs.Written.{count_number, count_list, whole_number, whole_list, object_of, numbered}
 use Rattle.instance_text.specs.Written.{named, under, resource_value, season_periods, season_value, exclusion_words}
 use Rattle.instance_text.specs.Written.{exclusion_value, load_value, workload_of, workload_value, risks_of, risk_value}
-use Rattle.instance_text.specs.Written.{intervention_value, instance_value, instance_text}
-use Rattle.instance_writer.specs.Steps.{fields_text, values_text, start_load, period_loads, period_risks, number_fields}
+use Rattle.instance_text.specs.Written.{intervention_value, instance_text}
+use Rattle.instance_writer.specs.Steps.{fields_text, start_load, period_loads, period_risks, number_fields}
 use Rattle.instance_writer.proofs.RootLemmas.{resources, seasons, exclusions}
 use Rattle.instance_writer.proofs.SizeLemmas.{IsWithin, length-quoted, length-values, length-list, length-object}
 use Rattle.instance_writer.proofs.SizeLemmas.{length-field, length-more, filled_within}
@@ -143,7 +145,8 @@ module _ (inst : Tables) (fits : IsFitting inst) where
       let season : List ℕ = slice_index_or inst.season_names e.season [] in
       All-cons P first (second ∷ season ∷ []) (text_short first (name_short inst.names e.first fits.names.shaped))
       (All-cons P second (season ∷ []) (text_short second (name_short inst.names e.second fits.names.shaped))
-      (All-cons P season [] (text_short season (name_short inst.season_names e.season fits.seasons.shaped)) (All-nil P)))
+      (All-cons P season [] (text_short season (name_short inst.season_names e.season fits.seasons.shaped))
+      (All-nil P)))
 
   exclusion_short : (e : ℕ) → length (spell (exclusion_value inst e)) ≤ 779
   exclusion_short e = omega (
@@ -257,7 +260,8 @@ module _ (inst : Tables) (fits : IsFitting inst) where
         omega (arith, d, length-object (under known.Tmax starts ∷ second))
 
   pub interventions_short :
-      length (spell (object_of (named inst.names (λ i. Some (intervention_value decimals inst i))))) ≤ 10_392_102_779_906
+      length (spell (object_of (named inst.names (λ i. Some (intervention_value decimals inst i)))))
+      ≤ 10_392_102_779_906
   interventions_short = omega (
     arith,
     length-object (named inst.names (λ i. Some (intervention_value decimals inst i))),
@@ -306,10 +310,12 @@ module _ (inst : Tables) (fits : IsFitting inst) where
       field_more (codes "Exclusions") (exclusions inst) fifth 10 68_091_906 5249 (omega arith) exclusions_short
       numbers_short in
       let b : length (fields_text false third) ≤ 10_392_170_877_115 =
-      field_more (codes "Interventions") all fourth 13 10_392_102_779_906 68_097_179 (omega arith) interventions_short a in
+      field_more (codes "Interventions") all fourth 13 10_392_102_779_906 68_097_179 (omega arith) interventions_short
+      a in
       let c : length (fields_text false second) ≤ 10_392_171_221_583 =
       field_more (codes "Seasons") (seasons inst) third 7 344_450 10_392_170_877_115 (omega arith) seasons_short b in
       let d : length (fields_text false (under known.Resources (resources inst) ∷ second)) ≤ 10_392_172_410_407 =
-      field_more (codes "Resources") (resources inst) second 9 1_188_802 10_392_171_221_583 (omega arith) resources_short
+      field_more (codes "Resources") (resources inst) second 9 1_188_802 10_392_171_221_583 (omega arith)
+      resources_short
       c in
       omega (arith, d, length-object (under known.Resources (resources inst) ∷ second))

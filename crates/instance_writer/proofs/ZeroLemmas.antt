@@ -1,6 +1,6 @@
 -- The load cells of an instance without those of 0.
-use Rattle.std.proofs.Common.{◌≡◌, ℕ, zero, suc, ◌<◌, Bool, true, false, cond, List, [], ◌∷◌, refl, sym, ◌∙◌, ap, subst, arith}
-use Rattle.std.proofs.Common.{Option, Some, None, true≢false, map, length, get_or}
+use Rattle.std.proofs.Common.{◌≡◌, ℕ, zero, suc, Bool, true, false, cond, List, [], ◌∷◌, refl, sym, ◌∙◌, ap, arith}
+use Rattle.std.proofs.Common.{Option, Some, None, map, get_or}
 use Rattle.std.specs.Prelude.{ℤ, pos, not, All, AllPairs, filter, find, option_map, unwrap_or, slice_index_or}
 use Rattle.std.specs.Ordering.{int_eq}
 use Rattle.std.proofs.lemmas.Bool.Decides.{nat_tests, Decides-int_eq}
@@ -78,7 +78,7 @@ kept_cells (cells ∷ loads) (suc i) = kept_cells loads i
 kept_load_is : (o : Option LoadCell)
     → kept_load o
     ≡ (let load = unwrap_or (option_map (λ (cell : LoadCell). cell.load) o) (pos 0) in
-      cond (int_eq load (pos 0)) None (Some load))
+    cond (int_eq load (pos 0)) None (Some load))
 kept_load_is None = refl
 kept_load_is (Some cell) = go (int_eq cell.load (pos 0))
   where

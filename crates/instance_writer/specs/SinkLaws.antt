@@ -2,12 +2,11 @@
 use Rattle.std.specs.Prelude.{◌≡◌, ℕ, ◌+◌, Bool, true, false, List, [], ◌++◌, length, Err, refl}
 use Rattle.std.proofs.Common.{sym, ◌∙◌, ap, subst, append_assoc, arith}
 use Rattle.std.proofs.lemmas.List.{append-nil, length-append}
-use Rattle.plan_desk.specs.declared.call.Failed.{Failed}
 use Rattle.plan_desk.specs.Desk.{Shown}
-use Rattle.plan_desk.specs.Written.{PutsText, HasPut}
+use Rattle.plan_desk.specs.Written.{PutsText}
 use Rattle.plan_desk.specs.Written.Way.{writing}
 use Rattle.plan_desk.proofs.Written.{begins, joins, last, cut, respelled}
-use Rattle.instance_writer.specs.Sinks.{CountsText, Progress, KeepsRest, TakesAs, TakesText}
+use Rattle.instance_writer.specs.Sinks.{CountsText, Progress, TakesAs, TakesText}
 
 pub counts_none : (n : ℕ) → CountsText [] n n
 counts_none n low = omega arith

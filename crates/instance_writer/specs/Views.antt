@@ -1,6 +1,6 @@
--- Defines what is seen of an instance: its tables, with other durations, and with what these leave of its risks and load
--- cells.
-use Rattle.std.specs.Prelude.{◌≡◌, ℕ, ◌<◌, ◌≤◌, ℤ, pos, not, List, [], Option, IsTrue, length, map, filter, find}
+-- Defines what is seen of an instance: its tables, with other durations, and with what these leave of its risks and
+-- load cells.
+use Rattle.std.specs.Prelude.{◌≡◌, ℕ, ◌<◌, ◌≤◌, ℤ, pos, not, [], Option, IsTrue, length, map, filter, find}
 use Rattle.std.specs.Prelude.{option_map, slice_index_or}
 use Rattle.std.specs.Ordering.{int_eq}
 use Rattle.instance_model.specs.declared.parts.LoadCell.{LoadCell}
@@ -22,11 +22,14 @@ pub record IsViewOf (inst view : Tables) : Type 0 where
     rounded = view.rounded;
   }
   pub starts : (i : ℕ) → i < length inst.names → tmax view i ≡ tmax inst i
-  pub durations : (i s : ℕ) → i < length inst.names → IsTrue (is_allowed view i s) → delta_of view i s ≡ delta_of inst i s
+  pub durations : (i s : ℕ) → i < length inst.names → IsTrue (is_allowed view i s)
+      → delta_of view i s ≡ delta_of inst i s
   pub risks : (i s t k : ℕ) → i < length inst.names → IsTrue (is_allowed view i s) → IsTrue (in_run view i s t) → 1 ≤ k
       → k ≤ scenarios_of inst t → risk_of view i s t k ≡ risk_of inst i s t k
   pub fits : IsFitting view
 
 -- an instance without its load cells of 0, which say nothing
 abbrev pub without_zeros : Tables → Tables
-without_zeros inst = record inst { loads = map (filter (λ (cell : LoadCell). not (int_eq cell.load (pos 0)))) inst.loads }
+without_zeros inst = record inst {
+  loads = map (filter (λ (cell : LoadCell). not (int_eq cell.load (pos 0)))) inst.loads;
+}

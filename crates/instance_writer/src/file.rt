@@ -79,11 +79,11 @@ impl<D: Desk> Sink for OpenFile<'_, D> {
         (takes_none (record { shown = D.shows f.desk.now; kept = f.room; failed = f.failed }), refl) };
 
     ghost takes_more = { λ a b f g h first next. (
-        takes_more a b
-        (record { shown = D.shows f.desk.now; kept = f.room; failed = f.failed })
-        (record { shown = D.shows g.desk.now; kept = g.room; failed = g.failed })
-        (record { shown = D.shows h.desk.now; kept = h.room; failed = h.failed }) first.0 next.0,
-        next.1 ∙ first.1,
+      takes_more a b
+          (record { shown = D.shows f.desk.now; kept = f.room; failed = f.failed })
+          (record { shown = D.shows g.desk.now; kept = g.room; failed = g.failed })
+          (record { shown = D.shows h.desk.now; kept = h.room; failed = h.failed }) first.0 next.0,
+      next.1 ∙ first.1,
     ) };
 
     fn put(&mut self, piece: &[u8]) {

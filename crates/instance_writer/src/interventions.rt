@@ -20,7 +20,8 @@ pub fn put_interventions<V: InstanceView, S: Sink>(view: &V, sink: &mut S)
     requires shown { IsViewOf (V.base view.now) (V.tables view.now) }
     ensures ready { S.IsReady sink.new }
     ensures text { S.Takes
-        (spell (object_of (named (V.tables view.now).names (λ i. Some (intervention_value decimals (V.tables view.now) i)))))
+        (spell (object_of (named (V.tables view.now).names
+        (λ i. Some (intervention_value decimals (V.tables view.now) i)))))
         sink.old sink.new }
 {
     sink.put(b"{");

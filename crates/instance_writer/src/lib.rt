@@ -1,7 +1,7 @@
 //! The text of an instance, written to a file in one pass, and its length. No call takes memory.
 //!
-//! What is written is what an `InstanceView` shows of an instance. The walk over the text stands once: it hands pieces to
-//! a `Sink`, which writes them or counts their bytes.
+//! What is written is what an `InstanceView` shows of an instance. The walk over the text stands once: it hands pieces
+//! to a `Sink`, which writes them or counts their bytes.
 #![tactic(auto)]
 
 mod count;

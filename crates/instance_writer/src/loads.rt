@@ -109,7 +109,6 @@ fn put_resource_loads<V: InstanceView, S: Sink>(
         (workload_of decimals (V.tables view.now) i c)) }
 {
     if !has_load(view, i, c) {
-        sink.put(b"");
         return first;
     }
     put_key(first, view.instance().resource_name(c).as_bytes(), sink);
@@ -157,7 +156,6 @@ fn put_period_loads<V: InstanceView, S: Sink>(
         ≡ is_first_after first (optional (decimal t) (period_loads decimals (V.tables view.now) i c t)) }
 {
     if !has_load_in(view, i, c, t) {
-        sink.put(b"");
         return first;
     }
     put_number_key(first, t, sink);
@@ -213,9 +211,6 @@ fn put_load<V: InstanceView, S: Sink>(
             sink.put(Line::of_fixed(load.count()).bytes());
             false
         }
-        None => {
-            sink.put(b"");
-            first
-        }
+        None => first,
     }
 }

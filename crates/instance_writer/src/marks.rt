@@ -15,9 +15,7 @@ pub fn separate<S: Sink>(first: bool, sink: &mut S)
     ensures ready { S.IsReady sink.new }
     ensures text { S.Takes (separator first) sink.old sink.new }
 {
-    if first {
-        sink.put(b"");
-    } else {
+    if !first {
         sink.put(b",");
     }
 }

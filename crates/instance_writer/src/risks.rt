@@ -84,7 +84,6 @@ fn put_period_risks<V: InstanceView, S: Sink>(
         ≡ is_first_after first (optional (decimal t) (period_risks decimals (V.tables view.now) i t)) }
 {
     if !has_risks_in(view, i, t) {
-        sink.put(b"");
         return first;
     }
     put_number_key(first, t, sink);
@@ -136,7 +135,6 @@ fn put_start_risks<V: InstanceView, S: Sink>(
         ≡ is_first_after first (optional (decimal s) (risks_of decimals (V.tables view.now) i t s)) }
 {
     if !is_running(view, i, s, t) {
-        sink.put(b"");
         return first;
     }
     put_number_key(first, s, sink);

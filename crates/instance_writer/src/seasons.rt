@@ -64,7 +64,6 @@ fn put_season_period<S: Sink>(inst: &Instance, q: u32, t: u32, first: bool, sink
     ensures first { result ≡ is_first_after first (cond (in_season_of inst.now q t) (t ∷ []) []) }
 {
     if !inst.in_season(q, t) {
-        sink.put(b"");
         return first;
     }
     put_whole(first, t, sink);

@@ -16,5 +16,6 @@ pub trait Sink {
 
     // Texts that are taken one after another are taken as one.
     ghost takes_none: { (s : Self) → Takes [] s s };
+
     ghost takes_more: { (a b : List ℕ) (s t u : Self) → Takes a s t → Takes b t u → Takes (a ++ b) s u };
 }

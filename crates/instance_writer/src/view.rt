@@ -24,7 +24,8 @@ pub trait InstanceView {
         requires to { s ≤ tmax (base self.now) i }
         ensures { result ≡ delta_of (tables self.now) i s };
 
-    /// The workload of the load cell of intervention `i` at start `s`, of resource `c` in period `t`, where there is one.
+    /// The workload of the load cell of intervention `i` at start `s`, of resource `c` in period `t`, where there is
+    /// one.
     fn load(&self, i: u32, s: u32, c: u32, t: u32) -> Option<Fixed>
         requires number { i < length (base self.now).names }
         requires resource { c < length (base self.now).resource_names }

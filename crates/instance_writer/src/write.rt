@@ -19,8 +19,8 @@ use crate::view::InstanceView;
 use instance_model::Instance;
 use plan_desk::{Desk, Failed};
 
-/// Writes the text of what is seen of an instance, with 12 decimals of counts and 6 of millionths, to the end of the file
-/// that is open, in one pass. Takes no memory.
+/// Writes the text of what is seen of an instance, with 12 decimals of counts and 6 of millionths, to the end of the
+/// file that is open, in one pass. Takes no memory.
 pub fn write_instance<V: InstanceView, D: Desk>(view: &V, desk: &mut D) -> Result<(), Failed>
     requires opened { IsTrue (D.shows desk.old).output.opened }
     requires shown { IsViewOf (V.base view.now) (V.tables view.now) }

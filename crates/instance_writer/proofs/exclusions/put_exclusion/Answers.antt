@@ -10,5 +10,6 @@ returns-clause-text g c =
     let inst = c.args.inst.now in
     put_field g.S.Sink.Takes g.met.S.Sink.takes_more c.args.first _ (slice_index_or inst.exclusion_names c.args.e [])
     (exclusion_value inst c.args.e)
-    (c.as_bytes.ensures.value ∙ sym (get_or_from_slice_get inst.exclusion_names c.args.e _ [] c.exclusion_name.ensures.value))
+    (c.as_bytes.ensures.value
+    ∙ sym (get_or_from_slice_get inst.exclusion_names c.args.e _ [] c.exclusion_name.ensures.value))
     c.put_key.ensures.text c.put_exclusion_words.ensures.text

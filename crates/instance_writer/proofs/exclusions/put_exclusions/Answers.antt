@@ -15,12 +15,14 @@ loop-e-preserved g c =
     let inst = c.args.inst.now in
     record {
       ready = c.put_exclusion.ensures.ready;
-      fields = next_fields g.S.Sink.Takes g.met.S.Sink.takes_more (named_item inst.exclusion_names (λ k. Some (exclusion_value inst k)))
+      fields = next_fields g.S.Sink.Takes g.met.S.Sink.takes_more
+          (named_item inst.exclusion_names (λ k. Some (exclusion_value inst k)))
           c.loop-e.e c.loop-e.invariant.fields c.put_exclusion.ensures.text refl;
     }
 
 pub returns-clause-text : goal.returns-clause-text
 returns-clause-text g c =
     let inst = c.args.inst.now in
-    end_fields g.S.Sink.Takes g.met.S.Sink.takes_more (named_item inst.exclusion_names (λ k. Some (exclusion_value inst k))) c.loop-e.e
+    end_fields g.S.Sink.Takes g.met.S.Sink.takes_more
+    (named_item inst.exclusion_names (λ k. Some (exclusion_value inst k))) c.loop-e.e
     (length inst.exclusion_names) (omega arith) c.loop-e.invariant.fields c.put-2.ensures.text

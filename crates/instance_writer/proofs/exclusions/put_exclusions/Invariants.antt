@@ -8,5 +8,6 @@ abbrev pub invariant-loop-e : goal.invariant-loop-e
 invariant-loop-e g l =
     record {
       ready : g.S.Sink.IsReady l.sink;
-      fields : HasFields g.S.Sink.Takes (named_item l.inst.exclusion_names (λ k. Some (exclusion_value l.inst k))) l.e l.first l.fn.sink l.sink;
+      fields : HasFields g.S.Sink.Takes (named_item l.inst.exclusion_names (λ k. Some (exclusion_value l.inst k))) l.e
+          l.first l.fn.sink l.sink;
     }

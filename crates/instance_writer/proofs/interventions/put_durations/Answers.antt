@@ -1,4 +1,4 @@
-use Rattle.std.proofs.Common.{[], ◌∷◌, ℕ, refl, sym, ◌∙◌, ap, arith}
+use Rattle.std.proofs.Common.{[], ◌∷◌, refl, sym, ap, arith}
 use Rattle.instance_model.specs.Tables.{Tables, tmax}
 use Rattle.instance_text.specs.Written.{whole_number}
 use Rattle.instance_writer.specs.Steps.{values_text}

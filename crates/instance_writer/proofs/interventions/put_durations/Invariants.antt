@@ -6,5 +6,6 @@ abbrev pub invariant-loop-k : goal.invariant-loop-k
 invariant-loop-k g l =
     record {
       ready : g.S.Sink.IsReady l.sink;
-      values : HasValues g.S.Sink.Takes (duration_item (g.V.InstanceView.tables l.view) l.i) l.k l.first l.fn.sink l.sink;
+      values : HasValues g.S.Sink.Takes (duration_item (g.V.InstanceView.tables l.view) l.i) l.k l.first l.fn.sink
+          l.sink;
     }

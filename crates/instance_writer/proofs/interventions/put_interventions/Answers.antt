@@ -32,5 +32,5 @@ returns-clause-text g c =
       arith,
       ap (λ (inst : Tables). length inst.names) c.instance.ensures,
       ap (λ (names : List (List ℕ)). length names)
-      (same_names (g.V.InstanceView.base c.args.view.now) view c.requires.shown),
+          (same_names (g.V.InstanceView.base c.args.view.now) view c.requires.shown),
     )) c.loop-i.invariant.fields c.put-2.ensures.text

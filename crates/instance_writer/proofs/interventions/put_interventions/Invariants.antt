@@ -10,6 +10,7 @@ invariant-loop-i g l =
     let view = g.V.InstanceView.tables l.view in
     record {
       ready : g.S.Sink.IsReady l.sink;
-      fields : HasFields g.S.Sink.Takes (named_item view.names (λ k. Some (intervention_value decimals view k))) l.i l.first
+      fields : HasFields g.S.Sink.Takes (named_item view.names (λ k. Some (intervention_value decimals view k))) l.i
+          l.first
           l.fn.sink l.sink;
     }

@@ -8,7 +8,8 @@ pub returns-then-t-s : goal.returns-then-t-s
 returns-then-t-s g c =
     let view = g.V.InstanceView.tables c.args.view.now in
     elim c.then-t-s.branch [
-      then-t-s-via-then-t-s w ↦ not_running view c.args.i c.args.s c.args.t (c.from.result + c.from-2.result) (omega arith)
+      | then-t-s-via-then-t-s w ↦ not_running view c.args.i c.args.s c.args.t (c.from.result + c.from-2.result)
+          (omega arith)
           (inl (omega arith))
       | then-t-s-via-else-t-s+then-from-past w ↦
           not_running view c.args.i c.args.s c.args.t (c.from.result + c.from-2.result) (omega arith)

@@ -1,4 +1,4 @@
-use Rattle.std.proofs.Common.{◌≡◌, Some, None, refl, ◌∙◌, sym, ap, arith, decimal}
+use Rattle.std.proofs.Common.{◌≡◌, Some, refl, ◌∙◌, sym, ap, arith, decimal}
 use Rattle.std.specs.Prelude.{option_map}
 use Rattle.fixed_num.specs.Texts.{fixed_text}
 use Rattle.fixed_num.proofs.SignedLemmas.{back_from_abs}
@@ -31,4 +31,5 @@ returns-in-None-clause-text g c =
     put_none g.S.Sink.Takes g.met.S.Sink.takes_more c.args.first (decimal c.args.s)
     (start_load decimals view c.args.i c.args.c c.args.t c.args.s)
     (start_load_is decimals view c.args.i c.args.c c.args.t c.args.s
-    ∙ ap (option_map (count_number decimals)) (sym c.load_at.ensures ∙ c.in-None.is)) c.put-in-None.ensures.text
+    ∙ ap (option_map (count_number decimals)) (sym c.load_at.ensures ∙ c.in-None.is))
+    (g.met.S.Sink.takes_none c.args.sink.now)

@@ -1,6 +1,5 @@
 use Rattle.std.proofs.Common.{refl, ◌∙◌, sym, decimal}
 use Rattle.instance_model.specs.Tables.{tmax}
-use Rattle.instance_shape.specs.FileTables.{lists_below}
 use Rattle.instance_text.specs.Styles.{decimals}
 use Rattle.instance_text.specs.Written.{object_of, numbered}
 use Rattle.instance_writer.specs.Steps.{start_load, period_loads}
@@ -12,7 +11,7 @@ pub returns-then-not-has_load_in-clause-text : goal.returns-then-not-has_load_in
 returns-then-not-has_load_in-clause-text g c =
     let loads = period_loads decimals (g.V.InstanceView.tables c.args.view.now) c.args.i c.args.c c.args.t in
     put_none g.S.Sink.Takes g.met.S.Sink.takes_more c.args.first (decimal c.args.t) loads
-    (is_none_of loads (sym c.has_load_in.ensures ∙ c.if-not-has_load_in.true)) c.put.ensures.text
+    (is_none_of loads (sym c.has_load_in.ensures ∙ c.if-not-has_load_in.true)) (g.met.S.Sink.takes_none c.args.sink.now)
 
 pub returns-then-not-has_load_in-clause-first : goal.returns-then-not-has_load_in-clause-first
 returns-then-not-has_load_in-clause-first g c =

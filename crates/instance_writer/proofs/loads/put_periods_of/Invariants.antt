@@ -9,5 +9,6 @@ invariant-loop-k g l =
     let view = g.V.InstanceView.tables l.view in
     record {
       ready : g.S.Sink.IsReady l.sink;
-      fields : HasFields g.S.Sink.Takes (numbered_item (period_loads decimals view l.i l.c)) l.k l.first l.fn.sink l.sink;
+      fields : HasFields g.S.Sink.Takes (numbered_item (period_loads decimals view l.i l.c)) l.k l.first l.fn.sink
+          l.sink;
     }

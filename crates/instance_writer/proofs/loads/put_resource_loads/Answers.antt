@@ -1,4 +1,4 @@
-use Rattle.std.proofs.Common.{[], List, ℕ, refl, ◌∙◌, sym, ap}
+use Rattle.std.proofs.Common.{[], List, ℕ, ◌∙◌, sym, ap}
 use Rattle.std.specs.Prelude.{slice_index_or}
 use Rattle.std.proofs.lemmas.Option.{get_or_from_slice_get}
 use Rattle.instance_model.specs.Tables.{Tables}
@@ -16,12 +16,13 @@ returns-then-not-has_load-clause-text g c =
     put_none g.S.Sink.Takes g.met.S.Sink.takes_more c.args.first (slice_index_or view.resource_names c.args.c [])
     (workload_of decimals view c.args.i c.args.c)
     (is_none_of (workload_of decimals view c.args.i c.args.c) (sym c.has_load.ensures ∙ c.if-not-has_load.true))
-    c.put.ensures.text
+    (g.met.S.Sink.takes_none c.args.sink.now)
 
 pub returns-then-not-has_load-clause-first : goal.returns-then-not-has_load-clause-first
 returns-then-not-has_load-clause-first g c =
     let view = g.V.InstanceView.tables c.args.view.now in
-    first_none c.args.first (slice_index_or view.resource_names c.args.c []) (workload_of decimals view c.args.i c.args.c)
+    first_none c.args.first (slice_index_or view.resource_names c.args.c [])
+    (workload_of decimals view c.args.i c.args.c)
     (is_none_of (workload_of decimals view c.args.i c.args.c) (sym c.has_load.ensures ∙ c.if-not-has_load.true))
 
 pub returns-clause-text : goal.returns-clause-text

@@ -9,5 +9,6 @@ invariant-loop-k g l =
     let view = g.V.InstanceView.tables l.view in
     record {
       ready : g.S.Sink.IsReady l.sink;
-      fields : HasFields g.S.Sink.Takes (numbered_item (start_load decimals view l.i l.c l.t)) l.k l.first l.fn.sink l.sink;
+      fields : HasFields g.S.Sink.Takes (numbered_item (start_load decimals view l.i l.c l.t)) l.k l.first l.fn.sink
+          l.sink;
     }

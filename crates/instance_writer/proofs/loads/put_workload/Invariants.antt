@@ -1,4 +1,3 @@
-use Rattle.std.specs.Prelude.{List, ℕ}
 use Rattle.instance_text.specs.Styles.{decimals}
 use Rattle.instance_text.specs.Written.{workload_of}
 use Rattle.instance_writer.proofs.LoopLemmas.{HasFields}
@@ -10,5 +9,6 @@ invariant-loop-c g l =
     let view = g.V.InstanceView.tables l.view in
     record {
       ready : g.S.Sink.IsReady l.sink;
-      fields : HasFields g.S.Sink.Takes (named_item view.resource_names (workload_of decimals view l.i)) l.c l.first l.fn.sink l.sink;
+      fields : HasFields g.S.Sink.Takes (named_item view.resource_names (workload_of decimals view l.i)) l.c l.first
+          l.fn.sink l.sink;
     }

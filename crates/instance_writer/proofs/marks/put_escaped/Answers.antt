@@ -1,4 +1,4 @@
-use Rattle.std.proofs.Common.{sym, ◌∙◌, ap, append-nil, take_all}
+use Rattle.std.proofs.Common.{sym}
 use Rattle.json_spelling.specs.Spelling.{escaped}
 use Rattle.instance_writer.proofs.TextLemmas.{escaped-more}
 use Rattle.instance_writer.proofs.LoopLemmas.{respelled, two}

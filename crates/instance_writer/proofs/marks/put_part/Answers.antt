@@ -19,7 +19,12 @@ returns-clause-text g c =
     c.bytes.ensures.value ∙ c.of_natural.ensures ∙ ap decimal c.from.ensures in
     respelled g.S.Sink.Takes
     (part_pieces c.args.m c.bytes.result.now c.bytes-2.result.now whole digits
-    (omega (arith, ap length digits, length-decimal-le 6 (c.args.m % 1000000) (omega arith) (omega arith) (omega arith))))
+    (omega (
+      arith,
+      ap length digits,
+      length-decimal-le 6 (c.args.m % 1000000) (omega arith) (omega arith)
+          (omega arith),
+    )))
     (two g.S.Sink.Takes more (two g.S.Sink.Takes more c.put.ensures.text c.put-2.ensures.text)
     (two g.S.Sink.Takes more c.put-3.ensures.text
     (respelled g.S.Sink.Takes (c.bytes-3.ensures.value ∙ sym c.bytes-2.ensures.value) c.put-4.ensures.text)))

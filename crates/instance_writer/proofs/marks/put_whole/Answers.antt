@@ -7,4 +7,5 @@ pub returns-clause-text : goal.returns-clause-text
 returns-clause-text g c =
     respelled g.S.Sink.Takes (number_in_list c.args.first (decimal c.args.n))
     (two g.S.Sink.Takes g.met.S.Sink.takes_more c.separate.ensures.text
-    (respelled g.S.Sink.Takes (c.bytes.ensures.value ∙ c.of_natural.ensures ∙ ap decimal c.from.ensures) c.put.ensures.text))
+    (respelled g.S.Sink.Takes (c.bytes.ensures.value ∙ c.of_natural.ensures ∙ ap decimal c.from.ensures)
+    c.put.ensures.text))

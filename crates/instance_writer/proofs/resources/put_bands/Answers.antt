@@ -1,6 +1,5 @@
 use Rattle.std.proofs.Common.{[], ◌∷◌, ◌+◌, true, false, refl, codes}
 use Rattle.fixed_num.specs.Sums.{list_of}
-use Rattle.json_spelling.specs.Value.{field}
 use Rattle.instance_model.specs.Tables.{upper_of, lower_of}
 use Rattle.instance_shape.specs.declared.fault.Known.TheVariants as known
 use Rattle.instance_text.specs.Styles.{decimals}
@@ -16,6 +15,8 @@ returns-clause-text g c =
     let lower = count_list decimals (list_of inst.periods (λ k. lower_of inst c.args.c (k + 1))) in
     whole_object g.S.Sink.Takes more (under known.Max upper ∷ under known.Min lower ∷ []) c.put.ensures.text
     (join_fields g.S.Sink.Takes more true (under known.Max upper ∷ []) (under known.Min lower ∷ [])
-    (put_field g.S.Sink.Takes more true (codes "max") (codes "max") upper refl c.put_key.ensures.text c.put_upper.ensures.text)
-    (put_field g.S.Sink.Takes more false (codes "min") (codes "min") lower refl c.put_key-2.ensures.text c.put_lower.ensures.text))
+    (put_field g.S.Sink.Takes more true (codes "max") (codes "max") upper refl c.put_key.ensures.text
+    c.put_upper.ensures.text)
+    (put_field g.S.Sink.Takes more false (codes "min") (codes "min") lower refl c.put_key-2.ensures.text
+    c.put_lower.ensures.text))
     c.put-2.ensures.text

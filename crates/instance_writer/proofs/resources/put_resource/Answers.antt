@@ -11,5 +11,6 @@ returns-clause-text g c =
     let inst = c.args.inst.now in
     put_field g.S.Sink.Takes g.met.S.Sink.takes_more c.args.first _ (slice_index_or inst.resource_names c.args.c [])
     (resource_value decimals inst c.args.c)
-    (c.as_bytes.ensures.value ∙ sym (get_or_from_slice_get inst.resource_names c.args.c _ [] c.resource_name.ensures.value))
+    (c.as_bytes.ensures.value
+    ∙ sym (get_or_from_slice_get inst.resource_names c.args.c _ [] c.resource_name.ensures.value))
     c.put_key.ensures.text c.put_bands.ensures.text

@@ -16,12 +16,14 @@ loop-c-preserved g c =
     let inst = c.args.inst.now in
     record {
       ready = c.put_resource.ensures.ready;
-      fields = next_fields g.S.Sink.Takes g.met.S.Sink.takes_more (named_item inst.resource_names (λ k. Some (resource_value decimals inst k)))
+      fields = next_fields g.S.Sink.Takes g.met.S.Sink.takes_more
+          (named_item inst.resource_names (λ k. Some (resource_value decimals inst k)))
           c.loop-c.c c.loop-c.invariant.fields c.put_resource.ensures.text refl;
     }
 
 pub returns-clause-text : goal.returns-clause-text
 returns-clause-text g c =
     let inst = c.args.inst.now in
-    end_fields g.S.Sink.Takes g.met.S.Sink.takes_more (named_item inst.resource_names (λ k. Some (resource_value decimals inst k))) c.loop-c.c
+    end_fields g.S.Sink.Takes g.met.S.Sink.takes_more
+    (named_item inst.resource_names (λ k. Some (resource_value decimals inst k))) c.loop-c.c
     (length inst.resource_names) (omega arith) c.loop-c.invariant.fields c.put-2.ensures.text

@@ -9,5 +9,7 @@ abbrev pub invariant-loop-c : goal.invariant-loop-c
 invariant-loop-c g l =
     record {
       ready : g.S.Sink.IsReady l.sink;
-      fields : HasFields g.S.Sink.Takes (named_item l.inst.resource_names (λ k. Some (resource_value decimals l.inst k))) l.c l.first l.fn.sink l.sink;
+      fields : HasFields g.S.Sink.Takes
+          (named_item l.inst.resource_names (λ k. Some (resource_value decimals l.inst k))) l.c l.first l.fn.sink
+          l.sink;
     }

@@ -1,4 +1,4 @@
-use Rattle.std.proofs.Common.{[], ◌∷◌, ◌+◌, ℕ, refl, sym, ◌∙◌, ap, arith}
+use Rattle.std.proofs.Common.{[], ◌∷◌, ◌+◌, refl, sym, ◌∙◌, ap, arith}
 use Rattle.std.specs.Prelude.{ℤ}
 use Rattle.fixed_num.proofs.SignedLemmas.{back_from_abs}
 use Rattle.instance_model.specs.Tables.{upper_of}

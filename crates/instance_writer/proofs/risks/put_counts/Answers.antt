@@ -32,5 +32,6 @@ loop-z-preserved g c =
 pub returns-clause-text : goal.returns-clause-text
 returns-clause-text g c =
     let counts = c.args.counts.now in
-    end_values g.S.Sink.Takes g.met.S.Sink.takes_more (count_item counts) _ c.loop-z.z-index (length counts) (omega arith)
+    end_values g.S.Sink.Takes g.met.S.Sink.takes_more (count_item counts) _ c.loop-z.z-index (length counts)
+    (omega arith)
     (sym (map-counts counts)) c.loop-z.invariant.values c.put-2.ensures.text

@@ -11,7 +11,8 @@ pub returns-then-not-has_risks_in-clause-text : goal.returns-then-not-has_risks_
 returns-then-not-has_risks_in-clause-text g c =
     let risks = period_risks decimals (g.V.InstanceView.tables c.args.view.now) c.args.i c.args.t in
     put_none g.S.Sink.Takes g.met.S.Sink.takes_more c.args.first (decimal c.args.t) risks
-    (is_none_of risks (sym c.has_risks_in.ensures ∙ c.if-not-has_risks_in.true)) c.put.ensures.text
+    (is_none_of risks (sym c.has_risks_in.ensures ∙ c.if-not-has_risks_in.true))
+    (g.met.S.Sink.takes_none c.args.sink.now)
 
 pub returns-then-not-has_risks_in-clause-first : goal.returns-then-not-has_risks_in-clause-first
 returns-then-not-has_risks_in-clause-first g c =

@@ -1,4 +1,4 @@
-use Rattle.std.proofs.Common.{◌≡◌, ◌+◌, Bool, Some, None, cond, refl, ◌∙◌, sym, ap, decimal}
+use Rattle.std.proofs.Common.{◌+◌, refl, ◌∙◌, sym, ap, decimal}
 use Rattle.std.specs.Prelude.{ℤ, List}
 use Rattle.fixed_num.specs.Sums.{list_of}
 use Rattle.json_spelling.specs.Spelling.{spell}
@@ -17,7 +17,7 @@ returns-then-not-is_running-clause-text g c =
     put_none g.S.Sink.Takes g.met.S.Sink.takes_more c.args.first (decimal c.args.s) risks
     (is_none_of risks
     (risks_some decimals view c.args.i c.args.t c.args.s ∙ sym c.is_running.ensures ∙ c.if-not-is_running.true))
-    c.put.ensures.text
+    (g.met.S.Sink.takes_none c.args.sink.now)
 
 pub returns-then-not-is_running-clause-first : goal.returns-then-not-is_running-clause-first
 returns-then-not-is_running-clause-first g c =

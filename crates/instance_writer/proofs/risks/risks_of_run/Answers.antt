@@ -1,4 +1,4 @@
-use Rattle.std.proofs.Common.{◌≡◌, ◌+◌, Bool, refl, sym, ◌∙◌, ap, subst}
+use Rattle.std.proofs.Common.{◌+◌, Bool, sym, ◌∙◌, ap, subst}
 use Rattle.std.specs.Prelude.{IsTrue}
 use Rattle.fixed_num.specs.Sums.{list_of}
 use Rattle.instance_model.specs.Tables.{Tables, is_allowed, in_run, scenarios_of, risk_of}

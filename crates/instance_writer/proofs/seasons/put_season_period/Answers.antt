@@ -13,4 +13,4 @@ returns-then-not-in_season-clause-text g c =
     respelled g.S.Sink.Takes
     (sym
     (ap (λ (b : Bool). values_text c.args.first (map whole_number (cond b (c.args.t ∷ []) []))) none
-    ∙ values_text-none c.args.first)) c.put.ensures.text
+    ∙ values_text-none c.args.first)) (g.met.S.Sink.takes_none c.args.sink.now)

@@ -28,6 +28,7 @@ loop-k-preserved g c =
 pub returns-clause-text : goal.returns-clause-text
 returns-clause-text g c =
     let inst = c.args.inst.now in
-    end_values g.S.Sink.Takes g.met.S.Sink.takes_more (season_item inst c.args.q) _ c.loop-k.k inst.periods (omega arith)
+    end_values g.S.Sink.Takes g.met.S.Sink.takes_more (season_item inst c.args.q) _ c.loop-k.k inst.periods
+    (omega arith)
     (sym (map-lists_below whole_number inst.periods
     (λ k. cond (in_season_of inst c.args.q (k + 1)) ((k + 1) ∷ []) []))) c.loop-k.invariant.values c.put-2.ensures.text

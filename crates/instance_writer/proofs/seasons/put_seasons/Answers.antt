@@ -15,12 +15,14 @@ loop-q-preserved g c =
     let inst = c.args.inst.now in
     record {
       ready = c.put_season.ensures.ready;
-      fields = next_fields g.S.Sink.Takes g.met.S.Sink.takes_more (named_item inst.season_names (λ k. Some (season_value inst k)))
+      fields = next_fields g.S.Sink.Takes g.met.S.Sink.takes_more
+          (named_item inst.season_names (λ k. Some (season_value inst k)))
           c.loop-q.q c.loop-q.invariant.fields c.put_season.ensures.text refl;
     }
 
 pub returns-clause-text : goal.returns-clause-text
 returns-clause-text g c =
     let inst = c.args.inst.now in
-    end_fields g.S.Sink.Takes g.met.S.Sink.takes_more (named_item inst.season_names (λ k. Some (season_value inst k))) c.loop-q.q
+    end_fields g.S.Sink.Takes g.met.S.Sink.takes_more (named_item inst.season_names (λ k. Some (season_value inst k)))
+    c.loop-q.q
     (length inst.season_names) (omega arith) c.loop-q.invariant.fields c.put-2.ensures.text

@@ -8,5 +8,6 @@ abbrev pub invariant-loop-q : goal.invariant-loop-q
 invariant-loop-q g l =
     record {
       ready : g.S.Sink.IsReady l.sink;
-      fields : HasFields g.S.Sink.Takes (named_item l.inst.season_names (λ k. Some (season_value l.inst k))) l.q l.first l.fn.sink l.sink;
+      fields : HasFields g.S.Sink.Takes (named_item l.inst.season_names (λ k. Some (season_value l.inst k))) l.q
+          l.first l.fn.sink l.sink;
     }

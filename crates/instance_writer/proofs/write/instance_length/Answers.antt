@@ -1,6 +1,4 @@
-use Rattle.std.proofs.Common.{◌≡◌, ◌<◌, ◌^◌, length, ◌∙◌, arith}
-use Rattle.instance_text.specs.Styles.{decimals}
-use Rattle.instance_text.specs.Written.{instance_text}
+use Rattle.std.proofs.Common.{◌∙◌, arith}
 use Rattle.instance_writer.proofs.WholeSize.{instance_short}
 use Rattle.instance_writer.proofs.write.instance_length.Goals as goal
 

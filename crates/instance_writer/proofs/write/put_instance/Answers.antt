@@ -30,7 +30,8 @@ returns-clause-text g c =
     (ap (λ (t : Tables). spell (resources t)) c.instance.ensures ∙ ap spell (same_resource_values inst view shown))
     c.put_resources.ensures.text))
     (join_fields g.S.Sink.Takes more false (under known.Seasons (seasons view) ∷ []) most
-    (put_field g.S.Sink.Takes more false (codes "Seasons") (codes "Seasons") (seasons view) refl c.put_key-2.ensures.text
+    (put_field g.S.Sink.Takes more false (codes "Seasons") (codes "Seasons") (seasons view) refl
+    c.put_key-2.ensures.text
     (respelled g.S.Sink.Takes
     (ap (λ (t : Tables). spell (seasons t)) c.instance-2.ensures ∙ ap spell (same_season_values inst view shown))
     c.put_seasons.ensures.text))

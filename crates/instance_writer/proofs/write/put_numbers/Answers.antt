@@ -1,4 +1,4 @@
-use Rattle.std.proofs.Common.{[], ◌∷◌, ℕ, List, true, false, refl, sym, ◌∙◌, ap, codes, decimal}
+use Rattle.std.proofs.Common.{[], ◌∷◌, true, false, refl, ◌∙◌, ap, codes, decimal}
 use Rattle.std.proofs.lemmas.List.{append-nil}
 use Rattle.json_spelling.specs.Value.{Value}
 use Rattle.json_spelling.specs.Spelling.{spell}
@@ -6,7 +6,6 @@ use Rattle.instance_shape.specs.declared.fault.Known.TheVariants as known
 use Rattle.instance_text.specs.Styles.{part_text}
 use Rattle.instance_text.specs.Written.{whole_number, whole_list, under}
 use Rattle.instance_writer.specs.Steps.{values_text}
-use Rattle.instance_writer.proofs.TextLemmas.{number_in_list}
 use Rattle.instance_writer.proofs.LoopLemmas.{respelled, put_field, join_fields}
 use Rattle.instance_writer.proofs.write.put_numbers.Goals as goal
 

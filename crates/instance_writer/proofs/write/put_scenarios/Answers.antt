@@ -1,4 +1,4 @@
-use Rattle.std.proofs.Common.{[], ◌∷◌, ℕ, length, refl, sym, ap, arith}
+use Rattle.std.proofs.Common.{[], ◌∷◌, length, refl, sym, ap, arith}
 use Rattle.instance_text.specs.Written.{whole_number}
 use Rattle.instance_writer.specs.Steps.{values_text}
 use Rattle.instance_writer.proofs.ListLemmas.{map-scenarios}

@@ -1,4 +1,4 @@
-use Rattle.std.proofs.Common.{Err, refl}
+use Rattle.std.proofs.Common.{refl}
 use Rattle.plan_desk.specs.Written.Way.{writing}
 use Rattle.plan_desk.proofs.Written.{respelled}
 use Rattle.instance_writer.specs.Sinks.{Progress}

@@ -1,4 +1,4 @@
-use Rattle.std.proofs.Common.{[], ◌++◌, List, ℕ, Result, Ok, Err, true, false, refl, ap, subst}
+use Rattle.std.proofs.Common.{[], ◌++◌, List, ℕ, Result, true, refl, ap, subst}
 use Rattle.plan_desk.specs.declared.call.Failed.{Failed}
 use Rattle.plan_desk.specs.Written.{PutsText}
 use Rattle.plan_desk.specs.Written.Way.{writing}

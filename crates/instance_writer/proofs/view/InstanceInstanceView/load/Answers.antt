@@ -1,4 +1,4 @@
-use Rattle.std.proofs.Common.{◌≡◌, ◌<◌, Bool, cond, Option, Some, None, sym, ◌∙◌, ap, arith, of_z, to_z}
+use Rattle.std.proofs.Common.{◌≡◌, cond, Some, None, sym, ◌∙◌, ap, arith, of_z, to_z}
 use Rattle.std.specs.Prelude.{ℤ, pos}
 use Rattle.std.specs.Int.{w128}
 use Rattle.fixed_num.proofs.SignedLemmas.{back_from_abs}
