@@ -4,7 +4,8 @@ use Rattle.std.specs.Prelude.{codes, neg_ℤ}
 use Rattle.std.specs.Fmt.{digits}
 use Rattle.json_spelling.specs.Spelling.{spell, quoted, escaped}
 use Rattle.instance_model.specs.Naturals.{count_sum}
-use Rattle.instance_model.specs.Tables.{Tables, upper_of, lower_of, in_season_of, exclusion_of, durations, tmax, delta_of}
+use Rattle.instance_model.specs.Tables.{Tables, upper_of, lower_of, in_season_of, exclusion_of, durations, tmax}
+use Rattle.instance_model.specs.Tables.{delta_of}
 use Rattle.instance_model.specs.Tables.{allowed_of, is_allowed, in_run, scenarios_of, risk_of, risk_place, entry_place}
 use Rattle.instance_model.specs.Tables.{entries_before, entries_of, entries_at, scenarios_before}
 use Rattle.instance_text.specs.Styles.{decimals, part_text}
@@ -67,7 +68,8 @@ pair_text : instance_text decimals pair
     ++ codes "\"min\":[0.000000000000,0.000000000001]},"
     ++ codes "\"d\":{\"max\":[0.000000000012,0.000000000013],\"min\":[0.000000000002,0.000000000003]}},"
     ++ codes "\"Seasons\":{\"w\":[2]},"
-    ++ codes "\"Interventions\":{\"I1\":{\"tmax\":2,\"Delta\":[1,3],\"workload\":{\"d\":{\"1\":{\"1\":0.000000000006}}},"
+    ++ codes "\"Interventions\":{\"I1\":{"
+    ++ codes "\"tmax\":2,\"Delta\":[1,3],\"workload\":{\"d\":{\"1\":{\"1\":0.000000000006}}},"
     ++ codes "\"risk\":{\"1\":{\"1\":[0.000000000001,0.000000000003]}}},"
     ++ codes "\"I2\":{\"tmax\":2,\"Delta\":[3,1],\"workload\":{\"c\\\"\":{\"2\":{\"2\":-0.000000000007}}},"
     ++ codes "\"risk\":{\"2\":{\"2\":[0.000000000004]}}}},"
