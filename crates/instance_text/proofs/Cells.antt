@@ -1,5 +1,6 @@
 -- The load cells of an intervention, by start, period of the run and resource.
-use Rattle.std.proofs.Common.{◌≡◌, ℕ, suc, ◌+◌, ◌-◌, ◌<◌, ◌≤◌, Bool, true, false, cond, ◌&&◌, List, [], ◌∷◌, length, get_or}
+use Rattle.std.proofs.Common.{◌≡◌, ℕ, suc, ◌+◌, ◌-◌, ◌<◌, ◌≤◌, Bool, true, false, cond, ◌&&◌, List, [], ◌∷◌, length}
+use Rattle.std.proofs.Common.{get_or}
 use Rattle.std.proofs.Common.{Option, Some, None, refl, sym, ◌∙◌, ap, subst, arith, IsTrue, find}
 use Rattle.std.specs.Prelude.{All, AllPairs, ◌==◌}
 use Rattle.std.specs.List.{filter}
@@ -116,7 +117,8 @@ start_cells s b n cells order during =
     lists_below_same n (λ j. filter (is_at s (b + j)) cells) (λ j. filter (λ x. x.period == b + j) here)
     (λ j l. sym (filter_twice (λ x. x.period == b + j) (λ (x : LoadCell). x.start == s) cells))
     ∙ by_tests (λ j x. x.period == b + j) (λ x. x.period - b) n here
-    (All-weaker (λ x. (b ≤ x.period) × (x.period < b + n)) (λ x. x.period - b < n) (λ x h. omega (arith, h)) here within)
+    (All-weaker (λ x. (b ≤ x.period) × (x.period < b + n)) (λ x. x.period - b < n)
+    (λ x h. omega (arith, h)) here within)
     (λ i j d l m.
     let up : (get_or here i d).period ≤ (get_or here j d).period =
     period_order s (get_or here i d) (get_or here j d)
@@ -129,7 +131,8 @@ start_cells s b n cells order during =
     same b p j h = grind (arith, nat_tests)
 
 -- all of them, by start
-pub by_start : (n : ℕ) (cells : List LoadCell) → AllPairs CellBefore cells → All (λ x. (1 ≤ x.start) × (x.start ≤ n)) cells
+pub by_start : (n : ℕ) (cells : List LoadCell) → AllPairs CellBefore cells
+    → All (λ x. (1 ≤ x.start) × (x.start ≤ n)) cells
     → lists_below n (λ k. filter (λ x. x.start == k + 1) cells) ≡ cells
 by_start n cells order among =
     by_tests (λ k x. x.start == k + 1) (λ x. x.start - 1) n cells

@@ -23,10 +23,13 @@ use Rattle.instance_shape.specs.ShapeFaults.{is_risk, is_workload}
 use Rattle.instance_shape.proofs.CountSums.{count_sum_swap, count_sum-zeros, column_grows}
 use Rattle.instance_shape.proofs.ListsBelow.{length-lists_below}
 use Rattle.instance_text.specs.Styles.{Style}
-use Rattle.instance_text.specs.Written.{object_of, under, filled, numbered, named, whole_number, whole_list, count_number}
-use Rattle.instance_text.specs.Written.{count_list, resource_value, season_value, exclusion_value, load_value, workload_of}
+use Rattle.instance_text.specs.Written.{object_of, under, filled, numbered, named, whole_number, whole_list}
+use Rattle.instance_text.specs.Written.{count_number}
+use Rattle.instance_text.specs.Written.{count_list, resource_value, season_value, exclusion_value, load_value}
+use Rattle.instance_text.specs.Written.{workload_of}
 use Rattle.instance_text.specs.Written.{workload_value, risks_of, risk_value, intervention_value, instance_value}
-use Rattle.instance_text.proofs.Cells.{one_cell, is_at, found_cell, period_cells, by_start, cells_run, start_cells, IsDuring}
+use Rattle.instance_text.proofs.Cells.{one_cell, is_at, found_cell, period_cells, by_start, cells_run, start_cells}
+use Rattle.instance_text.proofs.Cells.{IsDuring}
 use Rattle.instance_text.proofs.Numbers.{value_numbers, option_numbers, fields_count}
 use Rattle.instance_text.proofs.Numbers.{filled_count, tokens_count, no_risk_numbers, no_workload_numbers}
 use Rattle.instance_text.proofs.Tabled.{Grows, grown}
@@ -272,7 +275,8 @@ module _ (style : Style) (inst : Tables) (fits : IsFitting inst) where
       let r = length inst.resource_names in
       workload_count i
       ∙ count_sum_swap r inst.periods (λ c k. count_sum (tmax inst i) (λ m. cells_of i c (k + 1) (m + 1)))
-      ∙ count_sum_same inst.periods _ (λ k. count_sum (tmax inst i) (λ m. length (filter (is_at (m + 1) (k + 1)) cells)))
+      ∙ count_sum_same inst.periods _
+      (λ k. count_sum (tmax inst i) (λ m. length (filter (is_at (m + 1) (k + 1)) cells)))
       (λ k n. count_sum_swap r (tmax inst i) (λ c m. cells_of i c (k + 1) (m + 1))
       ∙ count_sum_same (tmax inst i) _ _ (λ m q. period_count i (m + 1) (k + 1) l))
       ∙ count_sum_swap inst.periods (tmax inst i) (λ k m. length (filter (is_at (m + 1) (k + 1)) cells))

@@ -20,12 +20,14 @@ use Rattle.instance_model.specs.Tables.{upper_of, lower_of, risk_of, exclusion_o
 use Rattle.instance_model.proofs.FirstLemmas.{first_of-all_none}
 use Rattle.instance_model.proofs.FitLemmas.{tmax_small}
 use Rattle.instance_shape.specs.declared.fault.Known.TheVariants as is
-use Rattle.instance_shape.specs.CrossFaults.{CrossFault, unless, first_in, is_among, list_fault, band_fault, band_faults}
+use Rattle.instance_shape.specs.CrossFaults.{CrossFault, unless, first_in, is_among, list_fault, band_fault}
+use Rattle.instance_shape.specs.CrossFaults.{band_faults}
 use Rattle.instance_shape.specs.CrossFaults.{risk_fault, risk_faults, tmax_fault, delta_fault, workload_fault}
 use Rattle.instance_shape.specs.CrossFaults.{intervention_fault, intervention_faults, word_fault, exclusion_fault}
 use Rattle.instance_shape.specs.CrossFaults.{exclusion_faults, cross_fault}
 use Rattle.instance_shape.specs.LookUp as file
-use Rattle.instance_shape.specs.LookUp.{Entry, known, entries, keys, elements, whole_at, risk_list, number_in, at_number}
+use Rattle.instance_shape.specs.LookUp.{Entry, known, entries, keys, elements, whole_at, risk_list, number_in}
+use Rattle.instance_shape.specs.LookUp.{at_number}
 use Rattle.instance_shape.specs.FileTables.{lists_below, word}
 use Rattle.instance_shape.proofs.ListsBelow.{all_lists}
 use Rattle.instance_text.specs.Conditions.{SpellsNumbers, HasSpellableNames, IsWithin}
@@ -37,7 +39,8 @@ use Rattle.instance_text.proofs.Fields.{resources_at, exclusions_at, interventio
 use Rattle.instance_text.proofs.Keys.{all_optional}
 use Rattle.instance_text.proofs.Listed.{length-singles, get_or-singles}
 use Rattle.instance_text.proofs.Looked.{tmax_is, delta_long, workload_keys, starts_are, risks_there}
-use Rattle.instance_text.proofs.Placing.{IsAt, IsEntry, IsOptionAt, known_at, elements_at, entries_at, zip_length, zip_at}
+use Rattle.instance_text.proofs.Placing.{IsAt, IsEntry, IsOptionAt, known_at, elements_at, entries_at, zip_length}
+use Rattle.instance_text.proofs.Placing.{zip_at}
 use Rattle.instance_text.proofs.Rows.{name_among}
 use Rattle.instance_text.proofs.Tabled.{runs_at}
 use Rattle.instance_text.proofs.Whole.{exclusion_in}
@@ -112,7 +115,8 @@ module _ (limits : Limits) (style : Style) (inst : Tables) (fits : IsFitting ins
 
   bands_clear : band_faults root ≡ None
   bands_clear = none_in (band_fault (file.periods root)) (entries (known is.Resources root))
-      (each_entry (length inst.resource_names) (λ c. slice_index_or inst.resource_names c []) (resource_value style inst)
+      (each_entry (length inst.resource_names) (λ c. slice_index_or inst.resource_names c [])
+      (resource_value style inst)
       (entries (known is.Resources root)) (λ e. band_fault (file.periods root) e ≡ None)
       (entries_at _ (known is.Resources root) (resources_at limits style inst fits within spells texts root here))
       (λ c e l a. band_clear c e a))
@@ -151,7 +155,8 @@ module _ (limits : Limits) (style : Style) (inst : Tables) (fits : IsFitting ins
       (λ k. optional (slice_index_or names k []) (workload_of style inst i k))
       (λ k m. all_optional (λ f. unless (is_among names f.key) (CrossFault.unknown f.key) ≡ None)
       (slice_index_or names k []) (workload_of style inst i k)
-      (λ v q. no_fault _ (CrossFault.unknown (slice_index_or names k [])) (name_among names k fits.resources.apart m)))) in
+      (λ v q. no_fault _ (CrossFault.unknown (slice_index_or names k []))
+      (name_among names k fits.resources.apart m)))) in
       ap (λ ks. first_in (λ key. unless (is_among (keys (known is.Resources root)) key) (CrossFault.unknown key)) ks)
       (workload_keys limits style inst fits within spells texts i l e.value a)
       ∙ ap (λ ns. first_in (λ key. unless (is_among ns key) (CrossFault.unknown key))
@@ -179,7 +184,8 @@ module _ (limits : Limits) (style : Style) (inst : Tables) (fits : IsFitting ins
   allowed_same : (i s : ℕ) (v : Tree) → file.durations v ≡ durations inst i
       → allowed_of (file.periods root) (file.durations v) s ≡ is_allowed inst i s
   unfolding is_allowed
-  allowed_same i s v d = ap (λ n. allowed_of n (file.durations v) s) periods_of ∙ ap (λ ds. allowed_of inst.periods ds s) d
+  allowed_same i s v d = ap (λ n. allowed_of n (file.durations v) s) periods_of
+      ∙ ap (λ ds. allowed_of inst.periods ds s) d
 
   delta_same : (i k : ℕ) (v : Tree) → file.durations v ≡ durations inst i
       → slice_index (file.durations v) k ≡ delta_of inst i (k + 1)
@@ -209,7 +215,8 @@ module _ (limits : Limits) (style : Style) (inst : Tables) (fits : IsFitting ins
       let v = e.value in
       let d = starts_are limits style inst fits within spells texts i l v a in
       first_of-all_none (length (file.durations v)) _ (λ k m.
-      run_clear i k e (allowed_of (file.periods root) (file.durations v) (k + 1)) l a (sym (allowed_same i (k + 1) v d)))
+      run_clear i k e (allowed_of (file.periods root) (file.durations v) (k + 1)) l a
+      (sym (allowed_same i (k + 1) v d)))
 
   interventions_clear : intervention_faults root ≡ None
   interventions_clear = none_in (intervention_fault root) (file.interventions root)

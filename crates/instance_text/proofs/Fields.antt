@@ -20,7 +20,8 @@ use Rattle.instance_shape.specs.declared.fault.Known.TheVariants as is
 use Rattle.instance_shape.specs.LookUp as file
 use Rattle.instance_shape.specs.LookUp.{Entry, known, entries, keys, elements, whole_at, count_at, text_at, part_at}
 use Rattle.instance_shape.specs.LookUp.{workload}
-use Rattle.instance_shape.specs.FileTables.{lists_below, all_below, each_run, cell_of, cells_at, risks_at, soft_at, word}
+use Rattle.instance_shape.specs.FileTables.{lists_below, all_below, each_run, cell_of, cells_at, risks_at, soft_at}
+use Rattle.instance_shape.specs.FileTables.{word}
 use Rattle.instance_shape.specs.FileTables.{exclusion, number_among, in_season}
 use Rattle.instance_text.specs.Conditions.{SpellsNumbers, HasSpellableNames, IsWithin}
 use Rattle.instance_text.specs.Styles.{Style}
@@ -36,7 +37,8 @@ use Rattle.instance_text.proofs.Read.{whole_is, part_is, wholes_are, counts_are,
 use Rattle.instance_text.proofs.Read.{map-lists_below}
 use Rattle.instance_text.proofs.Rows.{rows_are, flags_are, singles_all, keys_named, number_of_name, season_flag}
 use Rattle.instance_text.proofs.Tabled.{run_lists, each_run_is, Grows, table_listed}
-use Rattle.instance_text.proofs.Whole.{few_periods, counts_of, upper_spelled, lower_spelled, periods_small, exclusion_in}
+use Rattle.instance_text.proofs.Whole.{few_periods, counts_of, upper_spelled, lower_spelled, periods_small}
+use Rattle.instance_text.proofs.Whole.{exclusion_in}
 
 module _ (limits : Limits) (style : Style) (inst : Tables) (fits : IsFitting inst) (within : IsWithin limits inst)
     (spells : SpellsNumbers style inst) (texts : HasSpellableNames inst) (root : Tree)

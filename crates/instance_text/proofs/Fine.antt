@@ -9,7 +9,8 @@ use Rattle.json_grammar.specs.Grammar.{IsNumber}
 use Rattle.json_grammar.specs.Tree.{Tree, tree, Node, Members}
 use Rattle.json_spelling.specs.Value.{Value, values_of, Field, fields_of, depth}
 use Rattle.json_spelling.specs.Spellable.{IsSpellableText, IsSound}
-use Rattle.json_spelling.proofs.Parts.{AreSound-values_of, IsSoundField, AreSoundFields-fields_of, values_depth-values_of}
+use Rattle.json_spelling.proofs.Parts.{AreSound-values_of, IsSoundField, AreSoundFields-fields_of}
+use Rattle.json_spelling.proofs.Parts.{values_depth-values_of}
 use Rattle.json_spelling.proofs.Parts.{fields_depth-fields_of}
 use Rattle.json_spelling.specs.Spelling.{spell, quoted}
 use Rattle.json_spelling.specs.Placed.{placed_at, placed_values, placed_fields}
@@ -125,7 +126,8 @@ list_fine limits n s q vs own plain e h = record {
         (All-weaker (IsFine limits n q) (λ v. depth v ≤ n) (λ v f. f.shallow) vs h),
   );
   clear = λ k. both_clear limits (record { spot = s; tree = placed_at k (Value.list (values_of vs)) } ∷ []) _
-      (alone_clear limits s (placed_at k (Value.list (values_of vs))) (own k (k + length (spell (Value.list (values_of vs)))) (suc k)) (λ c. cc))
+      (alone_clear limits s (placed_at k (Value.list (values_of vs)))
+      (own k (k + length (spell (Value.list (values_of vs)))) (suc k)) (λ c. cc))
       (values_clear limits n s q vs 0 (suc k) (λ j l r. e j (omega arith)) h);
 }
 

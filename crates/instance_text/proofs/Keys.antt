@@ -17,7 +17,8 @@ use Rattle.json_spelling.specs.Placed.{placed_fields}
 use Rattle.instance_model.specs.declared.limits.Limits.{Limits}
 use Rattle.instance_model.specs.Fitting.{IsName, AreNames}
 use Rattle.instance_shape.specs.declared.spot.Spot.{Spot}
-use Rattle.instance_shape.specs.Keys.{Key, by_text, by_number, key_of, same_key, is_name, is_digits, number_of, all_bytes}
+use Rattle.instance_shape.specs.Keys.{Key, by_text, by_number, key_of, same_key, is_name, is_digits, number_of}
+use Rattle.instance_shape.specs.Keys.{all_bytes}
 use Rattle.instance_shape.specs.Keys.{is_printed}
 use Rattle.instance_shape.specs.Shape.{kind_of, required, under}
 use Rattle.instance_shape.specs.ShapeFaults.{takes_names, takes_numbers, key_limit, first_past, missing}

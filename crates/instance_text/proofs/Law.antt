@@ -17,14 +17,16 @@ use Rattle.instance_shape.specs.declared.spot.Spot.TheVariants as spot
 use Rattle.instance_shape.specs.Defined.{Defines}
 use Rattle.instance_shape.specs.FileTables.{tables}
 use Rattle.instance_shape.specs.Shape.{placed}
-use Rattle.instance_shape.specs.ShapeFaults.{shape_faults, values_faults, numbers_at, count_faults, is_risk, is_workload}
+use Rattle.instance_shape.specs.ShapeFaults.{shape_faults, values_faults, numbers_at, count_faults, is_risk}
+use Rattle.instance_shape.specs.ShapeFaults.{is_workload}
 use Rattle.instance_shape.proofs.Clear.{clear_both}
 use Rattle.instance_text.specs.Conditions.{HasSpellableNames, IsUnrounded, IsWithin, SpellsNumbers, widened}
 use Rattle.instance_text.specs.Styles.{Style}
 use Rattle.instance_text.specs.Written.{instance_value, instance_text}
 use Rattle.instance_text.proofs.Counted.{risks_of_value, loads_of_value}
 use Rattle.instance_text.proofs.Crossing.{cross_clear}
-use Rattle.instance_text.proofs.Fields.{periods_are, alpha_is, quantile_is, scenarios_are, resource_names_are, upper_are}
+use Rattle.instance_text.proofs.Fields.{periods_are, alpha_is, quantile_is, scenarios_are, resource_names_are}
+use Rattle.instance_text.proofs.Fields.{upper_are}
 use Rattle.instance_text.proofs.Fields.{lower_are, season_names_are, in_season_are, names_are, delta_is}
 use Rattle.instance_text.proofs.Fields.{exclusion_names_are, excluded_are, loads_are, risks_table, soft_table}
 use Rattle.instance_text.proofs.Fine.{IsFine}

@@ -107,14 +107,16 @@ pub season_fine : (limits : Limits) (n : ℕ) (ns : List ℕ) → All (λ m. m <
     → IsFine limits (suc n) spot.Season (whole_list ns)
 season_fine limits n ns h =
     wholes_fine limits n spot.Season spot.SeasonPeriod None ns (λ at end ts. refl) refl (λ m. refl) (λ at n. refl) refl
-    (All-weaker (λ m. m < 1_000_000_000) (λ m. (m < 1_000_000_000) × ((at : ℕ) → outside None at (Some m) ≡ [])) (λ m l. (l, λ at. refl))
+    (All-weaker (λ m. m < 1_000_000_000)
+    (λ m. (m < 1_000_000_000) × ((at : ℕ) → outside None at (Some m) ≡ [])) (λ m l. (l, λ at. refl))
     ns h)
 
 pub delta_fine : (limits : Limits) (n : ℕ) (ns : List ℕ) → All (λ m. m < 1_000_000_000) ns
     → IsFine limits (suc n) spot.Delta (whole_list ns)
 delta_fine limits n ns h =
     wholes_fine limits n spot.Delta spot.Duration None ns (λ at end ts. refl) refl (λ m. refl) (λ at n. refl) refl
-    (All-weaker (λ m. m < 1_000_000_000) (λ m. (m < 1_000_000_000) × ((at : ℕ) → outside None at (Some m) ≡ [])) (λ m l. (l, λ at. refl))
+    (All-weaker (λ m. m < 1_000_000_000)
+    (λ m. (m < 1_000_000_000) × ((at : ℕ) → outside None at (Some m) ≡ [])) (λ m l. (l, λ at. refl))
     ns h)
 
 pub tmax_fine : (limits : Limits) (n m : ℕ) → m < 1_000_000_000 → IsFine limits n spot.Tmax (whole_number m)
@@ -137,7 +139,8 @@ pub scenarios_fine : (limits : Limits) (n : ℕ) (ns : List ℕ)
     → All (λ m. (1 ≤ m) × (m ≤ limits.scenarios) × (m < 1_000_000_000)) ns
     → IsFine limits (suc n) spot.ScenariosNumber (whole_list ns)
 scenarios_fine limits n ns h =
-    wholes_fine limits n spot.ScenariosNumber spot.Scenario (Some (limits.scenarios, which.Scenarios)) ns (λ at end ts. refl) refl (λ m. refl) (λ at n. refl) refl
+    wholes_fine limits n spot.ScenariosNumber spot.Scenario (Some (limits.scenarios, which.Scenarios)) ns
+    (λ at end ts. refl) refl (λ m. refl) (λ at n. refl) refl
     (All-weaker (λ m. (1 ≤ m) × (m ≤ limits.scenarios) × (m < 1_000_000_000))
     (λ m. (m < 1_000_000_000) × ((at : ℕ) → outside (Some (limits.scenarios, which.Scenarios)) at (Some m) ≡ []))
     (λ m p. (p.2, λ at. inside (limits.scenarios, which.Scenarios) m at p.0 p.1)) ns h)

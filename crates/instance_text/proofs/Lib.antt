@@ -18,3 +18,4 @@ pub mod Numbers
 pub mod Counted
 pub mod Law
 pub mod NameTexts
+mod Examples

@@ -1,6 +1,7 @@
 -- Lists one after another: of single elements, of slices of a list, and of what tests take from a list in order.
 use Rattle.std.proofs.Common.{◌≡◌, ◌≢◌, ℕ, zero, suc, ◌+◌, ◌-◌, ◌<◌, ◌≤◌, Bool, true, false, cond, List, [], ◌∷◌}
-use Rattle.std.proofs.Common.{◌++◌, ◌&&◌, length, get_or, take, drop, refl, sym, ◌∙◌, ap, subst, arith, ℤ, pos, inl, inr}
+use Rattle.std.proofs.Common.{◌++◌, ◌&&◌, length, get_or, take, drop, refl, sym, ◌∙◌, ap, subst, arith, ℤ, pos, inl}
+use Rattle.std.proofs.Common.{inr}
 use Rattle.std.proofs.Common.{length-append}
 use Rattle.std.specs.Prelude.{All, AllPairs, ◌==◌, ◌⊎◌}
 use Rattle.std.specs.List.{filter}

@@ -14,7 +14,8 @@ use Rattle.instance_model.specs.Tables.{Tables, scenarios_of, durations, tmax, i
 use Rattle.instance_model.proofs.EntryLemmas.{IsRunning-from}
 use Rattle.instance_shape.specs.declared.fault.Known.TheVariants as is
 use Rattle.instance_shape.specs.LookUp as file
-use Rattle.instance_shape.specs.LookUp.{known, keys, elements, whole_at, count_at, at_key, at_number, number_in, risk_list}
+use Rattle.instance_shape.specs.LookUp.{known, keys, elements, whole_at, count_at, at_key, at_number, number_in}
+use Rattle.instance_shape.specs.LookUp.{risk_list}
 use Rattle.instance_shape.specs.LookUp.{workload}
 use Rattle.instance_shape.specs.FileTables.{cell_of, risks_at, soft_at}
 use Rattle.instance_text.specs.Conditions.{SpellsCount, SpellsNumbers, HasSpellableNames, IsWithin}
@@ -24,7 +25,8 @@ use Rattle.instance_text.specs.Written.{count_list, load_value, workload_of, wor
 use Rattle.instance_text.specs.Written.{intervention_value}
 use Rattle.instance_text.proofs.Cells.{one_cell, key_of}
 use Rattle.instance_text.proofs.Parts.{intervention_fields}
-use Rattle.instance_text.proofs.Placing.{IsAt, IsOptionAt, elements_at, keys_at, zip_length, known_at, number_at, number_in_filled, name_at}
+use Rattle.instance_text.proofs.Placing.{IsAt, IsOptionAt, elements_at, keys_at, zip_length, known_at, number_at}
+use Rattle.instance_text.proofs.Placing.{number_in_filled, name_at}
 use Rattle.instance_text.proofs.Read.{whole_is, wholes_are, count_is, list_read, list_unrounded}
 use Rattle.instance_text.proofs.Whole.{few_periods, few_starts, risk_spelled, durations_small, counts_of, found_in}
 
@@ -109,7 +111,8 @@ module _ (limits : Limits) (style : Style) (inst : Tables) (fits : IsFitting ins
       let by_name : IsOptionAt (workload_of style inst i c) (at_key name (known is.Workload v)) =
       name_at inst.resource_names c (workload_of style inst i) (known is.Workload v) fits.resources.apart m object in
       number_in_filled (tmax inst i) s (λ s. load_value style (slice_index_or inst.loads i []) c t s)
-      (number_in t (at_key name (known is.Workload v))) (few_starts limits style inst fits within spells texts i l) one few
+      (number_in t (at_key name (known is.Workload v)))
+      (few_starts limits style inst fits within spells texts i l) one few
       (number_in_filled inst.periods t
       (λ t. filled (numbered (tmax inst i) (λ s. load_value style (slice_index_or inst.loads i []) c t s)))
       (at_key name (known is.Workload v)) (few_periods limits style inst fits within spells texts) from to by_name)
@@ -141,7 +144,8 @@ module _ (limits : Limits) (style : Style) (inst : Tables) (fits : IsFitting ins
       let run = IsRunning-from inst i s t a r in
       let object : IsAt (risk_value style inst i) (known is.Risk v) =
       known_at is.Risk fields (risk_value style inst i) v refl here in
-      let there : IsOptionAt (filled (numbered (tmax inst i) (risks_of style inst i t))) (at_number t (known is.Risk v)) =
+      let there : IsOptionAt (filled (numbered (tmax inst i) (risks_of style inst i t)))
+      (at_number t (known is.Risk v)) =
       number_at inst.periods t (λ t. filled (numbered (tmax inst i) (risks_of style inst i t))) (known is.Risk v)
       (few_periods limits style inst fits within spells texts) (omega (arith, run.start, run.from))
       (omega (arith, run.to, run.ends)) object in

@@ -169,7 +169,8 @@ none_passes p (suc n) key o h =
     first_field-append p (lists_below n (λ j. optional (key j) (o j))) (optional (key n) (o n))
     ∙ ap (λ x. first_of_two x (first_field p (optional (key n) (o n))))
     (none_passes p n key o (λ j l. h j (omega arith)))
-    ∙ or_none_first (first_field p (optional (key n) (o n))) ∙ first_optional p (key n) (o n) ∙ ap (λ b. cond b (o n) None) (h n (omega arith))
+    ∙ or_none_first (first_field p (optional (key n) (o n))) ∙ first_optional p (key n) (o n)
+    ∙ ap (λ b. cond b (o n) None) (h n (omega arith))
 
 -- of fields of which one key passes it is the one of that key
 pub one_passes : (p : List ℕ → Bool) (n k : ℕ) (key : ℕ → List ℕ) (o : ℕ → Option Value) → k < n → p (key k) ≡ true
@@ -177,7 +178,8 @@ pub one_passes : (p : List ℕ → Bool) (n k : ℕ) (key : ℕ → List ℕ) (o
     → first_field p (lists_below n (λ j. optional (key j) (o j))) ≡ o k
 one_passes p zero k key o l h other = absurd (omega arith)
 one_passes p (suc n) k key o l h other =
-    first_field-append p (lists_below n (λ j. optional (key j) (o j))) (optional (key n) (o n)) ∙ by (cases_lt k n) (λ m. one_passes p n k key o m h (λ j q. other j (omega arith)))
+    first_field-append p (lists_below n (λ j. optional (key j) (o j))) (optional (key n) (o n))
+    ∙ by (cases_lt k n) (λ m. one_passes p n k key o m h (λ j q. other j (omega arith)))
   where
     by : (k < n) ⊎ (n ≤ k)
         → (k < n → first_field p (lists_below n (λ j. optional (key j) (o j))) ≡ o k)
@@ -193,7 +195,8 @@ one_passes p (suc n) k key o l h other =
         let passes : p (key n) ≡ true = subst (λ j. p (key j) ≡ true) same h in
         ap (λ x. first_of_two x (first_field p (optional (key n) (o n))))
         (none_passes p n key o (λ j q. other j (omega arith) (λ e. omega (arith, e))))
-        ∙ or_none_first (first_field p (optional (key n) (o n))) ∙ first_optional p (key n) (o n) ∙ ap (λ b. cond b (o n) None) passes ∙ ap o (sym same)
+        ∙ or_none_first (first_field p (optional (key n) (o n))) ∙ first_optional p (key n) (o n)
+        ∙ ap (λ b. cond b (o n) None) passes ∙ ap o (sym same)
 
 numbered_first : (n k : ℕ) (f : ℕ → Option Value) → n < 1_000_000_000 → 1 ≤ k → k ≤ n
     → first_field (λ key. is_digits key && (number_of key == k)) (numbered n f) ≡ f k
@@ -249,7 +252,8 @@ name_at names c f t apart l h =
     (one_passes p (length names) c (λ j. slice_index_or names j []) f l
     ((bytes_eq-Decides (slice_index_or names c []) (slice_index_or names c [])).1 refl)
     (λ j m q. false_from_ne_true (p (slice_index_or names j []))
-    (λ e. differ c j l m (λ r. q (sym r)) ((bytes_eq-Decides (slice_index_or names c []) (slice_index_or names j [])).0 e))))
+    (λ e. differ c j l m (λ r. q (sym r))
+    ((bytes_eq-Decides (slice_index_or names c []) (slice_index_or names j [])).0 e))))
     (first_at p (named names f) (entries t) (entries_at (named names f) t h))
   where
     differ : (a b : ℕ) → a < length names → b < length names → a ≢ b

@@ -124,7 +124,8 @@ all_below_is n key v es f g z h =
     ∙ ap (λ m. lists_below m (λ i. f (get_or es i no_entry).value)) size
     ∙ lists_below_same n (λ i. f (get_or es i no_entry).value) g
     (λ k l.
-    let there = zip_at IsEntry fs es k none no_entry z (omega (arith, l, length-singles n (λ k. field (key k) (v k)))) in
+    let m : k < length fs = omega (arith, l, length-singles n (λ k. field (key k) (v k))) in
+    let there = zip_at IsEntry fs es k none no_entry z m in
     let which : get_or fs k none ≡ field (key k) (v k) = get_or-singles n k (λ k. field (key k) (v k)) none l in
     h k (get_or es k no_entry).value l
     (subst (λ (x : Field). IsAt x.value (get_or es k no_entry).value) which there.value))

@@ -157,20 +157,23 @@ one_later b n u (inl e) =
     kept true = refl
     kept false = refl
 one_later b n u (inr (inl l)) =
-    rw (lt-ltb u n l, ne_eqb n u (λ e. omega (arith, e, l)), lt-ltb u (suc n) (omega arith)) (kept (b (u + 1)) (b (n + 1)))
+    rw (lt-ltb u n l, ne_eqb n u (λ e. omega (arith, e, l)), lt-ltb u (suc n) (omega arith))
+    (kept (b (u + 1)) (b (n + 1)))
   where
     kept : (s t : Bool) → s || (t && false) ≡ s
     kept true t = refl
     kept false true = refl
     kept false false = refl
 one_later b n u (inr (inr g)) =
-    rw (le-ltb u n (omega arith), ne_eqb n u (λ e. omega (arith, e, g)), le-ltb u (suc n) (omega arith)) (none (b (n + 1)))
+    rw (le-ltb u n (omega arith), ne_eqb n u (λ e. omega (arith, e, g)), le-ltb u (suc n) (omega arith))
+    (none (b (n + 1)))
   where
     none : (t : Bool) → t && false ≡ false
     none true = refl
     none false = refl
 
-any_period : (b : ℕ → Bool) (n u : ℕ) → any_of (λ m. m == u + 1) (lists_below n (λ k. cond (b (k + 1)) ((k + 1) ∷ []) []))
+any_period : (b : ℕ → Bool) (n u : ℕ)
+    → any_of (λ m. m == u + 1) (lists_below n (λ k. cond (b (k + 1)) ((k + 1) ∷ []) []))
     ≡ nat_lt u n && b (u + 1)
 any_period b zero u =
     no_period (λ m. m == u + 1) ∙ sym (ap (λ t. t && b (u + 1)) (le-ltb u 0 (omega arith)))

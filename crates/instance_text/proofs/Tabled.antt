@@ -23,7 +23,8 @@ run_lists inst i g = lists_below (tmax inst i) (λ k. cond (is_allowed inst i (k
 
 pub runs_at : (inst : Tables) (i s j : ℕ) → j < delta_of inst i s → in_run inst i s (s + j) ≡ true
 unfolding in_run
-runs_at inst i s j l = and_from _ _ (le-leb s (s + j) (omega arith)) (lt-ltb (s + j) (s + delta_of inst i s) (omega arith))
+runs_at inst i s j l =
+    and_from _ _ (le-leb s (s + j) (omega arith)) (lt-ltb (s + j) (s + delta_of inst i s) (omega arith))
 
 -- the lists of a file are those of the tables with its durations
 pub each_run_is : {A : Type 0} (inst : Tables) (i : ℕ) (root v : Tree) (f : Tree → ℕ → ℕ → List A)

@@ -238,7 +238,8 @@ module _ (limits : Limits) (style : Style) (inst : Tables) (fits : IsFitting ins
       (object_of (named inst.season_names (λ q. Some (season_value inst q))))
       (object_of (named inst.names (λ i. Some (intervention_value style inst i))))
       (object_of (named inst.exclusion_names (λ e. Some (exclusion_value inst e)))) (whole_number inst.periods)
-      (whole_list inst.scenarios) (Value.number (style.part inst.quantile)) (Value.number (style.part inst.alpha)) (record {
+      (whole_list inst.scenarios) (Value.number (style.part inst.quantile)) (Value.number (style.part inst.alpha))
+      (record {
         resources = resources_fine;
         seasons = seasons_fine;
         interventions = interventions_fine;

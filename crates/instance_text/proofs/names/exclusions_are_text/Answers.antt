@@ -8,5 +8,6 @@ loop-e-preserved c = one_more c.args.inst.now.exclusion_names c.loop-e.e c.exclu
 
 pub returns : goal.returns
 returns c =
-    let past : length c.args.inst.now.exclusion_names ≤ c.loop-e.e = omega (arith, c.loop-e-test.false, c.exclusions-e-end.ensures.value) in
+    let past : length c.args.inst.now.exclusion_names ≤ c.loop-e.e =
+    omega (arith, c.loop-e-test.false, c.exclusions-e-end.ensures.value) in
     all_told c.args.inst.now.exclusion_names c.loop-e.e past c.loop-e.invariant

@@ -8,5 +8,6 @@ loop-i-preserved c = one_more c.args.inst.now.names c.loop-i.i c.name.result.now
 
 pub returns : goal.returns
 returns c =
-    let past : length c.args.inst.now.names ≤ c.loop-i.i = omega (arith, c.loop-i-test.false, c.interventions-i-end.ensures.value) in
+    let past : length c.args.inst.now.names ≤ c.loop-i.i =
+    omega (arith, c.loop-i-test.false, c.interventions-i-end.ensures.value) in
     all_told c.args.inst.now.names c.loop-i.i past c.loop-i.invariant

@@ -8,5 +8,6 @@ loop-c-preserved c = one_more c.args.inst.now.resource_names c.loop-c.c c.resour
 
 pub returns : goal.returns
 returns c =
-    let past : length c.args.inst.now.resource_names ≤ c.loop-c.c = omega (arith, c.loop-c-test.false, c.resources-c-end.ensures.value) in
+    let past : length c.args.inst.now.resource_names ≤ c.loop-c.c =
+    omega (arith, c.loop-c-test.false, c.resources-c-end.ensures.value) in
     all_told c.args.inst.now.resource_names c.loop-c.c past c.loop-c.invariant

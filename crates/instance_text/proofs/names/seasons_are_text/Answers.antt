@@ -8,5 +8,6 @@ loop-q-preserved c = one_more c.args.inst.now.season_names c.loop-q.q c.season_n
 
 pub returns : goal.returns
 returns c =
-    let past : length c.args.inst.now.season_names ≤ c.loop-q.q = omega (arith, c.loop-q-test.false, c.seasons-q-end.ensures.value) in
+    let past : length c.args.inst.now.season_names ≤ c.loop-q.q =
+    omega (arith, c.loop-q-test.false, c.seasons-q-end.ensures.value) in
     all_told c.args.inst.now.season_names c.loop-q.q past c.loop-q.invariant
