@@ -1,3 +1,4 @@
 pub mod OpeningLemmas
 pub mod IncumbentLemmas
 pub mod RepairLemmas
+pub mod MadeLemmas

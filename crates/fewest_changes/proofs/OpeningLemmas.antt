@@ -1,10 +1,10 @@
 -- The start of each intervention, one after another.
-use Rattle.std.proofs.Common.{◌≡◌, ℕ, ◌+◌, ◌<◌, ◌≤◌, ◌⊎◌, inl, inr, refl, sym, ◌∙◌, ap, subst, arith, List, [], ◌∷◌, ◌++◌}
-use Rattle.std.proofs.Common.{length, length-append, get_or, map, IsTrue, Option, Some, None}
+use Rattle.std.proofs.Common.{◌≡◌, ℕ, ◌+◌, ◌<◌, ◌≤◌, ◌⊎◌, inl, inr, refl, sym, ◌∙◌, subst, arith, List, [], ◌∷◌, ◌++◌}
+use Rattle.std.proofs.Common.{length, length-append, get_or, IsTrue, Option, Some, None}
+use Rattle.std.specs.Prelude.{IfSome, IfNone}
 use Rattle.std.proofs.lemmas.List.{get_or_append_left, get_or-append-add}
 use Rattle.instance_model.specs.Tables.{Tables, tmax, is_allowed}
 use Rattle.instance_model.specs.Plans.{start_of, AreAllowedStarts}
-use Rattle.instance_model.specs.Rules.{IsFeasible}
 use Rattle.instance_model.proofs.EntryLemmas.{is_allowed_facts}
 use Rattle.duration_calendar.specs.Calendar.{IsAllowedIn, IsFirstAllowed}
 use Rattle.branch_tree.proofs.RootLemmas.{le_or_lt}
@@ -23,7 +23,7 @@ same_some : (a b : ℕ) → Some a ≡ Some b → a ≡ b
 same_some a b e = cc
 
 -- the old start, where it is allowed
-pub old_opens : (inst : Tables) (old : Option ℕ) (i s : ℕ) → old ≡ Some s → IsTrue (is_allowed inst i s)
+old_opens : (inst : Tables) (old : Option ℕ) (i s : ℕ) → old ≡ Some s → IsTrue (is_allowed inst i s)
     → IsOpeningStart inst old i s
 old_opens inst old i s is allowed = record {
   allowed = allowed;
@@ -32,7 +32,7 @@ old_opens inst old i s is allowed = record {
 }
 
 -- and else the least allowed one
-pub least_opens : (inst : Tables) (old : Option ℕ) (i s most : ℕ) → ((r : ℕ) → IsAllowedOld inst old i r → ⊥)
+least_opens : (inst : Tables) (old : Option ℕ) (i s most : ℕ) → ((r : ℕ) → IsAllowedOld inst old i r → ⊥)
     → most ≡ tmax inst i → IsFirstAllowed inst i 1 most s → IsOpeningStart inst old i s
 least_opens inst old i s most none is first = record {
   allowed = first.one.allowed;
@@ -45,10 +45,22 @@ least_opens inst old i s most none is first = record {
     not_less r allowed (inr h) =
         absurd (first.least r h (subst (λ (n : ℕ). IsAllowedIn inst i 1 n r) (sym is) (within inst i r allowed)))
 
-pub none_opens : (inst : Tables) (i most : ℕ) → most ≡ tmax inst i
-    → ((s : ℕ) → IsAllowedIn inst i 1 most s → ⊥) → (s : ℕ) → IsTrue (is_allowed inst i s) → ⊥
-none_opens inst i most is none s allowed =
-    none s (subst (λ (n : ℕ). IsAllowedIn inst i 1 n s) (sym is) (within inst i s allowed))
+-- where no old start is allowed, the first allowed one is that
+pub first_start : (inst : Tables) (old : Option ℕ) (i most : ℕ) (o : Option ℕ)
+    → ((r : ℕ) → IsAllowedOld inst old i r → ⊥) → most ≡ tmax inst i → IfSome o (IsFirstAllowed inst i 1 most)
+    → IfSome o (IsOpeningStart inst old i)
+first_start inst old i most None none is first = tt
+first_start inst old i most (Some s) none is first = least_opens inst old i s most none is first
+
+pub no_start : (inst : Tables) (i most : ℕ) (o : Option ℕ) → most ≡ tmax inst i
+    → IfNone o ((s : ℕ) → IsAllowedIn inst i 1 most s → ⊥) → IfNone o ((s : ℕ) → IsTrue (is_allowed inst i s) → ⊥)
+no_start inst i most None is none =
+    λ s allowed. none s (subst (λ (n : ℕ). IsAllowedIn inst i 1 n s) (sym is) (within inst i s allowed))
+no_start inst i most (Some s) is none = tt
+
+-- an old start that is allowed
+pub kept_start : (inst : Tables) (old : Option ℕ) (i s : ℕ) → IsAllowedOld inst old i s → IsOpeningStart inst old i s
+kept_start inst old i s kept = old_opens inst old i s kept.given kept.allowed
 
 -- ---- one after another
 
@@ -82,7 +94,7 @@ first_more inst old starts i s before here = record {
 
 pub first_opens : (inst : Tables) (old : List (Option ℕ)) (starts : List ℕ)
     → AreFirst inst old starts (length inst.names) → IsKeptOpening inst old starts
-first_opens inst old starts are = record { each = are.each; starts = are.at }
+first_opens inst old starts are = record { each = are.each; at = are.at }
 
 pub first_without : (inst : Tables) (old : List (Option ℕ)) (starts : List ℕ) (i : ℕ) → AreFirst inst old starts i
     → i < length inst.names → ((s : ℕ) → IsTrue (is_allowed inst i s) → ⊥) → IsWithoutStart inst i
@@ -98,5 +110,5 @@ pub opening_allowed : (inst : Tables) (old : List (Option ℕ)) (starts : List �
     → AreAllowedStarts inst starts
 opening_allowed inst old starts opens = record {
   each = opens.each;
-  allowed = λ i low. (opens.starts i (omega (arith, low, opens.each))).allowed;
+  allowed = λ i low. (opens.at i (omega (arith, low, opens.each))).allowed;
 }

@@ -1,32 +1,27 @@
 -- What a search for few changes and what its best plan gives back come to.
-use Rattle.std.proofs.Common.{◌≡◌, ◌⊎◌, inl, inr, ℕ, ◌+◌, ◌*◌, ◌<◌, ◌≤◌, refl, sym, ◌∙◌, ap, subst, arith, ℤ, pos, ◌<ℤ◌}
-use Rattle.std.proofs.Common.{◌≤ℤ◌, List, [], length, map, Option, Some, None, All, Any, Bool, true, false, IsTrue}
+use Rattle.std.proofs.Common.{◌≡◌, ◌⊎◌, inl, inr, ℕ, ◌*◌, ◌<◌, ◌≤◌, refl, sym, ◌∙◌, ap, subst, arith, ℤ, pos}
+use Rattle.std.proofs.Common.{◌≤ℤ◌, List, length, Option, Some, None, All, Any, Bool, true, false, IsTrue}
 use Rattle.std.specs.Bool.{OnFalse}
 use Rattle.std.proofs.lemmas.List.Elements.{All-weaker}
 use Rattle.fixed_num.proofs.SignedLemmas.{signed_arith}
 use Rattle.instance_model.specs.Tables.{Tables}
-use Rattle.instance_model.specs.Fitting.{IsFitting}
 use Rattle.instance_model.specs.Rules.{IsFeasible}
 use Rattle.lagrange_bound.specs.declared.span.Span.{Span}
 use Rattle.certificate_lines.specs.declared.line.Bound.{Bound}
 use Rattle.certificate_lines.specs.declared.line.Bound.TheVariants.{NoPlan, Least}
 use Rattle.branch_tree.specs.declared.node.Node.{Node}
 use Rattle.branch_tree.specs.declared.node.Node.TheVariants.{Split, Cost, Point, Band, Excl, Empty}
-use Rattle.branch_tree.specs.declared.certificate.Certificate.{Certificate}
 use Rattle.branch_tree.specs.Trees.{Leaf, leaves, root_box}
 use Rattle.branch_tree.specs.Holding.{IsAtLeast}
 use Rattle.branch_tree.specs.Validity.{BoundsPlans}
 use Rattle.branch_search.specs.declared.tree_end.TreeEnd.{TreeEnd}
-use Rattle.branch_search.specs.Best.{IsFeasiblePlan, IsBestOver, IsNoWorse, bound_of}
-use Rattle.branch_search.specs.Searched.{IsBounding, IsAmong, IsLeastOf, IsUnfinishedLeaf, IsCostOf, IsSearched}
+use Rattle.branch_search.specs.Best.{IsBestOver, IsNoWorse, bound_of}
+use Rattle.branch_search.specs.Searched.{IsBounding, IsAmong, IsLeastOf, IsUnfinishedLeaf, IsSearched}
 use Rattle.plan_changes.specs.Changes.{changes_of, change_base, change_value, least_changes, BoundsCountChanges}
-use Rattle.plan_changes.specs.Changes.{OldStartsAreNoChanges}
-use Rattle.command_solve.specs.Solved.{end_of, split_count, AreEnough}
+use Rattle.command_solve.specs.Solved.{split_count, AreEnough}
 use Rattle.command_solve.proofs.SplitLemmas.{splits_are}
-use Rattle.fewest_changes.specs.Openings.{IsKeptOpening}
-use Rattle.fewest_changes.specs.Incumbents.{IsBackFrom, IsIncumbent}
-use Rattle.fewest_changes.specs.Incumbents.IsIncumbent.{opens, descends, nothing}
-use Rattle.fewest_changes.specs.Repaired.{IsRepairTree, IsRepairOf, IsRepaired, IsNothing, ComesTo}
+use Rattle.fewest_changes.specs.Incumbents.{IsBackFrom}
+use Rattle.fewest_changes.specs.Repaired.{IsRepairTree, IsRepaired}
 
 -- ---- values
 
@@ -51,7 +46,7 @@ value_le : (old : List (Option ℕ)) (inst : Tables) (a b : List ℕ) → change
 unfolding change_value
 value_le old inst a b h = more_changes (changes_of old a) (changes_of old b) h
 
-fewer_le : (old : List (Option ℕ)) (inst : Tables) (a b : List ℕ) → change_value old inst a ≤ℤ change_value old inst b
+pub fewer_le : (old : List (Option ℕ)) (inst : Tables) (a b : List ℕ) → change_value old inst a ≤ℤ change_value old inst b
     → changes_of old a ≤ changes_of old b
 unfolding change_value
 fewer_le old inst a b h = omega (arith, signed_arith)
@@ -236,7 +231,7 @@ module _ (inst : Tables) (old : List (Option ℕ)) (turns : ℕ) (given : Option
   -- ---- where there is none
 
   module _ (is : answer.best ≡ None) where
-    pub no_tree : IsRepairTree inst old turns given None answer.cert
+    abbrev pub no_tree : IsRepairTree inst old turns given None answer.cert
     no_tree = record {
       version = searched.version;
       lists = searched.lists;

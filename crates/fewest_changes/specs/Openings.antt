@@ -1,7 +1,7 @@
 -- Where a repair sets out: old starts where they are allowed, and least allowed starts elsewhere.
 use Rattle.std.specs.Prelude.{◌≡◌, ℕ, ◌<◌, ◌≤◌, List, length, Option, Some, IsTrue, slice_index}
 use Rattle.instance_model.specs.Tables.{Tables, is_allowed}
-use Rattle.instance_model.specs.Plans.{start_of, AreAllowedStarts}
+use Rattle.instance_model.specs.Plans.{start_of}
 use Rattle.command_solve.specs.Solved.{IsWithoutStart}
 use Rattle.fewest_changes.specs.declared.opening.Opening.{Opening}
 use Rattle.fewest_changes.specs.declared.opening.Opening.TheVariants.{From, Without}
@@ -20,7 +20,7 @@ pub record IsOpeningStart (inst : Tables) (old : Option ℕ) (i s : ℕ) : Type 
 -- each intervention has such a start
 pub record IsKeptOpening (inst : Tables) (old : List (Option ℕ)) (starts : List ℕ) : Type 0 where
   pub each : length starts ≡ length inst.names
-  pub starts : (i : ℕ) → i < length inst.names → IsOpeningStart inst (start_of old i) i (slice_index starts i)
+  pub at : (i : ℕ) → i < length inst.names → IsOpeningStart inst (start_of old i) i (slice_index starts i)
 
 -- the plan from which a repair sets out, or the first intervention without an allowed start
 abbrev pub OpensAs : Tables → List (Option ℕ) → Opening → Type 0

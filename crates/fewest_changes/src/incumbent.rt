@@ -22,7 +22,8 @@ pub(crate) fn incumbent_of<R: Row>(
     ensures { IfOk result (IsIncumbent inst.now old.now turns opening.now) }
 {
     let plan = plan_of(alloc, opening)?;
-    if broken_rule(inst, plan.as_slice()).is_none() {
+    let is_broken = broken_rule(inst, plan.as_slice()).is_some();
+    if !is_broken {
         let starts = Vec::from_slice(alloc, opening)?;
         return Ok(Some(Starts::from_vec(starts)));
     }

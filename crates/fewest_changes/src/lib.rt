@@ -10,4 +10,4 @@ mod opening;
 mod repairing;
 
 pub use opening::{Opening, opening_of};
-pub use repairing::{Repair, repair};
+pub use repairing::{Repair, make_repair};

@@ -20,7 +20,7 @@ pub struct Repair {
 }
 
 /// Looks for a plan with few changes from old starts, with so many turns for a descent and for a search.
-pub fn repair<R: Row>(
+pub fn make_repair<R: Row>(
     alloc: Global,
     inst: &Instance,
     old: &[Option<u32>],
@@ -36,7 +36,7 @@ pub fn repair<R: Row>(
     let goal = ChangeGoal::make(alloc, old)?;
     valid_bounds_plans(&goal);
     let given = incumbent_of::<R>(alloc, inst, old, opening, turns)?;
-    let answer = search(alloc, &goal, inst, None, lent(&given), turns)?;
+    let answer = search(alloc, &goal, inst, None, lent(inst, &given), turns)?;
     let plan = given_back(alloc, inst, old, &answer.best)?;
     let TreeEnd {
         cert,
@@ -49,10 +49,13 @@ pub fn repair<R: Row>(
     })
 }
 
-/// The starts of a plan, if there is one.
-fn lent(starts: &Option<Starts>) -> Option<&[u32]>
-    ensures { option_map (λ lent. lent.now) result ≡ starts.now }
+/// The starts of a feasible plan, if there is one.
+fn lent<'a>(inst: &Instance, starts: &'a Option<Starts>) -> Option<&'a [u32]>
+    requires { IfSome starts.now (IsFeasiblePlan inst.now) }
+    ensures starts { option_map (λ lent. lent.now) result ≡ starts.now }
+    ensures plan { IfSome result (λ lent. IsFeasiblePlan inst.now lent.now) }
 {
+    let _inst = inst;
     match starts {
         Some(starts) => Some(starts.as_slice()),
         None => None,
