@@ -10,3 +10,4 @@ pub mod NumberSizes
 pub mod FileLemmas
 pub mod PartSizes
 pub mod WholeSize
+pub mod ZeroLemmas

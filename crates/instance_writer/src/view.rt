@@ -49,6 +49,7 @@ impl InstanceView for Instance {
     }
 
     fn load(&self, i: u32, s: u32, c: u32, t: u32) -> Option<Fixed> {
+        self.fits();
         let load = self.load(i, s, c, t);
         if load.count() == 0 { None } else { Some(load) }
     }
