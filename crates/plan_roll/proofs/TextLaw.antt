@@ -13,7 +13,6 @@ use Rattle.instance_shape.specs.declared.fault.Known.TheVariants as is
 use Rattle.instance_shape.specs.Defined.{Defines}
 use Rattle.instance_shape.specs.FileTables.{tables, all_below}
 use Rattle.instance_shape.specs.LookUp.{Entry, elements, entries, known, count_at}
-use Rattle.instance_shape.specs.Ranges.{AreStandard}
 use Rattle.instance_shape.proofs.Fits.{defined_fits, no_slack}
 use Rattle.instance_shape.proofs.OneAnswer.{same_root}
 use Rattle.instance_text.specs.Conditions.{HasSpellableNames, IsUnrounded, IsWithin, SpellsNumbers, widened}
@@ -21,7 +20,7 @@ use Rattle.instance_text.specs.Styles.{Style, decimals}
 use Rattle.instance_text.specs.Written.{instance_text}
 use Rattle.plan_roll.specs.Rolled.{rolled_delta, rolled_durations, is_left, rolled_cells, start_risks, rolled_risks}
 use Rattle.plan_roll.specs.Rolled.{rolled}
-use Rattle.plan_roll.specs.Texts.{rolled_text}
+use Rattle.plan_roll.specs.Texts.{rolled_text, TextIsRead}
 use Rattle.plan_roll.proofs.FitLaw.{tables_fit}
 use Rattle.plan_roll.proofs.WithinLaw.{defined_names, defined_within, defined_small, rolled_within, rolled_names}
 use Rattle.plan_roll.proofs.WithinLaw.{rolled_unrounded}
@@ -101,12 +100,10 @@ DecimalsSpell =
     (inst : Tables) → IsFitting inst → All (λ z. unsigned_abs z < 10 ^ 20) inst.upper
     → All (λ z. unsigned_abs z < 10 ^ 20) inst.lower → SpellsNumbers decimals inst
 
-pub text_is_read : TextsAreRead → DecimalsSpell → (limits : Limits) (slack : ℤ) (bytes : List ℕ) (inst wide : Tables)
-    (plan : List (Option ℕ)) (period : ℕ)
-    → AreStandard limits → Defines limits (pos 0) bytes inst → Defines limits slack bytes wide
-    → Defines limits slack (rolled_text inst plan period) (rolled wide plan period)
+pub text_is_read : TextsAreRead → DecimalsSpell → (inst : Tables) (plan : List (Option ℕ)) (period : ℕ)
+    → TextIsRead inst plan period
 unfolding rolled_text
-text_is_read texts spell limits slack bytes inst wide plan period a d w =
+text_is_read texts spell inst plan period limits slack bytes wide a d w =
     let fits = defined_fits limits (pos 0) bytes inst a no_slack d in
     let small = defined_small limits bytes inst d in
     let fitting = tables_fit inst plan period fits in

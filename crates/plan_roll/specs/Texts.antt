@@ -17,9 +17,14 @@ pub record HasSmallBands (inst : Tables) : Type 0 where
   pub upper : All (λ z. unsigned_abs z < 10 ^ 20) inst.upper
   pub lower : All (λ z. unsigned_abs z < 10 ^ 20) inst.lower
 
--- Where bytes define an instance without a slack, the text of its rolled one defines, with each slack, the rolled one
--- of what the bytes define with that slack. The limits are the same.
-abbrev pub RolledTextIsRead : Type 0
-RolledTextIsRead = (limits : Limits) (slack : ℤ) (bytes : List ℕ) (inst wide : Tables) (plan : List (Option ℕ))
-    (period : ℕ) → AreStandard limits → Defines limits (pos 0) bytes inst → Defines limits slack bytes wide
+-- What the text of the rolled instance is read as: where bytes define the instance without a slack, the text defines, with
+-- each slack, the rolled one of what the bytes define with that slack. The limits are the same.
+abbrev pub TextIsRead : Tables → List (Option ℕ) → ℕ → Type 0
+TextIsRead inst plan period =
+    (limits : Limits) (slack : ℤ) (bytes : List ℕ) (wide : Tables) → AreStandard limits
+    → Defines limits (pos 0) bytes inst → Defines limits slack bytes wide
     → Defines limits slack (rolled_text inst plan period) (rolled wide plan period)
+
+-- of every instance
+abbrev pub RolledTextIsRead : Type 0
+RolledTextIsRead = (inst : Tables) (plan : List (Option ℕ)) (period : ℕ) → TextIsRead inst plan period

@@ -7,8 +7,10 @@
 
 mod kept;
 mod laws;
+mod text;
 mod view;
 
 pub use instance_model::Rule;
 pub use kept::kept_fault;
 pub use laws::{plans_roll, rolled_tables_fit, rolled_text_is_read};
+pub use text::{rolled_length, write_rolled};

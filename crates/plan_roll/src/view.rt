@@ -23,6 +23,7 @@ fn may_start(period: u32, begun: Option<u32>, s: u32) -> bool
 }
 
 /// What is left of an instance from a period on, after a plan so far.
+#[derive(Clone, Copy)]
 pub(crate) struct Rolled<'a> {
     pub(crate) inst: &'a Instance,
     pub(crate) plan: &'a [Option<u32>],
