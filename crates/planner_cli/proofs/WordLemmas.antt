@@ -8,7 +8,10 @@ use Rattle.planner_cli.specs.Words.{Command, evaluate, replay, check, is_file_wo
 use Rattle.planner_cli.specs.Words.{replaying, checking, evaluate_of, replay_of, check_of, IsOneCommand}
 use Rattle.planner_cli.specs.Words.{solve, turns_of, are_file_words, are_apart, solving, solve_files, solve_of}
 use Rattle.planner_cli.specs.Words.{table, period_of, tabling, table_of, after_check, after_replay, after_evaluate}
+use Rattle.planner_cli.specs.Words.{after_solve, after_table, names_differ, rebound, rebounding, rebound_of, roll, rolling}
+use Rattle.planner_cli.specs.Words.{roll_files, roll_of}
 use Rattle.command_solve.specs.Solving.{SolveFiles}
+use Rattle.command_roll.specs.Rolling.{RollFiles}
 
 -- ---- too few words, and too many
 
@@ -96,6 +99,39 @@ many_table (a ∷ b ∷ d ∷ e ∷ f ∷ []) h = absurd (omega (arith, h))
 many_table (a ∷ b ∷ d ∷ e ∷ f ∷ k ∷ []) h = absurd (omega (arith, h))
 many_table (a ∷ b ∷ d ∷ e ∷ f ∷ k ∷ l ∷ words) h = refl
 
+pub few_rebound : (words : List (List ℕ)) → length words < 4 → rebound_of words ≡ None
+few_rebound [] h = refl
+few_rebound (a ∷ []) h = refl
+few_rebound (a ∷ b ∷ []) h = refl
+few_rebound (a ∷ b ∷ d ∷ []) h = refl
+few_rebound (a ∷ b ∷ d ∷ e ∷ words) h = absurd (omega (arith, h))
+
+pub many_rebound : (words : List (List ℕ)) → 5 < length words → rebound_of words ≡ None
+many_rebound [] h = refl
+many_rebound (a ∷ []) h = refl
+many_rebound (a ∷ b ∷ []) h = refl
+many_rebound (a ∷ b ∷ d ∷ []) h = refl
+many_rebound (a ∷ b ∷ d ∷ e ∷ []) h = absurd (omega (arith, h))
+many_rebound (a ∷ b ∷ d ∷ e ∷ f ∷ []) h = absurd (omega (arith, h))
+many_rebound (a ∷ b ∷ d ∷ e ∷ f ∷ k ∷ words) h = refl
+
+pub few_roll : (words : List (List ℕ)) → length words < 5 → roll_of words ≡ None
+few_roll [] h = refl
+few_roll (a ∷ []) h = refl
+few_roll (a ∷ b ∷ []) h = refl
+few_roll (a ∷ b ∷ d ∷ []) h = refl
+few_roll (a ∷ b ∷ d ∷ e ∷ []) h = refl
+few_roll (a ∷ b ∷ d ∷ e ∷ f ∷ words) h = absurd (omega (arith, h))
+
+pub many_roll : (words : List (List ℕ)) → 5 < length words → roll_of words ≡ None
+many_roll [] h = refl
+many_roll (a ∷ []) h = refl
+many_roll (a ∷ b ∷ []) h = refl
+many_roll (a ∷ b ∷ d ∷ []) h = refl
+many_roll (a ∷ b ∷ d ∷ e ∷ []) h = refl
+many_roll (a ∷ b ∷ d ∷ e ∷ f ∷ []) h = absurd (omega (arith, h))
+many_roll (a ∷ b ∷ d ∷ e ∷ f ∷ k ∷ words) h = refl
+
 -- ---- a parser answers where word 1 is its command
 
 first : List (List ℕ) → List ℕ
@@ -112,6 +148,10 @@ if_three false b d x c e = absurd (no_answer c e)
 if_four : (a b d f : Bool) (x c : Command) → (if a && b && d && f then Some x else None) ≡ Some c → a ≡ true
 if_four true b d f x c e = refl
 if_four false b d f x c e = absurd (no_answer c e)
+
+if_five : (a b d f k : Bool) (x c : Command) → (if a && b && d && f && k then Some x else None) ≡ Some c → a ≡ true
+if_five true b d f k x c e = refl
+if_five false b d f k x c e = absurd (no_answer c e)
 
 evaluation_named : (name instance plan : List ℕ) (slack : Option ℕ) (c : Command)
     → evaluation name instance plan slack ≡ Some c → bytes_eq name (codes "evaluate") ≡ true
@@ -150,6 +190,20 @@ tabling_named name instance plan (Some from) (Some to) None c e = absurd (no_ans
 tabling_named name instance plan (Some from) (Some to) (Some slack) c e =
     if_four (bytes_eq name (codes "table")) (is_file_word instance) (is_file_word plan) (nat_le from to)
     (table (record { instance = instance; slack = slack }) plan from to) c e
+
+rebounding_named : (name instance cert out : List ℕ) (slack : Option ℕ) (c : Command)
+    → rebounding name instance cert out slack ≡ Some c → bytes_eq name (codes "rebound") ≡ true
+rebounding_named name instance cert out None c e = absurd (no_answer c e)
+rebounding_named name instance cert out (Some slack) c e =
+    if_five (bytes_eq name (codes "rebound")) (is_file_word instance) (is_file_word cert) (is_file_word out)
+    (names_differ instance cert out) (rebound (record { instance = instance; slack = slack }) cert out) c e
+
+rolling_named : (name : List ℕ) (files : RollFiles) (period : Option ℕ) (c : Command)
+    → rolling name files period ≡ Some c → bytes_eq name (codes "roll") ≡ true
+rolling_named name files None c e = absurd (no_answer c e)
+rolling_named name files (Some period) c e =
+    if_five (bytes_eq name (codes "roll")) (is_file_word files.instance) (is_file_word files.plan)
+    (is_file_word files.out) (names_differ files.instance files.plan files.out) (roll files period) c e
 
 evaluate_named : (words : List (List ℕ)) (c : Command) → evaluate_of words ≡ Some c
     → bytes_eq (first words) (codes "evaluate") ≡ true
@@ -210,6 +264,28 @@ table_named (a ∷ b ∷ d ∷ f ∷ k ∷ []) c e = tabling_named a b d (period
 table_named (a ∷ b ∷ d ∷ f ∷ k ∷ l ∷ []) c e = tabling_named a b d (period_of f) (period_of k) (slack_of l) c e
 table_named (a ∷ b ∷ d ∷ f ∷ k ∷ l ∷ m ∷ words) c e = absurd (no_answer c e)
 
+rebound_named : (words : List (List ℕ)) (c : Command) → rebound_of words ≡ Some c
+    → bytes_eq (first words) (codes "rebound") ≡ true
+unfolding first
+rebound_named [] c e = absurd (no_answer c e)
+rebound_named (a ∷ []) c e = absurd (no_answer c e)
+rebound_named (a ∷ b ∷ []) c e = absurd (no_answer c e)
+rebound_named (a ∷ b ∷ d ∷ []) c e = absurd (no_answer c e)
+rebound_named (a ∷ b ∷ d ∷ f ∷ []) c e = rebounding_named a b d f (Some 0) c e
+rebound_named (a ∷ b ∷ d ∷ f ∷ k ∷ []) c e = rebounding_named a b d f (slack_of k) c e
+rebound_named (a ∷ b ∷ d ∷ f ∷ k ∷ l ∷ words) c e = absurd (no_answer c e)
+
+roll_named : (words : List (List ℕ)) (c : Command) → roll_of words ≡ Some c
+    → bytes_eq (first words) (codes "roll") ≡ true
+unfolding first
+roll_named [] c e = absurd (no_answer c e)
+roll_named (a ∷ []) c e = absurd (no_answer c e)
+roll_named (a ∷ b ∷ []) c e = absurd (no_answer c e)
+roll_named (a ∷ b ∷ d ∷ []) c e = absurd (no_answer c e)
+roll_named (a ∷ b ∷ d ∷ f ∷ []) c e = absurd (no_answer c e)
+roll_named (a ∷ b ∷ d ∷ f ∷ k ∷ []) c e = rolling_named a (roll_files b d k) (period_of f) c e
+roll_named (a ∷ b ∷ d ∷ f ∷ k ∷ l ∷ words) c e = absurd (no_answer c e)
+
 -- a word is one name
 one_name : (word a b : List ℕ) → bytes_eq word a ≡ true → bytes_eq word b ≡ true → a ≡ b
 one_name word a b x y = sym ((bytes_eq-Decides word a).0 x) ∙ (bytes_eq-Decides word b).0 y
@@ -262,6 +338,18 @@ module _ (words : List (List ℕ)) (name : List ℕ) (c : Command) (named : byte
       found_later (solve_of words) rest c
       (λ d also. two_names words (codes "solve") name apart (solve_named words d also) named) e
 
+  past_table : (rest : Option Command) → bytes_eq (codes "table") name ≡ false → rest ≡ Some c
+      → or_else (table_of words) rest ≡ Some c
+  past_table rest apart e =
+      found_later (table_of words) rest c
+      (λ d also. two_names words (codes "table") name apart (table_named words d also) named) e
+
+  past_rebound : (rest : Option Command) → bytes_eq (codes "rebound") name ≡ false → rest ≡ Some c
+      → or_else (rebound_of words) rest ≡ Some c
+  past_rebound rest apart e =
+      found_later (rebound_of words) rest c
+      (λ d also. two_names words (codes "rebound") name apart (rebound_named words d also) named) e
+
 pub one_command : (words : List (List ℕ)) → IsOneCommand words
 one_command words =
     record {
@@ -279,11 +367,28 @@ one_command words =
           past_evaluate words (codes "solve") c named (after_evaluate words) refl
           (past_replay words (codes "solve") c named (after_replay words) refl
           (past_check words (codes "solve") c named (after_check words) refl
-          (found (solve_of words) (table_of words) c e)));
+          (found (solve_of words) (after_solve words) c e)));
       tabulates = λ c e.
           let named = table_named words c e in
           past_evaluate words (codes "table") c named (after_evaluate words) refl
           (past_replay words (codes "table") c named (after_replay words) refl
           (past_check words (codes "table") c named (after_check words) refl
-          (past_solve words (codes "table") c named (table_of words) refl e)));
+          (past_solve words (codes "table") c named (after_solve words) refl
+          (found (table_of words) (after_table words) c e))));
+      rebounds = λ c e.
+          let named = rebound_named words c e in
+          past_evaluate words (codes "rebound") c named (after_evaluate words) refl
+          (past_replay words (codes "rebound") c named (after_replay words) refl
+          (past_check words (codes "rebound") c named (after_check words) refl
+          (past_solve words (codes "rebound") c named (after_solve words) refl
+          (past_table words (codes "rebound") c named (after_table words) refl
+          (found (rebound_of words) (roll_of words) c e)))));
+      rolls = λ c e.
+          let named = roll_named words c e in
+          past_evaluate words (codes "roll") c named (after_evaluate words) refl
+          (past_replay words (codes "roll") c named (after_replay words) refl
+          (past_check words (codes "roll") c named (after_check words) refl
+          (past_solve words (codes "roll") c named (after_solve words) refl
+          (past_table words (codes "roll") c named (after_table words) refl
+          (past_rebound words (codes "roll") c named (roll_of words) refl e)))));
     }

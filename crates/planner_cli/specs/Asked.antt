@@ -2,10 +2,12 @@
 use Rattle.std.specs.Prelude.{◌≤◌, ⊤, option_copied}
 use Rattle.planner_cli.specs.declared.words.Command.{Command as CommandWords}
 use Rattle.planner_cli.specs.declared.words.Command.TheVariants.{Evaluate, Replay, Check, Solve, Table}
-use Rattle.planner_cli.specs.Words.{Command, evaluate, replay, check, solve, table}
+use Rattle.planner_cli.specs.declared.words.Command.TheVariants.{Rebound, Roll}
+use Rattle.planner_cli.specs.Words.{Command, evaluate, replay, check, solve, table, rebound, roll}
 use Rattle.command_frame.specs.Sources.{source_view}
 use Rattle.command_solve.specs.Solving.{AreDistinct}
 use Rattle.command_solve.specs.Made.{files_view}
+use Rattle.command_roll.specs.Made.{files_view as roll_files_view}
 
 abbrev pub command_view : CommandWords → Command
 command_view (Evaluate source plan) = evaluate (source_view source) plan.now
@@ -13,11 +15,16 @@ command_view (Replay source plan script) = replay (source_view source) plan.now 
 command_view (Check source plan certificate) = check (source_view source) (option_copied plan) certificate.now
 command_view (Solve source files turns) = solve (source_view source) (files_view files) turns
 command_view (Table source plan from to) = table (source_view source) plan.now from to
+command_view (Rebound source certificate out) = rebound (source_view source) certificate.now out.now
+command_view (Roll files period) = roll (roll_files_view files) period
 
--- What a command needs of its words: `solve` not too many turns, and names that differ; `table` a first period from 1.
+-- What a command needs of its words: `solve` not too many turns, and names that differ; `table` a first period from 1;
+-- `roll` a period from 1 to 512.
 abbrev pub CanRun : Command → Type 0
 CanRun (evaluate source plan) = ⊤
 CanRun (replay source plan script) = ⊤
 CanRun (check source plan certificate) = ⊤
 CanRun (solve source files turns) = (turns ≤ 1_000_000) × AreDistinct source.instance files
 CanRun (table source plan from to) = 1 ≤ from
+CanRun (rebound source certificate out) = ⊤
+CanRun (roll files period) = (1 ≤ period) × (period ≤ 512)

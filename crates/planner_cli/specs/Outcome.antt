@@ -6,7 +6,8 @@ use Rattle.plan_desk.specs.Desk.{Shown}
 use Rattle.plan_desk.specs.Contents.{Says}
 use Rattle.instance_model.specs.Limits.{standard_limits}
 use Rattle.command_frame.specs.Sources.{Source}
-use Rattle.planner_cli.specs.Words.{Command, evaluate, replay, check, solve, table, command_of}
+use Rattle.planner_cli.specs.Words.{Command, evaluate, replay, check, solve, table, rebound, roll}
+use Rattle.planner_cli.specs.Words.{command_of}
 use Rattle.command_frame.specs.Lines.{words_line}
 use Rattle.command_frame.specs.Ending.{Answer, reply, IsQuiet, SayFails, IsUnsaid, Ends}
 use Rattle.command_evaluate.specs.Evaluating.{RunsEvaluate}
@@ -14,10 +15,19 @@ use Rattle.command_replay.specs.Replaying.{RunsReplay}
 use Rattle.command_check.specs.Checking.{RunsCheck}
 use Rattle.command_solve.specs.Solving.{SolveFiles, RunsSolve}
 use Rattle.command_table.specs.Tabling.{RunsTable}
+use Rattle.command_rebound.specs.Rebinding.{RunsRebound}
+use Rattle.command_roll.specs.Rolling.{RollFiles, RunsRoll}
 
 -- the words ask for this command
 abbrev pub Asks : List (List ℕ) → Command → Type 0
 Asks words c = command_of words ≡ Some c
+
+-- they are words of `rebound`; they are words of `roll`
+abbrev pub AskToRebound : List (List ℕ) → Type 0
+AskToRebound words = (source : Source) × ((cert : List ℕ) × ((out : List ℕ) × Asks words (rebound source cert out)))
+
+abbrev pub AskToRoll : List (List ℕ) → Type 0
+AskToRoll words = (files : RollFiles) × ((period : ℕ) × Asks words (roll files period))
 
 -- what is due for words that are not in the grammar
 abbrev pub DueRefusal : Shown → Answer → Type 0
@@ -51,6 +61,10 @@ pub record Outcome (words : List (List ℕ)) (old new : Shown) (status : ℕ) : 
       → RunsSolve standard_limits source files turns old new status
   pub tabulates : (source : Source) (plan : List ℕ) (from to : ℕ) → Asks words (table source plan from to)
       → RunsTable standard_limits source plan from to old new status
+  pub rebounds : (source : Source) (cert out : List ℕ) → Asks words (rebound source cert out)
+      → RunsRebound standard_limits source cert out old new status
+  pub rolls : (files : RollFiles) (period : ℕ) → Asks words (roll files period)
+      → RunsRoll standard_limits files period old new status
   -- the last fault is what it was, but at 7 and 8, and faults never fall
   pub quiet : IsQuiet status old new
   pub later : old.faults ≤ new.faults

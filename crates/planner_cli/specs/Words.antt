@@ -5,23 +5,30 @@ use Rattle.instance_model.specs.Rules.{or_else}
 use Rattle.instance_shape.specs.Keys.{all_bytes, is_digit, number_of}
 use Rattle.command_frame.specs.Sources.{Source}
 use Rattle.command_solve.specs.Solving.{SolveFiles}
+use Rattle.command_roll.specs.Rolling.{RollFiles}
 
 -- What a command line asks for, with the names of its files: the plan is word 3, the script or the certificate word 4,
--- and the trail of a solution word 5. A check may be without a plan. A table has two periods, words 4 and 5.
+-- and the trail of a solution word 5. A check may be without a plan. A table has two periods, words 4 and 5. What is
+-- rebound has its certificate as word 3, and is written to word 4; what is rolled has its period as word 4, and is
+-- written to word 5.
 pub data Command : Type 0 where
   evaluate : (source : Source) (plan : List ℕ) → Command
   replay : (source : Source) (plan script : List ℕ) → Command
   check : (source : Source) (plan : Option (List ℕ)) (certificate : List ℕ) → Command
   solve : (source : Source) (files : SolveFiles) (turns : ℕ) → Command
   table : (source : Source) (plan : List ℕ) (from to : ℕ) → Command
+  rebound : (source : Source) (certificate out : List ℕ) → Command
+  roll : (files : RollFiles) (period : ℕ) → Command
 
--- how far the bands of a command's instance are widened, in 10^-12
+-- how far the bands of a command's instance are widened, in 10^-12; those of what is rolled never are
 abbrev pub slack_in : Command → ℕ
 slack_in (evaluate source plan) = source.slack
 slack_in (replay source plan script) = source.slack
 slack_in (check source plan certificate) = source.slack
 slack_in (solve source files turns) = source.slack
 slack_in (table source plan from to) = source.slack
+slack_in (rebound source certificate out) = source.slack
+slack_in (roll files period) = 0
 
 -- a file word is a text that is not empty
 abbrev pub is_file_word : List ℕ → Bool
@@ -124,7 +131,29 @@ tabling name instance plan (Some from) (Some to) (Some slack) =
     then Some (table (record { instance = instance; slack = slack }) plan from to)
     else None
 
--- ---- a parser for each command, whose words may end with one word `slack=D`
+-- three names differ
+abbrev pub names_differ : List ℕ → List ℕ → List ℕ → Bool
+names_differ a b c = not (bytes_eq a b) && not (bytes_eq a c) && not (bytes_eq b c)
+
+-- `rebound INSTANCE CERTIFICATE OUT` with a slack
+abbrev pub rebounding : List ℕ → List ℕ → List ℕ → List ℕ → Option ℕ → Option Command
+rebounding name instance certificate out None = None
+rebounding name instance certificate out (Some slack) =
+    if bytes_eq name (codes "rebound") && is_file_word instance && is_file_word certificate && is_file_word out
+    && names_differ instance certificate out
+    then Some (rebound (record { instance = instance; slack = slack }) certificate out)
+    else None
+
+-- `roll INSTANCE PLAN PERIOD OUT`
+abbrev pub rolling : List ℕ → RollFiles → Option ℕ → Option Command
+rolling name files None = None
+rolling name files (Some period) =
+    if bytes_eq name (codes "roll") && is_file_word files.instance && is_file_word files.plan
+    && is_file_word files.out && names_differ files.instance files.plan files.out
+    then Some (roll files period)
+    else None
+
+-- ---- a parser for each command, whose words may end with one word `slack=D`, but those of `roll`
 
 abbrev pub evaluate_of : List (List ℕ) → Option Command
 evaluate_of (name ∷ instance ∷ plan ∷ []) = evaluation name instance plan (Some 0)
@@ -159,9 +188,28 @@ table_of (name ∷ instance ∷ plan ∷ from ∷ to ∷ slack ∷ []) =
     tabling name instance plan (period_of from) (period_of to) (slack_of slack)
 table_of words = None
 
--- what the parsers behind `check`, behind `replay` and behind `evaluate` answer
+abbrev pub rebound_of : List (List ℕ) → Option Command
+rebound_of (name ∷ instance ∷ cert ∷ out ∷ []) = rebounding name instance cert out (Some 0)
+rebound_of (name ∷ instance ∷ cert ∷ out ∷ slack ∷ []) = rebounding name instance cert out (slack_of slack)
+rebound_of words = None
+
+-- the files of words 2, 3 and 5
+abbrev pub roll_files : (instance plan out : List ℕ) → RollFiles
+roll_files instance plan out = record { instance = instance; plan = plan; out = out }
+
+abbrev pub roll_of : List (List ℕ) → Option Command
+roll_of (name ∷ instance ∷ plan ∷ period ∷ out ∷ []) = rolling name (roll_files instance plan out) (period_of period)
+roll_of words = None
+
+-- what the parsers behind each command answer
+abbrev pub after_table : List (List ℕ) → Option Command
+after_table words = or_else (rebound_of words) (roll_of words)
+
+abbrev pub after_solve : List (List ℕ) → Option Command
+after_solve words = or_else (table_of words) (after_table words)
+
 abbrev pub after_check : List (List ℕ) → Option Command
-after_check words = or_else (solve_of words) (table_of words)
+after_check words = or_else (solve_of words) (after_solve words)
 
 abbrev pub after_replay : List (List ℕ) → Option Command
 after_replay words = or_else (check_of words) (after_check words)
@@ -180,3 +228,5 @@ pub record IsOneCommand (words : List (List ℕ)) : Type 0 where
   pub checks : (c : Command) → check_of words ≡ Some c → command_of words ≡ Some c
   pub solves : (c : Command) → solve_of words ≡ Some c → command_of words ≡ Some c
   pub tabulates : (c : Command) → table_of words ≡ Some c → command_of words ≡ Some c
+  pub rebounds : (c : Command) → rebound_of words ≡ Some c → command_of words ≡ Some c
+  pub rolls : (c : Command) → roll_of words ≡ Some c → command_of words ≡ Some c

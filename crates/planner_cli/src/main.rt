@@ -5,6 +5,7 @@
 
 #[cfg(test)]
 mod check_tests;
+mod numbers;
 #[cfg(test)]
 mod replay_tests;
 mod run;
@@ -17,7 +18,7 @@ mod tests;
 mod words;
 
 use plan_desk::RealDesk;
-pub use run::{run, run_with};
+pub use run::{rebound_within, roll_within, run, run_with};
 use std::alloc::Global;
 use std::process::ExitCode;
 use std::{env, io};

@@ -1,14 +1,23 @@
 //! The top call.
-ghost use Rattle.std.specs.Prelude.{map, string_bytes};
-ghost use Rattle.planner_cli.specs.Outcome.{Outcome};
+ghost use Rattle.std.specs.Prelude.{◌≤◌, ℕ, List, map, string_bytes};
+ghost use Rattle.instance_model.specs.Limits.{standard_limits};
+ghost use Rattle.instance_shape.specs.Ranges.{AreStandard};
+ghost use Rattle.command_frame.specs.Sources.{Source};
+ghost use Rattle.command_rebound.specs.Rebinding.{RunsRebound};
+ghost use Rattle.command_roll.specs.Rolling.{RollFiles, RunsRoll};
+ghost use Rattle.planner_cli.specs.Words.{rebound, roll};
+ghost use Rattle.planner_cli.specs.Outcome.{Asks, AskToRebound, AskToRoll, Outcome};
 
 use crate::words::{Command, command_of};
 use command_check::check_files;
 use command_evaluate::evaluate_files;
 use command_frame::{WORDS_LINE, say};
+use command_rebound::rebound_files;
 use command_replay::replay_files;
+use command_roll::roll_files;
 use command_solve::solve_files;
 use command_table::table_files;
+use instance_model::Limits;
 use plan_desk::Desk;
 use quantile_index::{Row, TreeRow};
 use std::alloc::Global;
@@ -16,10 +25,11 @@ use std::alloc::Global;
 /// Runs the command of these words, which are those after the program's name, and answers the status.
 ///
 /// 0: done; of `evaluate`, the plan is feasible; of `check`, the certificate is valid; of `solve`, a plan was found. 1:
-/// the plan breaks a rule; of `replay` and `table`, one on starts. 2: the words are not in the grammar. 3: the instance is refused.
-/// 4: the plan's text is refused. 5: the certificate is refused. 6: the script is refused. 7: a file could not be read.
-/// 8: a file could not be written, or what was due could not be said. 9: no plan was found, and there may be one. 10:
-/// there is no plan. 11: memory ran out, and nothing was written or said before.
+/// the plan breaks a rule; of `replay` and `table`, one on starts; of `roll`, one on starts that are kept. 2: the words
+/// are not in the grammar. 3: the instance is refused. 4: the plan's text is refused. 5: the certificate is refused. 6:
+/// the script is refused. 7: a file could not be read. 8: a file could not be written, or what was due could not be
+/// said. 9: no plan was found, and there may be one. 10: there is no plan. 11: memory ran out, and nothing was written
+/// or said before. 12: of `rebound` and `roll`, the text to be written is too long.
 pub fn run<D: Desk>(alloc: Global, words: &[String], desk: &mut D) -> u8
     ensures { Outcome (map string_bytes words.now) (D.shows desk.old) (D.shows desk.new) result }
 {
@@ -62,5 +72,40 @@ pub fn run_with<R: Row, D: Desk>(alloc: Global, words: &[String], desk: &mut D) 
                 to,
             },
         ) => table_files(alloc, &source, plan, from, to, desk),
+        Some(Command::Rebound { .. }) => rebound_within(alloc, &Limits::standard(), words, desk),
+        Some(Command::Roll { .. }) => roll_within(alloc, &Limits::standard(), words, desk),
+    }
+}
+
+/// Runs words of `rebound` within these limits, of which none is above the standard one.
+pub fn rebound_within<D: Desk>(alloc: Global, limits: &Limits, words: &[String], desk: &mut D) -> u8
+    requires standard { AreStandard limits.now }
+    requires bytes { limits.now.certificate_bytes ≤ standard_limits.certificate_bytes }
+    requires asked { AskToRebound (map string_bytes words.now) }
+    ensures { (source : Source) (cert out : List ℕ) → Asks (map string_bytes words.now) (rebound source cert out)
+        → RunsRebound limits.now source cert out (D.shows desk.old) (D.shows desk.new) result }
+{
+    match command_of(words) {
+        Some(
+            Command::Rebound {
+                source,
+                certificate,
+                out,
+            },
+        ) => rebound_files(alloc, limits, &source, certificate, out, desk),
+        _ => unreachable!(),
+    }
+}
+
+/// Runs words of `roll` within these limits, of which none is above the standard one.
+pub fn roll_within<D: Desk>(alloc: Global, limits: &Limits, words: &[String], desk: &mut D) -> u8
+    requires standard { AreStandard limits.now }
+    requires asked { AskToRoll (map string_bytes words.now) }
+    ensures { (files : RollFiles) (period : ℕ) → Asks (map string_bytes words.now) (roll files period)
+        → RunsRoll limits.now files period (D.shows desk.old) (D.shows desk.new) result }
+{
+    match command_of(words) {
+        Some(Command::Roll { files, period }) => roll_files(alloc, limits, &files, period, desk),
+        _ => unreachable!(),
     }
 }

@@ -1,26 +1,17 @@
 //! The command line.
-ghost use Rattle.std.specs.Prelude.{◌≡◌, ◌≤◌, map, string_bytes, option_copied, IfSome, IfNone, Some, None, IsTrue};
-ghost use Rattle.std.specs.Prelude.{false, ◌&&◌, nat_le, length};
+ghost use Rattle.std.specs.Prelude.{◌≡◌, ◌≤◌, map, string_bytes, option_copied, IfSome, IfNone, Some, None};
 ghost use Rattle.planner_cli.specs.Words.{command_of, evaluate_of, replay_of, check_of, IsOneCommand, evaluation};
-ghost use Rattle.planner_cli.specs.Words.{replaying, checking, given_plan, slack_in, slack_of, slack_count, fraction};
-ghost use Rattle.planner_cli.specs.Words.{are_decimals, solve_of, solving, turns_of, is_numeral, are_file_words};
-ghost use Rattle.planner_cli.specs.Words.{are_apart, table_of, tabling, period_of};
-ghost use Rattle.planner_cli.specs.Words.{after_evaluate, after_replay, after_check};
-ghost use Rattle.instance_shape.specs.Keys.{all_bytes, is_digit, number_of};
+ghost use Rattle.planner_cli.specs.Words.{replaying, checking, given_plan, slack_in, solve_of, solving, are_file_words};
+ghost use Rattle.planner_cli.specs.Words.{are_apart, table_of, tabling, names_differ, rebound_of, rebounding, roll_of, rolling};
+ghost use Rattle.planner_cli.specs.Words.{after_evaluate, after_replay, after_check, after_solve, after_table};
 ghost use Rattle.command_solve.specs.Made.{files_view};
+ghost use Rattle.command_roll.specs.Made.{files_view as roll_files_view};
 ghost use Rattle.planner_cli.specs.Asked.{command_view, CanRun};
 
+use crate::numbers::{period_of, slack_of, turns_of};
 use command_frame::Source;
+use command_roll::RollFiles;
 use command_solve::SolveFiles;
-
-/// How many counts of 10^-12 a slack has at most.
-const MOST_SLACK: u64 = 1_000_000_000;
-
-/// How many turns a solution has at most.
-const MOST_TURNS: u64 = 1_000_000;
-
-/// The last period that a table may be asked for.
-const LAST_PERIOD: u64 = 512;
 
 /// What the words ask for, with the names of its files: the plan is word 3, the script or the certificate word 4.
 #[derive(Clone, Copy)]
@@ -52,6 +43,17 @@ pub enum Command<'a> {
         plan: &'a str,
         from: u32,
         to: u32,
+    },
+    /// A certificate that is rebound is word 3, and what it becomes is written to word 4.
+    Rebound {
+        source: Source<'a>,
+        certificate: &'a str,
+        out: &'a str,
+    },
+    /// The rest of a year begins at a period, word 4.
+    Roll {
+        files: RollFiles<'a>,
+        period: u32,
     },
 }
 
@@ -106,7 +108,33 @@ fn after_check(words: &[String]) -> Option<Command<'_>>
 {
     match solve_of(words) {
         Some(command) => Some(command),
-        None => table_of(words),
+        None => after_solve(words),
+    }
+}
+
+// The command of words that are those of no command before `table`.
+fn after_solve(words: &[String]) -> Option<Command<'_>>
+    ensures found { IfSome result (λ asked. after_solve (map string_bytes words.now) ≡ Some (command_view asked)) }
+    ensures none { IfNone result (after_solve (map string_bytes words.now) ≡ None) }
+    ensures small { IfSome result (λ asked. slack_in (command_view asked) ≤ 1_000_000_000) }
+    ensures can { IfSome result (λ asked. CanRun (command_view asked)) }
+{
+    match table_of(words) {
+        Some(command) => Some(command),
+        None => after_table(words),
+    }
+}
+
+// The command of words that are those of no command before `rebound`.
+fn after_table(words: &[String]) -> Option<Command<'_>>
+    ensures found { IfSome result (λ asked. after_table (map string_bytes words.now) ≡ Some (command_view asked)) }
+    ensures none { IfNone result (after_table (map string_bytes words.now) ≡ None) }
+    ensures small { IfSome result (λ asked. slack_in (command_view asked) ≤ 1_000_000_000) }
+    ensures can { IfSome result (λ asked. CanRun (command_view asked)) }
+{
+    match rebound_of(words) {
+        Some(command) => Some(command),
+        None => roll_of(words),
     }
 }
 
@@ -240,6 +268,53 @@ fn table_of(words: &[String]) -> Option<Command<'_>>
             period_of(from.as_str()),
             period_of(to.as_str()),
             slack_of(slack.as_str()),
+        ),
+        _ => None,
+    }
+}
+
+// `rebound` of these words.
+fn rebound_of(words: &[String]) -> Option<Command<'_>>
+    ensures found { IfSome result (λ asked. rebound_of (map string_bytes words.now) ≡ Some (command_view asked)) }
+    ensures none { IfNone result (rebound_of (map string_bytes words.now) ≡ None) }
+    ensures small { IfSome result (λ asked. slack_in (command_view asked) ≤ 1_000_000_000) }
+    ensures can { IfSome result (λ asked. CanRun (command_view asked)) }
+{
+    match words {
+        [name, instance, certificate, out] => rebounding(
+            name.as_str(),
+            instance.as_str(),
+            certificate.as_str(),
+            out.as_str(),
+            Some(0),
+        ),
+        [name, instance, certificate, out, slack] => rebounding(
+            name.as_str(),
+            instance.as_str(),
+            certificate.as_str(),
+            out.as_str(),
+            slack_of(slack.as_str()),
+        ),
+        _ => None,
+    }
+}
+
+// `roll` of these words.
+fn roll_of(words: &[String]) -> Option<Command<'_>>
+    ensures found { IfSome result (λ asked. roll_of (map string_bytes words.now) ≡ Some (command_view asked)) }
+    ensures none { IfNone result (roll_of (map string_bytes words.now) ≡ None) }
+    ensures small { IfSome result (λ asked. slack_in (command_view asked) ≤ 1_000_000_000) }
+    ensures can { IfSome result (λ asked. CanRun (command_view asked)) }
+{
+    match words {
+        [name, instance, plan, period, out] => rolling(
+            name.as_str(),
+            RollFiles {
+                instance: instance.as_str(),
+                plan: plan.as_str(),
+                out: out.as_str(),
+            },
+            period_of(period.as_str()),
         ),
         _ => None,
     }
@@ -383,6 +458,66 @@ fn tabling<'a>(
     })
 }
 
+// `rebound` of these files, with this slack.
+fn rebounding<'a>(
+    name: &str,
+    instance: &'a str,
+    certificate: &'a str,
+    out: &'a str,
+    slack: Option<u32>,
+) -> Option<Command<'a>>
+    requires small { IfSome slack (λ count. count ≤ 1_000_000_000) }
+    ensures found { IfSome result
+        (λ asked. rebounding name.now instance.now certificate.now out.now slack ≡ Some (command_view asked)) }
+    ensures none { IfNone result (rebounding name.now instance.now certificate.now out.now slack ≡ None) }
+    ensures small { IfSome result (λ asked. slack_in (command_view asked) ≤ 1_000_000_000) }
+    ensures can { IfSome result (λ asked. CanRun (command_view asked)) }
+{
+    let slack = slack?;
+    if name != "rebound" || instance.is_empty() || certificate.is_empty() || out.is_empty() {
+        return None;
+    }
+    if !names_differ(instance, certificate, out) {
+        return None;
+    }
+    Some(Command::Rebound {
+        source: Source { instance, slack },
+        certificate,
+        out,
+    })
+}
+
+// `roll` of these files, at this period.
+fn rolling<'a>(name: &str, files: RollFiles<'a>, period: Option<u32>) -> Option<Command<'a>>
+    requires first { IfSome period (λ t. 1 ≤ t) }
+    requires last { IfSome period (λ t. t ≤ 512) }
+    ensures found { IfSome result
+        (λ asked. rolling name.now (roll_files_view files.entry) period ≡ Some (command_view asked)) }
+    ensures none { IfNone result (rolling name.now (roll_files_view files.entry) period ≡ None) }
+    ensures small { IfSome result (λ asked. slack_in (command_view asked) ≤ 1_000_000_000) }
+    ensures can { IfSome result (λ asked. CanRun (command_view asked)) }
+{
+    let period = period?;
+    if name != "roll"
+        || files.instance.is_empty()
+        || files.plan.is_empty()
+        || files.out.is_empty()
+    {
+        return None;
+    }
+    if !names_differ(files.instance, files.plan, files.out) {
+        return None;
+    }
+    Some(Command::Roll { files, period })
+}
+
+// Whether three names differ.
+fn names_differ(a: &str, b: &str, c: &str) -> bool
+    ensures { result ≡ names_differ a.now b.now c.now }
+{
+    a != b && a != c && b != c
+}
+
 // Whether none of the three names is empty.
 fn are_file_words(files: &SolveFiles<'_>) -> bool
     ensures { result ≡ are_file_words (files_view files.now) }
@@ -407,107 +542,4 @@ fn given_plan(word: &str) -> Option<&str>
     ensures { option_copied result ≡ given_plan word.now }
 {
     if word == "-" { None } else { Some(word) }
-}
-
-// The slack of a word `slack=D`, in counts of 10^-12.
-fn slack_of(word: &str) -> Option<u32>
-    ensures value { result ≡ slack_of word.now }
-    ensures small { IfSome result (λ count. count ≤ 1_000_000_000) }
-{
-    match word.as_bytes() {
-        [b's', b'l', b'a', b'c', b'k', b'=', count @ ..] => slack_count(count),
-        _ => None,
-    }
-}
-
-fn slack_count(bytes: &[u8]) -> Option<u32>
-    ensures value { result ≡ slack_count bytes.now }
-    ensures small { IfSome result (λ count. count ≤ 1_000_000_000) }
-{
-    match bytes {
-        [b'0'] => Some(0),
-        [b'0', b'.', digits @ ..] => {
-            let count = fraction(digits)?;
-            if count <= MOST_SLACK {
-                Some(count as u32)
-            } else {
-                None
-            }
-        }
-        _ => None,
-    }
-}
-
-// The turns of a word.
-fn turns_of(word: &str) -> Option<u32>
-    ensures value { result ≡ turns_of word.now }
-    ensures small { IfSome result (λ count. count ≤ 1_000_000) }
-{
-    let count = numeral(word.as_bytes())?;
-    if count <= MOST_TURNS {
-        Some(count as u32)
-    } else {
-        None
-    }
-}
-
-// The period of a word.
-fn period_of(word: &str) -> Option<u32>
-    ensures value { result ≡ period_of word.now }
-    ensures first { IfSome result (λ t. 1 ≤ t) }
-{
-    let number = numeral(word.as_bytes())?;
-    if number >= 1 && number <= LAST_PERIOD {
-        Some(number as u32)
-    } else {
-        None
-    }
-}
-
-// 1 to 7 digits, the first of which is no needless zero.
-fn numeral(digits: &[u8]) -> Option<u64>
-    ensures found { IfSome result (λ count. IsTrue (is_numeral digits.now) × (count ≡ number_of digits.now)) }
-    ensures none { IfNone result (is_numeral digits.now ≡ false) }
-{
-    match digits {
-        [] | [b'0', _, ..] => None,
-        _ => short_number(digits),
-    }
-}
-
-// At most 7 digits.
-fn short_number(digits: &[u8]) -> Option<u64>
-    ensures found { IfSome result (λ count. IsTrue (nat_le (length digits.now) 7 && all_bytes is_digit digits.now)
-        × (count ≡ number_of digits.now)) }
-    ensures none { IfNone result ((nat_le (length digits.now) 7 && all_bytes is_digit digits.now) ≡ false) }
-{
-    if digits.len() > 7 {
-        return None;
-    }
-    let mut number: u64 = 0;
-    for digit in digits {
-        if *digit < b'0' || *digit > b'9' {
-            return None;
-        }
-        number = number * 10 + (*digit - b'0') as u64;
-    }
-    Some(number)
-}
-
-// 1 to 12 digits behind the point, in 10^-12.
-fn fraction(digits: &[u8]) -> Option<u64>
-    ensures found { IfSome result (λ count. IsTrue (are_decimals digits.now) × (count ≡ fraction digits.now)) }
-    ensures none { IfNone result (are_decimals digits.now ≡ false) }
-{
-    if digits.is_empty() || digits.len() > 12 {
-        return None;
-    }
-    let mut number: u64 = 0;
-    for digit in digits {
-        if *digit < b'0' || *digit > b'9' {
-            return None;
-        }
-        number = number * 10 + (*digit - b'0') as u64;
-    }
-    Some(number * 10u64.pow(12 - digits.len() as u32))
 }
