@@ -1,0 +1,4 @@
+pub mod RollNames
+pub mod RollLemmas
+pub mod RollAnswers
+pub mod RollRun
