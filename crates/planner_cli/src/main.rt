@@ -5,7 +5,6 @@
 
 #[cfg(test)]
 mod check_tests;
-mod numbers;
 #[cfg(test)]
 mod replay_tests;
 mod run;

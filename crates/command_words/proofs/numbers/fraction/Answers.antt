@@ -1,7 +1,7 @@
 use Rattle.std.proofs.Common.{◌≡◌, ℕ, ◌≤◌, sym, ◌∙◌, ap, ◌<◌, ◌+◌, ◌-◌, ◌*◌, ◌^◌, arith, length}
 use Rattle.std.proofs.Math.Nat.{pow-le-pow_right, mul-le-mul_right}
 use Rattle.std.proofs.lemmas.Nat.{pow-add}
-use Rattle.planner_cli.proofs.numbers.fraction.Goals as goal
+use Rattle.command_words.proofs.numbers.fraction.Goals as goal
 
 small : (n i : ℕ) → n < 10 ^ i → i ≤ 12 → n < 1_000_000_000_000
 small n i h l =

@@ -1,6 +1,6 @@
 use Rattle.std.proofs.Common.{◌≡◌, drop, ◌<◌, ◌^◌}
 use Rattle.instance_shape.specs.Keys.{all_bytes, is_digit, number_from}
-use Rattle.planner_cli.proofs.numbers.short_number.Given as goal
+use Rattle.command_words.proofs.numbers.fraction.Given as goal
 
 abbrev pub invariant-loop-digit : goal.invariant-loop-digit
 invariant-loop-digit l = record {

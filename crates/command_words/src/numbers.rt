@@ -1,19 +1,20 @@
-//! The numbers in words: a slack, turns and periods.
+//! Numbers in words.
 ghost use Rattle.std.specs.Prelude.{◌≡◌, ◌≤◌, IfSome, IfNone, IsTrue, false, ◌&&◌, nat_le, length};
-ghost use Rattle.planner_cli.specs.Words.{slack_of, slack_count, fraction, are_decimals, turns_of, period_of, is_numeral};
 ghost use Rattle.instance_shape.specs.Keys.{all_bytes, is_digit, number_of};
+ghost use Rattle.command_words.specs.Numbers.{slack_of, slack_count, fraction, are_decimals, turns_of, is_numeral};
+ghost use Rattle.command_words.specs.Numbers.{period_of};
 
 /// How many counts of 10^-12 a slack has at most.
 const MOST_SLACK: u64 = 1_000_000_000;
 
-/// How many turns a solution has at most.
+/// How many turns there are at most.
 const MOST_TURNS: u64 = 1_000_000;
 
 /// The last period that words may name.
 const LAST_PERIOD: u64 = 512;
 
 /// The slack of a word `slack=D`, in counts of 10^-12.
-pub(crate) fn slack_of(word: &str) -> Option<u32>
+pub fn slack_of(word: &str) -> Option<u32>
     ensures value { result ≡ slack_of word.now }
     ensures small { IfSome result (λ count. count ≤ 1_000_000_000) }
 {
@@ -42,7 +43,7 @@ fn slack_count(bytes: &[u8]) -> Option<u32>
 }
 
 /// The turns of a word.
-pub(crate) fn turns_of(word: &str) -> Option<u32>
+pub fn turns_of(word: &str) -> Option<u32>
     ensures value { result ≡ turns_of word.now }
     ensures small { IfSome result (λ count. count ≤ 1_000_000) }
 {
@@ -55,7 +56,7 @@ pub(crate) fn turns_of(word: &str) -> Option<u32>
 }
 
 /// The period of a word.
-pub(crate) fn period_of(word: &str) -> Option<u32>
+pub fn period_of(word: &str) -> Option<u32>
     ensures value { result ≡ period_of word.now }
     ensures first { IfSome result (λ t. 1 ≤ t) }
     ensures last { IfSome result (λ t. t ≤ 512) }

@@ -1,6 +1,6 @@
 use Rattle.std.proofs.Common.{ℕ, ◌≤◌, ◌<◌, ◌^◌, arith}
 use Rattle.std.proofs.Math.Nat.{pow-le-pow_right}
-use Rattle.planner_cli.proofs.numbers.short_number.Goals as goal
+use Rattle.command_words.proofs.numbers.short_number.Goals as goal
 
 small : (n i : ℕ) → n < 10 ^ i → i ≤ 7 → n < 10_000_000
 small n i h l =
