@@ -6,6 +6,8 @@
 #[cfg(test)]
 mod check_tests;
 #[cfg(test)]
+mod output_tests;
+#[cfg(test)]
 mod replay_tests;
 mod run;
 #[cfg(test)]
