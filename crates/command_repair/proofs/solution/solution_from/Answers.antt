@@ -3,7 +3,7 @@ use Rattle.command_repair.specs.Made.{ShortValidIsAuditable}
 use Rattle.command_repair.proofs.SolutionLemmas.{short_valid, can_report, is_solution}
 use Rattle.command_repair.proofs.solution.solution_from.Goals as goal
 
-pub report_on-requires-clause-can : goal.report_on-report-requires-clause-can
+pub report_on-requires-clause-can : goal.report_on-requires-clause-can
 report_on-requires-clause-can g c =
     can_report c.args.inst.now c.args.old.now c.args.turns c.requires.turns c.fits.ensures c.in_ok-made.made.plan
     c.in_ok-made.made.certificate c.in_ok-made.ensures
