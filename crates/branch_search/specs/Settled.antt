@@ -1,5 +1,5 @@
 -- What is known of each node of a tree under construction. Cited by private functions only: no part of any promise.
-use Rattle.std.specs.Prelude.{◌≡◌, ◌^◌, ℕ, ◌<◌, ◌≤◌, ℤ, ◌≤ℤ◌, ⊤, ◌⊎◌, List, length, Option, Some, None, IfSome}
+use Rattle.std.specs.Prelude.{◌≡◌, ◌^◌, ℕ, ◌<◌, ℤ, ◌≤ℤ◌, ◌⊎◌, List, length, Option, Some, None, IfSome}
 use Rattle.std.specs.Prelude.{unsigned_abs}
 use Rattle.lagrange_bound.specs.declared.span.Span.{Span}
 use Rattle.lagrange_bound.specs.Boxes.{IsPlanIn}

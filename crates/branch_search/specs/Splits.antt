@@ -1,5 +1,5 @@
 -- The boxes of the splits of a tree.
-use Rattle.std.specs.Prelude.{ℕ, List, [], ◌∷◌, ◌++◌}
+use Rattle.std.specs.Prelude.{List, [], ◌∷◌, ◌++◌}
 use Rattle.lagrange_bound.specs.declared.span.Span.{Span}
 use Rattle.branch_tree.specs.Trees.{Tree, leaf, split, below, above}
 

@@ -1,4 +1,5 @@
-//! Where a box is split: at the cover that lifts its worth most, else in the interval of which the halves differ most.
+//! Where a box is split: where one part is closed at once, else at the cover that closes the box with the smallest
+//! tree, else in the interval of which the halves differ most.
 ghost use Rattle.std.specs.Prelude.{◌≡◌, ℕ, ◌<◌, ◌≤◌, length, IfSome, IfNone, IfOk, OnOk, IsTrue};
 ghost use Rattle.instance_model.specs.Tables.{tmax};
 ghost use Rattle.lagrange_bound.specs.Boxes.{IsBox, span_of};
@@ -12,42 +13,31 @@ ghost use Rattle.branch_search.specs.Pricing.{IsPricedByGiven};
 ghost use Rattle.branch_search.specs.Valued.{plan_in, IsValued};
 
 use crate::best::Best;
-use crate::cover::Cover;
+use crate::closing::{Cut, Slacks, band_cut, exclusion_cut, longer, price_cut};
+use crate::cover::{Cover, better};
 use crate::least_plan::LeastPlan;
 use crate::looking::{Room, View, look};
 use crate::piece::least_price;
 use crate::place_loads::PlaceLoads;
 use crate::point::take_starts;
+use crate::reaches::Reaches;
 use crate::splitting::middle;
-use crate::worths::Worths;
+use crate::worths::{Worths, greatest_worth};
 use box_state::BoxLoads;
 use instance_model::Instance;
 use lagrange_bound::{Goal, PriceTable, Prices, Span, worth};
 use std::alloc::{AllocError, Global};
 
 /// What is kept for choices: the loads by place, the plans of least prices by the list of zeros and by the one handed
-/// in, and room.
+/// in, what each intervention reaches, what each place has left, and room.
 #[derive(Drop)]
 pub(crate) struct Chooser {
     cells: PlaceLoads,
+    reaches: Reaches,
+    slacks: Slacks,
     zero: LeastPlan,
     given: LeastPlan,
     room: Room,
-}
-
-/// A cover, and the worth of the box by the list of its plan where it is left by each of the members.
-#[derive(Clone, Copy)]
-struct Lift {
-    worth: i128,
-    cover: Cover,
-}
-
-/// The greater lift, the first one where both are the same.
-fn greater(one: Option<Lift>, other: Option<Lift>) -> Option<Lift> {
-    let (Some(a), Some(b)) = (one, other) else {
-        return one.or(other);
-    };
-    if a.worth < b.worth { other } else { one }
 }
 
 /// The middle of an interval of several starts: the last start of its first half.
@@ -61,6 +51,8 @@ impl Chooser {
     pub(crate) fn make(alloc: Global, inst: &Instance) -> Result<Chooser, AllocError> {
         Ok(Chooser {
             cells: PlaceLoads::make(alloc, inst)?,
+            reaches: Reaches::make(alloc, inst)?,
+            slacks: Slacks::make(alloc, inst)?,
             zero: LeastPlan::make(alloc, inst)?,
             given: LeastPlan::make(alloc, inst)?,
             room: Room::make(alloc, inst)?,
@@ -69,7 +61,7 @@ impl Chooser {
 }
 
 /// Looks at the plan of least prices by one list: where it breaks nothing, it is judged, and it may become the best
-/// plan; else the cover that is worth most is the answer, where there is one.
+/// plan; else the best cover is the answer, where there is one.
 fn look_by<G: Goal>(
     alloc: Global,
     goal: &G,
@@ -80,8 +72,9 @@ fn look_by<G: Goal>(
     cells: &PlaceLoads,
     plan: &mut LeastPlan,
     room: &mut Room,
+    target: i128,
     best: &mut Option<Best>,
-) -> Result<Option<Lift>, AllocError>
+) -> Result<Option<Cover>, AllocError>
     requires over { IsOver inst.now boxes.now }
     requires spans { IsBox inst.now boxes.now.spans }
     requires priced { IsPricedBox table.now boxes.now.spans }
@@ -93,12 +86,15 @@ fn look_by<G: Goal>(
 {
     let spans = boxes.spans();
     plan.follow(inst, table, spans);
+    let reached = worth(table, spans);
     let view = View {
         inst,
         cells,
         boxes,
         table,
         plan: &*plan,
+        worth: reached,
+        lacking: target.saturating_sub(reached).max(1),
     };
     let seen = look(&view, room)?;
     if !seen.is_broken && !plan.is_judged {
@@ -113,14 +109,7 @@ fn look_by<G: Goal>(
         )?;
         plan.is_judged = true;
     }
-    let Some(cover) = seen.cover else {
-        return Ok(None);
-    };
-    let lifted = worth(table, spans).saturating_add(cover.worth);
-    Ok(Some(Lift {
-        worth: lifted,
-        cover,
-    }))
+    Ok(seen.cover)
 }
 
 /// Whether a split of intervention `i` after start `last` leaves starts in both parts.
@@ -170,15 +159,15 @@ fn widest(table: &PriceTable, spans: &[Span]) -> Option<(u32, u32)>
 
 /// A split: the one that was found, where it is one, else in the interval of which the halves differ most, else in the
 /// middle of the first interval of several starts.
-fn split_or_middle(spans: &[Span], table: &PriceTable, found: Option<Lift>) -> Option<(u32, u32)>
+fn split_or_middle(spans: &[Span], table: &PriceTable, found: Option<Cover>) -> Option<(u32, u32)>
     requires few { length spans.now ≤ 1024 }
     requires order { (i : ℕ) → i < length spans.now → (span_of spans.now i).from ≤ (span_of spans.now i).to }
     ensures some { IfSome result (λ place. IsSplit spans.now place.0 place.1) }
     ensures none { IfNone result (IsSingle spans.now) }
 {
-    if let Some(lift) = found {
-        if is_split(spans, lift.cover.i, lift.cover.last) {
-            return Some((lift.cover.i, lift.cover.last));
+    if let Some(cover) = found {
+        if is_split(spans, cover.i, cover.last) {
+            return Some((cover.i, cover.last));
         }
     }
     if let Some((i, last)) = widest(table, spans) {
@@ -189,7 +178,137 @@ fn split_or_middle(spans: &[Span], table: &PriceTable, found: Option<Lift>) -> O
     middle(spans)
 }
 
-/// Chooses the split of a box, and judges the plans of least prices where they break nothing.
+/// What the worth of a box is to come to: the value of the best plan, or an eighth above the worth where there is none.
+fn target_of(worths: &Worths, spans: &[Span], best: &Option<Best>) -> i128
+    requires zero { IsPricedBox worths.now.zero spans.now }
+    requires given { IsPricedByGiven worths.now.given spans.now }
+{
+    if let Some(best) = best {
+        return best.value;
+    }
+    let (_, worth) = greatest_worth(worths, spans);
+    worth.saturating_add(worth.saturating_abs() / 8)
+}
+
+/// The longest cut by the prices of both lists.
+fn dearest_cut(worths: &Worths, spans: &[Span], value: i128) -> Option<Cut>
+    requires few { length spans.now ≤ 1024 }
+    requires zero { IsPricedBox worths.now.zero spans.now }
+    requires given { IsPricedByGiven worths.now.given spans.now }
+{
+    let lacking = value.saturating_sub(worth(&worths.zero, spans));
+    let first = price_cut(&worths.zero, spans, lacking);
+    let Some(table) = &worths.given else {
+        return first;
+    };
+    let lacking = value.saturating_sub(worth(table, spans));
+    longer(first, price_cut(table, spans, lacking))
+}
+
+/// The longest cut that closes one part of a box.
+fn closing_cut(
+    inst: &Instance,
+    worths: &Worths,
+    boxes: &BoxLoads,
+    chooser: &mut Chooser,
+    best: &Option<Best>,
+) -> Option<Cut>
+    requires few { length boxes.now.spans ≤ 1024 }
+    requires over { IsOver inst.now boxes.now }
+    requires zero { IsPricedBox worths.now.zero boxes.now.spans }
+    requires given { IsPricedByGiven worths.now.given boxes.now.spans }
+{
+    let spans = boxes.spans();
+    chooser.reaches.follow(inst, &worths.zero, spans);
+    chooser.slacks.follow(inst, boxes);
+    let mut found = band_cut(
+        &chooser.reaches,
+        &chooser.slacks,
+        &mut chooser.room,
+        &worths.zero,
+        spans,
+    );
+    found = longer(found, exclusion_cut(inst, spans));
+    if let Some(best) = best {
+        found = longer(found, dearest_cut(worths, spans, best.value));
+    }
+    found
+}
+
+/// A split that closes one part of a box, where there is one.
+fn closing_split(
+    inst: &Instance,
+    worths: &Worths,
+    boxes: &BoxLoads,
+    chooser: &mut Chooser,
+    best: &Option<Best>,
+) -> Option<(u32, u32)>
+    requires few { length boxes.now.spans ≤ 1024 }
+    requires over { IsOver inst.now boxes.now }
+    requires zero { IsPricedBox worths.now.zero boxes.now.spans }
+    requires given { IsPricedByGiven worths.now.given boxes.now.spans }
+    ensures { IfSome result (λ place. IsSplit boxes.now.spans place.0 place.1) }
+{
+    let cut = closing_cut(inst, worths, boxes, chooser, best)?;
+    if is_split(boxes.spans(), cut.i, cut.last) {
+        Some((cut.i, cut.last))
+    } else {
+        None
+    }
+}
+
+/// Chooses the split of a box by its plans of least prices, which are judged where they break nothing.
+fn choose_by_plans<G: Goal>(
+    alloc: Global,
+    goal: &G,
+    inst: &Instance,
+    lists: &[Prices],
+    worths: &Worths,
+    boxes: &BoxLoads,
+    chooser: &mut Chooser,
+    best: &mut Option<Best>,
+) -> Result<Option<(u32, u32)>, AllocError>
+    requires over { IsOver inst.now boxes.now }
+    requires spans { IsBox inst.now boxes.now.spans }
+    requires zero { IsPricedBox worths.now.zero boxes.now.spans }
+    requires given { IsPricedByGiven worths.now.given boxes.now.spans }
+    requires valued { IsValued (G.value_gives goal.now) inst.now best.old }
+    ensures some { IfOk result (λ place. IfSome place (λ at. IsSplit boxes.now.spans at.0 at.1)) }
+    ensures none { IfOk result (λ place. IfNone place (IsSingle boxes.now.spans)) }
+    ensures improved { OnOk result (IsImprovedIn
+        (free_task (G.base_gives goal.now) (G.value_gives goal.now) inst.now lists.now) boxes.now.spans
+        (plan_in best.old) (plan_in best.new)) }
+    ensures valued { OnOk result (IsValued (G.value_gives goal.now) inst.now best.new) }
+{
+    inst.fits();
+    let target = target_of(worths, boxes.spans(), best);
+    let cells = &chooser.cells;
+    let room = &mut chooser.room;
+    let zeros = &mut chooser.zero;
+    let first = look_by(
+        alloc,
+        goal,
+        inst,
+        lists,
+        &worths.zero,
+        boxes,
+        cells,
+        zeros,
+        room,
+        target,
+        best,
+    )?;
+    let Some(table) = &worths.given else {
+        return Ok(split_or_middle(boxes.spans(), &worths.zero, first));
+    };
+    let plan = &mut chooser.given;
+    let second = look_by(
+        alloc, goal, inst, lists, table, boxes, cells, plan, room, target, best,
+    )?;
+    Ok(split_or_middle(boxes.spans(), table, better(second, first)))
+}
+
+/// Chooses the split of a box. Where it closes neither part, the plans of least prices are judged.
 pub(crate) fn choose<G: Goal>(
     alloc: Global,
     goal: &G,
@@ -213,27 +332,8 @@ pub(crate) fn choose<G: Goal>(
     ensures valued { OnOk result (IsValued (G.value_gives goal.now) inst.now best.new) }
 {
     inst.fits();
-    let cells = &chooser.cells;
-    let room = &mut chooser.room;
-    let zeros = &mut chooser.zero;
-    let first = look_by(
-        alloc,
-        goal,
-        inst,
-        lists,
-        &worths.zero,
-        boxes,
-        cells,
-        zeros,
-        room,
-        best,
-    )?;
-    let Some(table) = &worths.given else {
-        return Ok(split_or_middle(boxes.spans(), &worths.zero, first));
-    };
-    let plan = &mut chooser.given;
-    let second = look_by(
-        alloc, goal, inst, lists, table, boxes, cells, plan, room, best,
-    )?;
-    Ok(split_or_middle(boxes.spans(), table, greater(second, first)))
+    if let Some(place) = closing_split(inst, worths, boxes, chooser, best) {
+        return Ok(Some(place));
+    }
+    choose_by_plans(alloc, goal, inst, lists, worths, boxes, chooser, best)
 }

@@ -14,7 +14,8 @@ use instance_model::Instance;
 use lagrange_bound::PriceTable;
 use std::alloc::{AllocError, Global};
 
-/// What is looked at: a box with its loads, and the plan of least prices in it by one list.
+/// What is looked at: a box with its loads, the plan of least prices in it by one list, the worth by that list, and how
+/// much it lacks of the value that closes the box.
 #[derive(Clone, Copy)]
 pub(crate) struct View<'a> {
     pub(crate) inst: &'a Instance,
@@ -22,14 +23,18 @@ pub(crate) struct View<'a> {
     pub(crate) boxes: &'a BoxLoads,
     pub(crate) table: &'a PriceTable,
     pub(crate) plan: &'a LeastPlan,
+    pub(crate) worth: i128,
+    pub(crate) lacking: i128,
     ghost over: { IsOver inst.now boxes.now },
 }
 
-/// Room for a look at one band or exclusion: the loads of an intervention by start, and the members of a cover.
+/// Room for a look at one band or exclusion: the loads of an intervention by start, the members of a cover, and the
+/// shares of their costs.
 #[derive(Drop)]
 pub(crate) struct Room {
-    loads: Vec<i128>,
+    pub(crate) loads: Vec<i128>,
     members: Vec<Member>,
+    shares: Vec<u64>,
 }
 
 /// What was seen of a plan: whether it breaks a band or an exclusion, and the cover that is worth most.
@@ -52,11 +57,12 @@ impl Room {
         Ok(Room {
             loads: vec![in alloc; 0; inst.periods() as usize]?,
             members: Vec::new(alloc),
+            shares: Vec::new(alloc),
         })
     }
 
     /// Spreads loads over the starts, with the other sign for a lower limit.
-    fn spread(&mut self, cells: &[PlaceCell], side: Side) {
+    pub(crate) fn spread(&mut self, cells: &[PlaceCell], side: Side) {
         self.loads.fill(0);
         for cell in cells {
             let k = cell.start.saturating_sub(1) as usize;
@@ -96,6 +102,17 @@ impl Room {
         Ok(())
     }
 
+    /// The cover of what was noted, for this room.
+    fn cover(&mut self, view: &View<'_>, room: i128) -> Result<Option<Cover>, AllocError> {
+        cover_of(
+            &mut self.members,
+            &mut self.shares,
+            room,
+            view.worth,
+            view.lacking,
+        )
+    }
+
     /// Notes all interventions that have a load in a place.
     fn note_all(&mut self, view: &View<'_>, place: usize, side: Side) -> Result<(), AllocError> {
         self.members.clear();
@@ -110,7 +127,7 @@ impl Room {
 }
 
 /// A load, or that with the other sign for a lower limit.
-fn signed(side: Side, load: i128) -> i128 {
+pub(crate) fn signed(side: Side, load: i128) -> i128 {
     match side {
         Side::Over => load,
         Side::Under => 0i128.saturating_sub(load),
@@ -152,7 +169,7 @@ fn room_of(view: &View<'_>, c: u32, t: u32, side: Side) -> i128
 }
 
 /// Whether the run of intervention `i` at start `s`, where that is allowed, meets a window in a season.
-fn meets_at(inst: &Instance, season: u32, window: Window, i: u32, s: u32) -> bool
+pub(crate) fn meets_at(inst: &Instance, season: u32, window: Window, i: u32, s: u32) -> bool
     requires season { season < length inst.now.season_names }
     requires horizon { IsInHorizon inst.now window }
     requires number { i < length inst.now.names }
@@ -189,7 +206,8 @@ fn look_at_band(
         return Ok(());
     };
     room.note_all(view, place, side)?;
-    seen.take(cover_of(&mut room.members, room_of(view, c, t, side)));
+    let left = room_of(view, c, t, side);
+    seen.take(room.cover(view, left)?);
     Ok(())
 }
 
@@ -240,8 +258,8 @@ fn look_at_exclusion(
     room.note(view, exclusion.first)?;
     room.spread_meetings(inst, exclusion.season, first, exclusion.second);
     room.note(view, exclusion.second)?;
-    let count = room.members.len();
-    seen.take(cover_of(&mut room.members, count as i128 - 1));
+    let left = (room.members.len() as i128).saturating_sub(1);
+    seen.take(room.cover(view, left)?);
     Ok(())
 }
 

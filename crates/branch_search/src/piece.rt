@@ -15,18 +15,23 @@ pub(crate) struct Member {
     pub(crate) load: i128,
 }
 
-fn price_at(prices: &[Option<i128>], k: usize) -> Option<i128> {
+pub(crate) fn price_at(prices: &[Option<i128>], k: usize) -> Option<i128> {
     match prices.get(k) {
         Some(price) => *price,
         None => None,
     }
 }
 
-fn load_at(loads: &[i128], k: usize) -> i128 {
+pub(crate) fn load_at(loads: &[i128], k: usize) -> i128 {
     match loads.get(k) {
         Some(load) => *load,
         None => 0,
     }
+}
+
+/// Whether a start is allowed.
+pub(crate) fn is_allowed(prices: &[Option<i128>], k: usize) -> bool {
+    price_at(prices, k).is_some()
 }
 
 /// The lesser of two prices, or the only one.

@@ -18,7 +18,7 @@ pub(crate) fn places(inst: &Instance) -> usize {
 /// The load that intervention `i` adds at a start in the place of a resource and a period.
 #[derive(Clone, Copy)]
 pub(crate) struct PlaceCell {
-    place: usize,
+    pub(crate) place: usize,
     pub(crate) i: u32,
     pub(crate) start: u32,
     pub(crate) load: Fixed,
@@ -45,12 +45,18 @@ fn push_loads(cells: &mut Vec<PlaceCell>, inst: &Instance, i: u32) -> Result<(),
     Ok(())
 }
 
+/// The loads of all interventions.
+pub(crate) fn loads_of_all(alloc: Global, inst: &Instance) -> Result<Vec<PlaceCell>, AllocError> {
+    let mut cells = Vec::new(alloc);
+    for i in 0..inst.interventions() {
+        push_loads(&mut cells, inst, i)?;
+    }
+    Ok(cells)
+}
+
 impl PlaceLoads {
     pub(crate) fn make(alloc: Global, inst: &Instance) -> Result<PlaceLoads, AllocError> {
-        let mut cells = Vec::new(alloc);
-        for i in 0..inst.interventions() {
-            push_loads(&mut cells, inst, i)?;
-        }
+        let mut cells = loads_of_all(alloc, inst)?;
         cells.sort_unstable_by_key(|cell| (cell.place, cell.i, cell.start));
         Ok(PlaceLoads { cells })
     }

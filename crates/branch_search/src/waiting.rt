@@ -7,11 +7,11 @@ use std::cmp::Reverse;
 use std::collections::BinaryHeap;
 use std::marker::Model;
 
-/// The numbers of leaves that wait, each with its worth. The one of least worth comes first, the least number of
-/// those of the same worth.
+/// The numbers of leaves that wait, each with its worth. The one of least worth comes first, the greatest number of
+/// those of the same worth: its box was made last, so a plan is met soon.
 #[derive(Drop)]
 pub(crate) struct Waiting {
-    heap: BinaryHeap<Reverse<(i128, usize)>>,
+    heap: BinaryHeap<Reverse<(i128, Reverse<usize>)>>,
 }
 
 impl Model for Waiting {
@@ -22,9 +22,17 @@ impl Model for Waiting {
     ghost use Rattle.std.specs.Prelude.{map};
     ghost use Rattle.std.specs.BinaryHeap.{IsHeap, heap_items};
 
-    ghost view = { λ w. map (λ r. r.0) (heap_items w.heap) };
+    ghost view = { λ w. map (λ r. (r.0.0, r.0.1.0)) (heap_items w.heap) };
 
-    ghost invariant = { λ w. IsHeap ⟦<Reverse<(i128, usize)> as Ord>⟧.cmp (heap_items w.heap) };
+    ghost invariant = { λ w. IsHeap ⟦<Reverse<(i128, Reverse<usize>)> as Ord>⟧.cmp (heap_items w.heap) };
+}
+
+/// The worth and the number of a key.
+fn entry_of(key: (i128, Reverse<usize>)) -> (i128, usize)
+    ensures { result ≡ (key.0, key.1.0) }
+{
+    let (worth, Reverse(number)) = key;
+    (worth, number)
 }
 
 impl Waiting {
@@ -39,7 +47,7 @@ impl Waiting {
     pub(crate) fn push(&mut self, worth: i128, number: usize) -> Result<(), AllocError>
         ensures { OnOk result (IsPermutation ((worth, number) ∷ self.old) self.new) }
     {
-        self.heap.push(Reverse((worth, number)))?;
+        self.heap.push(Reverse((worth, Reverse(number))))?;
         Ok(())
     }
 
@@ -50,7 +58,7 @@ impl Waiting {
         ensures none { IfNone result (self.old ≡ []) }
     {
         match self.heap.pop() {
-            Some(Reverse(entry)) => Some(entry),
+            Some(Reverse(key)) => Some(entry_of(key)),
             None => None,
         }
     }
@@ -62,7 +70,7 @@ impl Waiting {
         ensures none { IfNone result (self.now ≡ []) }
     {
         match self.heap.peek() {
-            Some(Reverse(entry)) => Some(*entry),
+            Some(Reverse(key)) => Some(entry_of(*key)),
             None => None,
         }
     }

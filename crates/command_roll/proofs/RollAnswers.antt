@@ -1,5 +1,5 @@
 -- The bytes of the files of `roll` have one answer, and what is due for it as files are read.
-use Rattle.std.proofs.Common.{◌≡◌, ℕ, ◌<◌, ◌≤◌, refl, sym, ◌∙◌, ap, arith, List, length, Option}
+use Rattle.std.proofs.Common.{ℕ, refl, ap, arith, List, Option}
 use Rattle.plan_desk.specs.Desk.{Shown}
 use Rattle.instance_model.specs.declared.limits.Limits.{Limits}
 use Rattle.instance_model.specs.Tables.{Tables}

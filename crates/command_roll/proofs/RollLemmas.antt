@@ -1,6 +1,6 @@
 -- The answer of `roll`, as its parts make it.
-use Rattle.std.proofs.Common.{◌≡◌, ℕ, ◌<◌, ◌≤◌, refl, sym, ◌∙◌, ap, subst, arith, List, [], ◌∷◌, length, Option, Some}
-use Rattle.std.proofs.Common.{None, true, false, is_some}
+use Rattle.std.proofs.Common.{◌≡◌, ℕ, ◌<◌, ◌≤◌, sym, ◌∙◌, ap, subst, List, length, Option, Some}
+use Rattle.std.proofs.Common.{None, is_some}
 use Rattle.std.specs.Prelude.{IsNone, ◌↔◌}
 use Rattle.plan_desk.specs.Desk.{Shown}
 use Rattle.plan_desk.specs.Contents.{KeepsFiles}
@@ -10,7 +10,7 @@ use Rattle.instance_model.specs.Tables.{Tables}
 use Rattle.plan_roll.specs.Begun.{KeptAreAllowed, first_kept_rule}
 use Rattle.plan_roll.specs.Texts.{rolled_text}
 use Rattle.command_frame.specs.Reports.{infeasible_report}
-use Rattle.command_frame.specs.Ending.{Answer, reply}
+use Rattle.command_frame.specs.Ending.{reply}
 use Rattle.command_frame.specs.Refusals.{SaysOrFails}
 use Rattle.command_frame.specs.Writing.{TellsAnswer}
 use Rattle.command_frame.specs.Writing.TellsAnswer.{written as told_written}
@@ -18,7 +18,6 @@ use Rattle.command_frame.proofs.WriteLemmas.{puts_none}
 use Rattle.command_roll.specs.Rolling.{RollFiles, Rolls, rolled_report}
 use Rattle.command_roll.specs.Rolling.Rolls.{broken, too_long, written}
 use Rattle.command_roll.specs.Made.{answer_of}
-use Rattle.command_roll.specs.declared.roll.Outcome.{Outcome}
 use Rattle.command_roll.specs.declared.roll.Outcome.TheVariants.{Broken, TooLong, Rolled}
 
 -- ---- what is answered

@@ -1,6 +1,6 @@
 -- What a run of `roll` promises follows from its end.
-use Rattle.std.proofs.Common.{◌≡◌, ◌≢◌, ◌⊎◌, inl, inr, ℕ, ◌<◌, ◌≤◌, refl, sym, ◌∙◌, ap, subst, arith, List, [], ◌∷◌}
-use Rattle.std.proofs.Common.{length, Option, ℤ, pos}
+use Rattle.std.proofs.Common.{◌≡◌, ◌⊎◌, inl, inr, ℕ, ◌<◌, ◌≤◌, refl, sym, subst, arith, List, []}
+use Rattle.std.proofs.Common.{length, Option, pos}
 use Rattle.plan_desk.specs.Desk.{Shown, TellsNames}
 use Rattle.plan_desk.specs.Contents.{Says, OnlyReads, KeepsFiles}
 use Rattle.plan_desk.specs.FileWrites.{after_writes}
@@ -9,11 +9,10 @@ use Rattle.instance_model.specs.declared.limits.Limits.{Limits}
 use Rattle.instance_model.specs.Tables.{Tables}
 use Rattle.instance_shape.specs.Ranges.{AreStandard, IsSlack}
 use Rattle.instance_shape.proofs.Fits.{defined_fits}
-use Rattle.plan_roll.specs.Rolled.{rolled}
 use Rattle.plan_roll.specs.Begun.{KeptAreAllowed}
 use Rattle.plan_roll.specs.Laws.{PlansRoll}
 use Rattle.plan_roll.specs.Texts.{rolled_text, RolledTextIsRead}
-use Rattle.command_frame.specs.Ending.{Writing, Answer, files_of, Ends}
+use Rattle.command_frame.specs.Ending.{Answer, files_of, Ends}
 use Rattle.command_frame.specs.Ending.OrMemory.{answers, no_memory}
 use Rattle.command_frame.specs.Bytes.{Takes, TakesOne, RefusesInstance, Spells, RefusesPlan}
 use Rattle.command_frame.specs.Bytes.RefusesInstance.{long_instance, faulty_instance}

@@ -4,12 +4,13 @@ use Rattle.std.proofs.Common.{arith, codes}
 use Rattle.std.specs.Prelude.{bytes_eq, nat_le, ◌&&◌, if◌then◌else◌}
 use Rattle.std.proofs.lemmas.Slice.Eq.{bytes_eq-Decides}
 use Rattle.instance_model.specs.Rules.{or_else}
-use Rattle.planner_cli.specs.Words.{Command, evaluate, replay, check, is_file_word, slack_of, given_plan, evaluation}
+use Rattle.planner_cli.specs.Words.{Command, evaluate, replay, check, given_plan, evaluation}
 use Rattle.planner_cli.specs.Words.{replaying, checking, evaluate_of, replay_of, check_of, IsOneCommand}
-use Rattle.planner_cli.specs.Words.{solve, turns_of, are_file_words, are_apart, solving, solve_files, solve_of}
-use Rattle.planner_cli.specs.Words.{table, period_of, tabling, table_of, after_check, after_replay, after_evaluate}
+use Rattle.planner_cli.specs.Words.{solve, are_file_words, are_apart, solving, solve_files, solve_of}
+use Rattle.planner_cli.specs.Words.{table, tabling, table_of, after_check, after_replay, after_evaluate}
 use Rattle.planner_cli.specs.Words.{after_solve, after_table, names_differ, rebound, rebounding, rebound_of, roll, rolling}
 use Rattle.planner_cli.specs.Words.{roll_files, roll_of}
+use Rattle.command_words.specs.Numbers.{is_file_word, slack_of, turns_of, period_of}
 use Rattle.command_solve.specs.Solving.{SolveFiles}
 use Rattle.command_roll.specs.Rolling.{RollFiles}
 

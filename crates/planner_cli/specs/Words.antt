@@ -1,8 +1,8 @@
 -- The command line. A word is the list of its bytes; words count from 1, and the command is word 1.
-use Rattle.std.specs.Prelude.{◌≡◌, ℕ, ◌-◌, ◌*◌, ◌^◌, List, [], ◌∷◌, length, take, drop, codes, bytes_eq, nat_le, nat_lt}
-use Rattle.std.specs.Prelude.{◌&&◌, not, Bool, Option, Some, None, if◌then◌else◌}
+use Rattle.std.specs.Prelude.{◌≡◌, ℕ, List, [], ◌∷◌, codes, bytes_eq, nat_le, ◌&&◌, not, Bool, Option, Some, None}
+use Rattle.std.specs.Prelude.{if◌then◌else◌}
 use Rattle.instance_model.specs.Rules.{or_else}
-use Rattle.instance_shape.specs.Keys.{all_bytes, is_digit, number_of}
+use Rattle.command_words.specs.Numbers.{is_file_word, slack_of, turns_of, period_of}
 use Rattle.command_frame.specs.Sources.{Source}
 use Rattle.command_solve.specs.Solving.{SolveFiles}
 use Rattle.command_roll.specs.Rolling.{RollFiles}
@@ -29,34 +29,6 @@ slack_in (solve source files turns) = source.slack
 slack_in (table source plan from to) = source.slack
 slack_in (rebound source certificate out) = source.slack
 slack_in (roll files period) = 0
-
--- a file word is a text that is not empty
-abbrev pub is_file_word : List ℕ → Bool
-is_file_word word = nat_lt 0 (length word)
-
--- digits behind the point, in 10^-12
-abbrev pub fraction : List ℕ → ℕ
-fraction digits = number_of digits * 10 ^ (12 - length digits)
-
--- 1 to 12 digits behind the point
-abbrev pub are_decimals : List ℕ → Bool
-are_decimals digits = nat_le 1 (length digits) && nat_le (length digits) 12 && all_bytes is_digit digits
-
--- D behind `0.`: 1 to 12 digits, at most 0.001
-abbrev pub decimals_count : List ℕ → Option ℕ
-decimals_count digits =
-    if are_decimals digits && nat_le (fraction digits) 1_000_000_000 then Some (fraction digits) else None
-
--- D is `0`, or `0.` and 1 to 12 digits, and at most 0.001
-abbrev pub slack_count : List ℕ → Option ℕ
-slack_count d =
-    if bytes_eq d (codes "0") then Some 0
-    else if bytes_eq (take 2 d) (codes "0.") then decimals_count (drop 2 d)
-    else None
-
--- a word `slack=D`
-abbrev pub slack_of : List ℕ → Option ℕ
-slack_of word = if bytes_eq (take 6 word) (codes "slack=") then slack_count (drop 6 word) else None
 
 -- `evaluate INSTANCE PLAN` with a slack
 abbrev pub evaluation : List ℕ → List ℕ → List ℕ → Option ℕ → Option Command
@@ -86,16 +58,6 @@ checking name instance plan certificate (Some slack) =
     then Some (check (record { instance = instance; slack = slack }) (given_plan plan) certificate)
     else None
 
--- 1 to 7 digits, the first of which is no needless zero
-abbrev pub is_numeral : List ℕ → Bool
-is_numeral word =
-    nat_le 1 (length word) && nat_le (length word) 7 && not (nat_lt 1 (length word) && bytes_eq (take 1 word) (codes "0"))
-    && all_bytes is_digit word
-
--- turns: such a numeral, at most 1,000,000
-abbrev pub turns_of : List ℕ → Option ℕ
-turns_of word = if is_numeral word && nat_le (number_of word) 1_000_000 then Some (number_of word) else None
-
 -- the four names of a solution differ
 abbrev pub are_apart : List ℕ → SolveFiles → Bool
 are_apart instance files =
@@ -115,11 +77,6 @@ solving name instance files (Some turns) (Some slack) =
     if bytes_eq name (codes "solve") && is_file_word instance && are_file_words files && are_apart instance files
     then Some (solve (record { instance = instance; slack = slack }) files turns)
     else None
-
--- a period: such a numeral, from 1 to 512
-abbrev pub period_of : List ℕ → Option ℕ
-period_of word =
-    if is_numeral word && nat_le 1 (number_of word) && nat_le (number_of word) 512 then Some (number_of word) else None
 
 -- `table INSTANCE PLAN FROM TO` with a slack
 abbrev pub tabling : (name instance plan : List ℕ) → (from to slack : Option ℕ) → Option Command

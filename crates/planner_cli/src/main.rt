@@ -5,7 +5,8 @@
 
 #[cfg(test)]
 mod check_tests;
-mod numbers;
+#[cfg(test)]
+mod output_tests;
 #[cfg(test)]
 mod replay_tests;
 mod run;

@@ -8,10 +8,10 @@ ghost use Rattle.command_solve.specs.Made.{files_view};
 ghost use Rattle.command_roll.specs.Made.{files_view as roll_files_view};
 ghost use Rattle.planner_cli.specs.Asked.{command_view, CanRun};
 
-use crate::numbers::{period_of, slack_of, turns_of};
 use command_frame::Source;
 use command_roll::RollFiles;
 use command_solve::SolveFiles;
+use command_words::{period_of, slack_of, turns_of};
 
 /// What the words ask for, with the names of its files: the plan is word 3, the script or the certificate word 4.
 #[derive(Clone, Copy)]

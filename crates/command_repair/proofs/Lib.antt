@@ -1,0 +1,4 @@
+pub mod AuditableLemmas
+pub mod SolutionLemmas
+pub mod ReadingLemmas
+pub mod RepairRun

@@ -1,0 +1,41 @@
+-- A run of `repair` from what it read, wrote and said.
+use Rattle.std.proofs.Common.{arith}
+use Rattle.instance_model.specs.Limits.{standard_limits}
+use Rattle.command_frame.specs.Sources.{source_view}
+use Rattle.command_repair.specs.Made.{files_view}
+use Rattle.command_repair.proofs.ReadingLemmas.{read_cause_due}
+use Rattle.command_repair.proofs.RepairRun.{repair_runs, solution_ends, solution_later, refused_ends}
+use Rattle.command_repair.proofs.repair.repair_files.Goals as goal
+
+pub returns-in-Ok : goal.returns-in-Ok
+returns-in-Ok g c =
+    let source = source_view c.args.source.now in
+    let plan = c.args.plan.now in
+    let files = files_view c.args.files.now in
+    let old = g.D.Desk.shows c.args.desk.now in
+    let mid = g.D.Desk.shows c.read_files.new.desk in
+    let new = g.D.Desk.shows c.repair_read.new.desk in
+    let read = c.in-Ok.ensures in
+    let status = c.repair_read.result in
+    repair_runs standard_limits source plan files c.args.turns old new c.requires.distinct
+    (g.met.D.Desk.names c.args.desk.now) status
+    (solution_ends source plan files c.args.turns old mid new read.only_reads c.in-Ok.read.inst c.in-Ok.read.plan status
+    read.ok read.last c.repair_read.ensures)
+    (solution_later source plan files c.args.turns old mid new read.only_reads c.in-Ok.read.inst c.in-Ok.read.plan
+    status c.repair_read.ensures)
+
+pub returns-in-Err : goal.returns-in-Err
+returns-in-Err g c =
+    let source = source_view c.args.source.now in
+    let plan = c.args.plan.now in
+    let files = files_view c.args.files.now in
+    let old = g.D.Desk.shows c.args.desk.now in
+    let mid = g.D.Desk.shows c.read_files.new.desk in
+    let new = g.D.Desk.shows c.refuse.new.desk in
+    let read = c.in-Err.ensures in
+    repair_runs standard_limits source plan files c.args.turns old new c.requires.distinct
+    (g.met.D.Desk.names c.args.desk.now) c.refuse.result
+    (refused_ends source plan files c.args.turns old mid new read.only_reads c.in-Err.refusal c.refuse.result
+    c.refuse.ensures.keeps read.kept
+    (read_cause_due source plan files c.args.turns old mid c.in-Err.refusal read.err) c.refuse.ensures.ends)
+    (omega (arith, read.only_reads.later, c.refuse.ensures.keeps.later))
