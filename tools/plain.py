@@ -250,7 +250,6 @@ class Plain:
         report += pair("excess", [(excess, n) for n, _, excess in self.sums(starts)], periods)
         return report + "rounded 0\n"
 
-
     def period(self, starts, t):
         """What `table` prints of a period, where no risk of the file is rounded."""
         inst, n, ordered = self.inst, self.inst.scenarios[t - 1], self.scenario_sums(starts, t)
@@ -277,6 +276,57 @@ class Plain:
             return f"infeasible\n{broken[0]}\nrounded 0\n"
         periods = range(first, min(last, self.inst.periods) + 1)
         return "".join(self.period(starts, t) for t in periods) + f"end {len(periods)}\nrounded 0\n"
+
+    def roll(self, starts, period):
+        """What `roll` prints, and what it writes, which is None where a kept start isn't allowed."""
+        kept = [s if s is not None and s < period else None for s in starts]
+        broken = [rule for rule in self.broken_rules(kept) if rule.startswith(("S2", "S3"))]
+        if broken:
+            return f"infeasible\n{broken[0]}\nrounded 0\n", None
+        begun = sum(s is not None for s in kept)
+        return f"rolled\nkept {begun}\nfree {len(kept) - begun}\nrounded 0\n", self.rolled_text(kept, period)
+
+    def rolled_text(self, kept, period):
+        """The text of what is left of the instance from a period on, without a line feed."""
+        inst, limits = self.inst, lambda row: [decimal(limit) for limit in row]
+        bands = zip(inst.resource_names, self.upper, self.lower)
+        exclusions = [[inst.intervention_names[i], inst.intervention_names[j], inst.season_names[q]]
+                      for i, j, q in inst.exclusions]
+        return spelled({
+            "Resources": {name: {"max": limits(upper), "min": limits(lower)} for name, upper, lower in bands},
+            "Seasons": dict(zip(inst.season_names, inst.seasons)),
+            "Interventions": {name: self.left(i, kept[i], period) for i, name in enumerate(inst.intervention_names)},
+            "Exclusions": {name: [quoted(word) for word in words]
+                           for name, words in zip(inst.exclusion_names, exclusions)},
+            "T": inst.periods, "Scenarios_number": inst.scenarios,
+            "Quantile": f"{inst.quantile // MILLION}.{inst.quantile % MILLION:06}",
+            "Alpha": f"{inst.alpha // MILLION}.{inst.alpha % MILLION:06}"})
+
+    def left(self, i, begun, period):
+        """What is left of an intervention that has begun, or may begin in a period or later."""
+        inst = self.inst
+        may = [s >= period if begun is None else s == begun for s in range(1, inst.last_start[i] + 1)]
+        starts = [s for s in inst.allowed(i) if may[s - 1]]
+
+        def by_period(table, text, is_left):
+            cells = {t: {s: text(table[i, s, t]) for s in starts if t in inst.run(i, s) and is_left((i, s, t))}
+                     for t in range(1, inst.periods + 1)}
+            return {t: by_start for t, by_start in cells.items() if by_start}
+
+        loads = [by_period(table, decimal, table.get) for table in self.loads]
+        return {"tmax": inst.last_start[i],
+                "Delta": [d if may[k] else inst.periods + 1 for k, d in enumerate(inst.duration[i])],
+                "workload": {name: cells for name, cells in zip(inst.resource_names, loads) if cells},
+                "risk": by_period(self.risks, lambda row: [decimal(x) for x in row], lambda at: True)}
+
+
+def spelled(value):
+    """A JSON text without blanks; what is neither an object nor a list is spelled as it is."""
+    if isinstance(value, dict):
+        return "{" + ",".join(f"{quoted(str(key))}:{spelled(item)}" for key, item in value.items()) + "}"
+    if isinstance(value, list):
+        return "[" + ",".join(map(spelled, value)) + "]"
+    return str(value)
 
 
 def pair(name, quotients, divisor):
