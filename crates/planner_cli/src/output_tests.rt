@@ -17,7 +17,10 @@ fn the_rest_of_a_year_is_judged_as_the_year(rt: HostRuntime) -> Result<(), Fail>
     let mut desk = desk(alloc, BANDED, b"I1 1\n")?;
     let (status, said) = ran(alloc, &["roll", "I", "P", "2", "O"], &mut desk)?;
     assert_eq!(rt; status, 0);
-    assert_eq!(rt; said.as_slice(), b"rolled\nkept 1\nfree 1\nrounded 0\n".as_slice());
+    assert_eq!(rt;
+        said.as_slice(),
+        b"rolled\nkept 1\nfree 1\nrounded 0\n".as_slice()
+    );
     desk.put_file("P", BOTH.as_bytes())?;
     let (of_year, _) = ran(alloc, &["evaluate", "I", "P"], &mut desk)?;
     let (of_rest, _) = ran(alloc, &["evaluate", "O", "P"], &mut desk)?;

@@ -2,19 +2,20 @@
 ghost use Rattle.std.specs.Prelude.{◌≤◌, ℕ, List, map, string_bytes};
 ghost use Rattle.instance_model.specs.Limits.{standard_limits};
 ghost use Rattle.instance_shape.specs.Ranges.{AreStandard};
-ghost use Rattle.command_frame.specs.Sources.{Source};
+ghost use Rattle.command_frame.specs.Sources.{Source as SourceWords, source_view};
 ghost use Rattle.command_rebound.specs.Rebinding.{RunsRebound};
-ghost use Rattle.command_roll.specs.Rolling.{RollFiles, RunsRoll};
+ghost use Rattle.command_roll.specs.Rolling.{RollFiles as RollNames, RunsRoll};
+ghost use Rattle.command_roll.specs.Made.{files_view as roll_files_view};
 ghost use Rattle.planner_cli.specs.Words.{rebound, roll};
 ghost use Rattle.planner_cli.specs.Outcome.{Asks, AskToRebound, AskToRoll, Outcome};
 
 use crate::words::{Command, command_of};
 use command_check::check_files;
 use command_evaluate::evaluate_files;
-use command_frame::{WORDS_LINE, say};
+use command_frame::{Source, WORDS_LINE, say};
 use command_rebound::rebound_files;
 use command_replay::replay_files;
-use command_roll::roll_files;
+use command_roll::{RollFiles, roll_files};
 use command_solve::solve_files;
 use command_table::table_files;
 use instance_model::Limits;
@@ -72,9 +73,42 @@ pub fn run_with<R: Row, D: Desk>(alloc: Global, words: &[String], desk: &mut D) 
                 to,
             },
         ) => table_files(alloc, &source, plan, from, to, desk),
-        Some(Command::Rebound { .. }) => rebound_within(alloc, &Limits::standard(), words, desk),
-        Some(Command::Roll { .. }) => roll_within(alloc, &Limits::standard(), words, desk),
+        Some(
+            Command::Rebound {
+                source,
+                certificate,
+                out,
+            },
+        ) => rebound_standard(alloc, &source, certificate, out, desk),
+        Some(Command::Roll { files, period }) => roll_standard(alloc, &files, period, desk),
     }
+}
+
+// `rebound` within the limits of the program.
+fn rebound_standard<D: Desk>(
+    alloc: Global,
+    source: &Source<'_>,
+    certificate: &str,
+    out: &str,
+    desk: &mut D,
+) -> u8
+    requires small { source.now.slack ≤ 1_000_000_000 }
+    ensures { RunsRebound standard_limits (source_view source.now) certificate.now out.now
+        (D.shows desk.old) (D.shows desk.new) result }
+{
+    let limits = Limits::standard();
+    rebound_files(alloc, &limits, source, certificate, out, desk)
+}
+
+// `roll` within the limits of the program.
+fn roll_standard<D: Desk>(alloc: Global, files: &RollFiles<'_>, period: u32, desk: &mut D) -> u8
+    requires from { 1 ≤ period }
+    requires to { period ≤ 512 }
+    ensures { RunsRoll standard_limits (roll_files_view files.now) period
+        (D.shows desk.old) (D.shows desk.new) result }
+{
+    let limits = Limits::standard();
+    roll_files(alloc, &limits, files, period, desk)
 }
 
 /// Runs words of `rebound` within these limits, of which none is above the standard one.
@@ -82,7 +116,7 @@ pub fn rebound_within<D: Desk>(alloc: Global, limits: &Limits, words: &[String],
     requires standard { AreStandard limits.now }
     requires bytes { limits.now.certificate_bytes ≤ standard_limits.certificate_bytes }
     requires asked { AskToRebound (map string_bytes words.now) }
-    ensures { (source : Source) (cert out : List ℕ) → Asks (map string_bytes words.now) (rebound source cert out)
+    ensures { (source : SourceWords) (cert out : List ℕ) → Asks (map string_bytes words.now) (rebound source cert out)
         → RunsRebound limits.now source cert out (D.shows desk.old) (D.shows desk.new) result }
 {
     match command_of(words) {
@@ -101,7 +135,7 @@ pub fn rebound_within<D: Desk>(alloc: Global, limits: &Limits, words: &[String],
 pub fn roll_within<D: Desk>(alloc: Global, limits: &Limits, words: &[String], desk: &mut D) -> u8
     requires standard { AreStandard limits.now }
     requires asked { AskToRoll (map string_bytes words.now) }
-    ensures { (files : RollFiles) (period : ℕ) → Asks (map string_bytes words.now) (roll files period)
+    ensures { (files : RollNames) (period : ℕ) → Asks (map string_bytes words.now) (roll files period)
         → RunsRoll limits.now files period (D.shows desk.old) (D.shows desk.new) result }
 {
     match command_of(words) {
