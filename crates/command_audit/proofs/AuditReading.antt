@@ -1,7 +1,7 @@
 -- What was read of the files of an audit.
 use Rattle.std.proofs.Common.{ℕ, List, Option}
 use Rattle.plan_desk.specs.Desk.{Shown}
-use Rattle.instance_model.specs.Limits.{standard_limits}
+use Rattle.instance_model.specs.declared.limits.Limits.{Limits}
 use Rattle.instance_model.specs.Tables.{Tables}
 use Rattle.branch_tree.specs.declared.certificate.Certificate.{Certificate}
 use Rattle.command_frame.specs.Sources.{Source}
@@ -17,38 +17,39 @@ use Rattle.command_frame.proofs.CertificateLemmas.{certificate_cause_due}
 use Rattle.command_audit.specs.Auditing.{Audits, AnswersAudit}
 
 -- what is due for the certificate of an audit
-abbrev pub OnAudited : List ℕ → (old new : Shown) → Tables → List (Option ℕ) → Answer → Type 0
-OnAudited cert_name old new inst plan =
-    OnCertificate standard_limits inst (reading old new) 4 cert_name (Audits inst plan)
+abbrev pub OnAudited : Limits → List ℕ → (old new : Shown) → Tables → List (Option ℕ) → Answer → Type 0
+OnAudited limits cert_name old new inst plan =
+    OnCertificate limits inst (reading old new) 4 cert_name (Audits inst plan)
 
-pub audit_refuses_certificate : (source : Source) (name cert_name : List ℕ) (old mid last new : Shown) (inst : Tables)
-    (plan : List (Option ℕ)) (r : Refusal)
-    → ReadsInstance standard_limits source old inst → IsRead old mid
-    → ReadsPlan standard_limits name inst mid plan → IsRead mid last
-    → IsCertificateCause 4 cert_name inst last new r
-    → IsDueAs (AnswersAudit standard_limits (reading old new) source.slack source.instance name cert_name) r
-audit_refuses_certificate source name cert_name old mid last new inst plan r reads read reads_plan read_plan cause =
-    due_within (OnCertificate standard_limits inst (reading last new) 4 cert_name (Audits inst plan))
-    (AnswersAudit standard_limits (reading old new) source.slack source.instance name cert_name) r
-    (λ a due. after_instance source old new inst
-    (λ i. OnPlan standard_limits i (reading old new) 3 name (OnAudited cert_name old new i)) a reads
-    (after_plan name old mid new inst plan (OnAudited cert_name old new inst) a read reads_plan
-    (on_other (reading last new) (reading old new) 4 cert_name cert_name (RefusesCertificate standard_limits inst)
-    (SpellsOne standard_limits inst) (Audits inst plan) (Audits inst plan) a
+pub audit_refuses_certificate : (limits : Limits) (source : Source) (name cert_name : List ℕ)
+    (old mid last new : Shown) (inst : Tables) (plan : List (Option ℕ)) (r : Refusal)
+    → ReadsInstance limits source old inst → IsRead old mid
+    → ReadsPlan limits name inst mid plan → IsRead mid last
+    → IsCertificateCause limits 4 cert_name inst last new r
+    → IsDueAs (AnswersAudit limits (reading old new) source.slack source.instance name cert_name) r
+audit_refuses_certificate limits source name cert_name old mid last new inst plan r reads read reads_plan read_plan
+    cause =
+    due_within (OnCertificate limits inst (reading last new) 4 cert_name (Audits inst plan))
+    (AnswersAudit limits (reading old new) source.slack source.instance name cert_name) r
+    (λ a due. after_instance limits source old new inst
+    (λ i. OnPlan limits i (reading old new) 3 name (OnAudited limits cert_name old new i)) a reads
+    (after_plan limits name old mid new inst plan (OnAudited limits cert_name old new inst) a read reads_plan
+    (on_other (reading last new) (reading old new) 4 cert_name cert_name (RefusesCertificate limits inst)
+    (SpellsOne limits inst) (Audits inst plan) (Audits inst plan) a
     (before_reading cert_name old last new (read_both old mid last read read_plan)) (λ x b n. n) due)))
-    (certificate_cause_due 4 cert_name inst last new (Audits inst plan) r cause)
+    (certificate_cause_due limits 4 cert_name inst last new (Audits inst plan) r cause)
 
-pub audit_answers : (source : Source) (name cert_name : List ℕ) (old mid last new : Shown) (inst : Tables)
-    (plan : List (Option ℕ)) (cert : Certificate) (a : Answer)
-    → ReadsInstance standard_limits source old inst → IsRead old mid
-    → ReadsPlan standard_limits name inst mid plan → IsRead mid last
-    → ReadsCertificate standard_limits cert_name inst last cert → Audits inst plan cert a
-    → AnswersAudit standard_limits (reading old new) source.slack source.instance name cert_name a
-audit_answers source name cert_name old mid last new inst plan cert a reads read reads_plan read_plan
+pub audit_answers : (limits : Limits) (source : Source) (name cert_name : List ℕ) (old mid last new : Shown)
+    (inst : Tables) (plan : List (Option ℕ)) (cert : Certificate) (a : Answer)
+    → ReadsInstance limits source old inst → IsRead old mid
+    → ReadsPlan limits name inst mid plan → IsRead mid last
+    → ReadsCertificate limits cert_name inst last cert → Audits inst plan cert a
+    → AnswersAudit limits (reading old new) source.slack source.instance name cert_name a
+audit_answers limits source name cert_name old mid last new inst plan cert a reads read reads_plan read_plan
     reads_cert audits =
-    let here = reads_before cert_name old last (λ bytes. SpellsOne standard_limits inst bytes cert)
+    let here = reads_before cert_name old last (λ bytes. SpellsOne limits inst bytes cert)
     (read_both old mid last read read_plan) reads_cert in
-    after_instance source old new inst
-    (λ i. OnPlan standard_limits i (reading old new) 3 name (OnAudited cert_name old new i)) a reads
-    (after_plan name old mid new inst plan (OnAudited cert_name old new inst) a read reads_plan
+    after_instance limits source old new inst
+    (λ i. OnPlan limits i (reading old new) 3 name (OnAudited limits cert_name old new i)) a reads
+    (after_plan limits name old mid new inst plan (OnAudited limits cert_name old new inst) a read reads_plan
     (stands here.bytes cert a here.held here.such audits))

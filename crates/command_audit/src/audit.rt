@@ -2,6 +2,7 @@
 //! said.
 ghost use Rattle.std.specs.Prelude.{◌≡◌, ◌≤◌, length, IfOk, IfErr, OnOk};
 ghost use Rattle.instance_model.specs.Limits.{standard_limits};
+ghost use Rattle.instance_shape.specs.Ranges.{AreStandard};
 ghost use Rattle.branch_tree.specs.Ranges.{IsInRange};
 ghost use Rattle.plan_desk.specs.Contents.{OnlyReads};
 ghost use Rattle.command_frame.specs.Sources.{source_view};
@@ -16,7 +17,7 @@ use certificate_check::{CertVerdict, check_for};
 use command_frame::{
     Refusal, Report, Source, certificate_of, instance_of, leaf_text, plan_of, say_report,
 };
-use instance_model::Instance;
+use instance_model::{Instance, Limits};
 use plan_changes::{ChangeGoal, bounds_count_changes};
 use plan_desk::Desk;
 use plan_text::Plan;
@@ -36,30 +37,33 @@ pub fn audit_files<D: Desk>(
     ensures { RunsAudit standard_limits (source_view source.now) plan.now certificate.now
         (D.shows desk.old) (D.shows desk.new) result }
 {
-    let report = audit(alloc, source, plan, certificate, desk);
+    let limits = Limits::standard();
+    let report = audit(alloc, &limits, source, plan, certificate, desk);
     say_report(alloc, desk, report)
 }
 
 // Reads the instance, then the plan, then the certificate, and checks it.
 fn audit<D: Desk>(
     alloc: Global,
+    limits: &Limits,
     source: &Source<'_>,
     plan: &str,
     certificate: &str,
     desk: &mut D,
 ) -> Result<Report, Refusal>
+    requires standard { AreStandard limits.now }
     requires small { source.now.slack ≤ 1_000_000_000 }
-    ensures ok { IfOk result (λ report. AnswersAudit standard_limits (reading (D.shows desk.old) (D.shows desk.new))
+    ensures ok { IfOk result (λ report. AnswersAudit limits.now (reading (D.shows desk.old) (D.shows desk.new))
         source.now.slack source.now.instance.now plan.now certificate.now (reply report.status report.text)) }
-    ensures err { IfErr result (IsDueAs (AnswersAudit standard_limits (reading (D.shows desk.old) (D.shows desk.new))
+    ensures err { IfErr result (IsDueAs (AnswersAudit limits.now (reading (D.shows desk.old) (D.shows desk.new))
         source.now.slack source.now.instance.now plan.now certificate.now)) }
     ensures last { OnOk result ((D.shows desk.new).last ≡ (D.shows desk.old).last) }
     ensures kept { IfErr result (KeepsLast (D.shows desk.old) (D.shows desk.new)) }
     ensures only_reads { OnlyReads (D.shows desk.old) (D.shows desk.new) }
 {
-    let inst = instance_of(alloc, 2, source, desk)?;
-    let plan = plan_of(alloc, &inst, 3, plan, desk)?;
-    let certificate = certificate_of(alloc, &inst, 4, certificate, desk)?;
+    let inst = instance_of(alloc, limits, 2, source, desk)?;
+    let plan = plan_of(alloc, limits, &inst, 3, plan, desk)?;
+    let certificate = certificate_of(alloc, limits, &inst, 4, certificate, desk)?;
     match report_on(alloc, &inst, &plan, &certificate) {
         Ok(report) => Ok(report),
         Err(_) => Err(Refusal::Memory),

@@ -2,7 +2,7 @@
 use Rattle.std.proofs.Common.{◌≡◌, ◌≢◌, ◌⊎◌, inl, inr, ℕ, ◌≤◌, refl, sym, ◌∙◌, ap, subst, arith, List, [], ◌∷◌}
 use Rattle.std.proofs.Common.{map, Option, Some, None}
 use Rattle.std.proofs.lemmas.List.Elements.{All-nil, All-cons}
-use Rattle.plan_desk.specs.Desk.{Shown, Output, TellsNames}
+use Rattle.plan_desk.specs.Desk.{Shown, TellsNames}
 use Rattle.plan_desk.specs.Contents.{HoldsBytes, Says, OnlyReads, KeepsFiles}
 use Rattle.plan_desk.specs.FileWrites.{FileWrite, after_writes}
 use Rattle.instance_model.specs.declared.limits.Limits.{Limits}
@@ -30,11 +30,13 @@ use Rattle.command_frame.proofs.AnswerLemmas.{instance_status, plan_status}
 use Rattle.command_frame.proofs.TakenLemmas.{on_taken, bad_instance, on_spelled, bad_plan}
 use Rattle.command_frame.proofs.EndLemmas.{Stays, memory_ends, refusal_ends, ends_quiet, ends_allowed, ends_exact}
 use Rattle.command_frame.proofs.WriteLemmas.{told_ends, told_later, wrote_behind}
+use Rattle.command_output.specs.Outputs.{holding}
+use Rattle.command_output.proofs.HoldLemmas.{IsNoneOf, named_output, named_after, others_after, held_after}
+use Rattle.command_output.proofs.HoldLemmas.{held_alike, others_stopped}
+use Rattle.command_output.proofs.OutputLemmas.{same_holding}
 use Rattle.command_audit.specs.Auditing.{AreKeptStarts, BoundsEveryRepair, audited_report, AnswersAudit}
 use Rattle.command_solve.specs.Solved.{AreEnough, IsWithoutStart, empty_certificate}
-use Rattle.command_solve.specs.Solving.{holding, Opens}
-use Rattle.command_solve.proofs.HoldLemmas.{IsNoneOf, named_output, named_after, others_after, held_after}
-use Rattle.command_solve.proofs.HoldLemmas.{held_alike, others_stopped, at_name}
+use Rattle.command_solve.specs.Solving.{Opens}
 use Rattle.command_repair.specs.Repairing.{RepairFiles, AreDistinct, cert_write, out_write, IsAuditable, Repairs}
 use Rattle.command_repair.specs.Repairing.{AnswersRepair, DueRepair, ReadsRepair, BehindRepair, TellsRepair}
 use Rattle.command_repair.specs.Repairing.{ExpectsRepair, KeepsOthers, RunsRepair}
@@ -133,9 +135,6 @@ due_files : (limits : Limits) (source : Source) (name : List ℕ) (files : Repai
 due_files limits source name files turns old at a (answers b is) =
     answers_files limits (reading old at) source.slack source.instance name files turns b is
 due_files limits source name files turns old at a no_memory = none_of_none files [] refl
-
-same_holding : (old new : Shown) (name : List ℕ) → new.output ≡ old.output → holding new name ≡ holding old name
-same_holding old new name same = ap (λ (o : Output). at_name name o.holds) same
 
 -- ---- what stands behind a status
 
@@ -459,12 +458,13 @@ module _ (source : Source) (name : List ℕ) (files : RepairFiles) (turns : ℕ)
   stays at = repair_stays standard_limits source name files turns old mid at reads.later
 
   -- the files were read, and their solution was told, or memory ran out
-  pub solution_ends : (inst : Tables) (plan : List (Option ℕ)) (status : ℕ) → AreRead source name old inst plan
+  pub solution_ends : (inst : Tables) (plan : List (Option ℕ)) (status : ℕ) → AreRead standard_limits source name old inst plan
       → mid.last ≡ old.last → TellsSolution inst plan files turns mid new status
       → Ends (DueRepair standard_limits source name files turns old) old new status
   solution_ends inst plan status read last (told a repairs tells) =
       told_ends Answers old mid a reads last
-      (after_instance source old mid inst (OnOld standard_limits (reading old mid) name files turns) a read.reads
+      (after_instance standard_limits source old mid inst (OnOld standard_limits (reading old mid) name files turns) a
+      read.reads
       (stands read.reads_plan.bytes plan a read.reads_plan.held read.reads_plan.such repairs)) new status stays tells
   solution_ends inst plan status read last (no_memory_left keeps says) =
       memory_ends Answers old mid new status reads keeps last says

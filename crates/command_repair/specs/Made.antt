@@ -3,6 +3,7 @@ use Rattle.std.specs.Prelude.{◌≡◌, ◌⊎◌, ◌≤◌, ◌<◌, ◌^◌,
 use Rattle.plan_desk.specs.Desk.{Shown, ShowsSame, after_take_in}
 use Rattle.plan_desk.specs.Contents.{KeepsFiles}
 use Rattle.instance_model.specs.Limits.{standard_limits}
+use Rattle.instance_model.specs.declared.limits.Limits.{Limits}
 use Rattle.instance_model.specs.Tables.{Tables}
 use Rattle.certificate_lines.specs.declared.line.Bound.{Bound}
 use Rattle.certificate_lines.specs.declared.line.Bound.TheVariants.{NoPlan, Least}
@@ -94,24 +95,25 @@ abbrev pub files_view : RepairNames → RepairFiles
 files_view names = record { cert = names.certificate.now; out = names.out.now }
 
 -- the two files of `repair` were read
-pub record AreRead (source : Source) (name : List ℕ) (old : Shown) (inst : Tables) (plan : List (Option ℕ))
-    : Type 0 where
-  pub reads : ReadsInstance standard_limits source old inst
-  pub reads_plan : ReadsPlan standard_limits name inst old plan
+pub record AreRead (limits : Limits) (source : Source) (name : List ℕ) (old : Shown) (inst : Tables)
+    (plan : List (Option ℕ)) : Type 0 where
+  pub reads : ReadsInstance limits source old inst
+  pub reads_plan : ReadsPlan limits name inst old plan
 
 -- the plan file was refused, after the instance was read
-pub record IsPlanRefused (source : Source) (name : List ℕ) (old new : Shown) (refusal : Refusal) : Type 0 where
+pub record IsPlanRefused (limits : Limits) (source : Source) (name : List ℕ) (old new : Shown) (refusal : Refusal)
+    : Type 0 where
   pub inst : Tables
-  pub reads : ReadsInstance standard_limits source old inst
+  pub reads : ReadsInstance limits source old inst
   pub at : Shown
   pub read : ShowsSame at (after_take_in source.instance [] old)
   pub later : old.faults ≤ at.faults
-  pub cause : IsPlanCause 3 name inst at new refusal
+  pub cause : IsPlanCause limits 3 name inst at new refusal
 
 -- why they were not
-abbrev pub IsReadCause : Source → List ℕ → (old new : Shown) → Refusal → Type 0
-IsReadCause source name old new refusal =
-    IsInstanceCause 2 source.instance old new refusal ⊎ IsPlanRefused source name old new refusal
+abbrev pub IsReadCause : Limits → Source → List ℕ → (old new : Shown) → Refusal → Type 0
+IsReadCause limits source name old new refusal =
+    IsInstanceCause limits 2 source.instance old new refusal ⊎ IsPlanRefused limits source name old new refusal
 
 -- an answer to an instance and a plan was told, or memory ran out before a file was opened
 pub data TellsSolution (inst : Tables) (plan : List (Option ℕ)) (files : RepairFiles) (turns : ℕ) (old new : Shown)

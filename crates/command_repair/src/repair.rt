@@ -1,6 +1,7 @@
 //! The command `repair`: the instance and the plan are read, their solution is made and written, and the report is said.
 ghost use Rattle.std.specs.Prelude.{◌≡◌, ◌≤◌, Some, IfOk, IfErr, OnOk};
 ghost use Rattle.instance_model.specs.Limits.{standard_limits};
+ghost use Rattle.instance_shape.specs.Ranges.{AreStandard};
 ghost use Rattle.plan_desk.specs.Contents.{OnlyReads};
 ghost use Rattle.command_frame.specs.Sources.{source_view};
 ghost use Rattle.command_frame.specs.Refusals.{KeepsLast};
@@ -14,7 +15,7 @@ use command_frame::{
     MEMORY_LINE, Refusal, Source, WRITE_WORDS, instance_of, plan_of, put_certificate, put_plan,
     refuse, say, say_numbered,
 };
-use instance_model::{Instance, Starts};
+use instance_model::{Instance, Limits, Starts};
 use plan_desk::Desk;
 use plan_text::Plan;
 use quantile_index::Row;
@@ -53,7 +54,8 @@ pub fn repair_files<R: Row, D: Desk>(
     ensures { RunsRepair standard_limits (source_view source.now) plan.now (files_view files.now) turns
         (D.shows desk.old) (D.shows desk.new) result }
 {
-    match read_files(alloc, source, plan, desk) {
+    let limits = Limits::standard();
+    match read_files(alloc, &limits, source, plan, desk) {
         Ok(read) => repair_read::<R, D>(alloc, &read, files, turns, desk),
         Err(refusal) => refuse(alloc, desk, &refusal),
     }
@@ -62,21 +64,23 @@ pub fn repair_files<R: Row, D: Desk>(
 // Reads the instance, then the plan.
 fn read_files<D: Desk>(
     alloc: Global,
+    limits: &Limits,
     source: &Source<'_>,
     plan: &str,
     desk: &mut D,
 ) -> Result<Files, Refusal>
+    requires standard { AreStandard limits.now }
     requires small { source.now.slack ≤ 1_000_000_000 }
     ensures ok { IfOk result (λ files.
-        AreRead (source_view source.now) plan.now (D.shows desk.old) files.inst files.plan) }
+        AreRead limits.now (source_view source.now) plan.now (D.shows desk.old) files.inst files.plan) }
     ensures err { IfErr result
-        (IsReadCause (source_view source.now) plan.now (D.shows desk.old) (D.shows desk.new)) }
+        (IsReadCause limits.now (source_view source.now) plan.now (D.shows desk.old) (D.shows desk.new)) }
     ensures last { OnOk result ((D.shows desk.new).last ≡ (D.shows desk.old).last) }
     ensures kept { IfErr result (KeepsLast (D.shows desk.old) (D.shows desk.new)) }
     ensures only_reads { OnlyReads (D.shows desk.old) (D.shows desk.new) }
 {
-    let inst = instance_of(alloc, 2, source, desk)?;
-    let plan = plan_of(alloc, &inst, 3, plan, desk)?;
+    let inst = instance_of(alloc, limits, 2, source, desk)?;
+    let plan = plan_of(alloc, limits, &inst, 3, plan, desk)?;
     Ok(Files { inst, plan })
 }
 

@@ -1,7 +1,6 @@
 -- What is due for `audit`, where a file is refused, and where all were read.
 use Rattle.std.proofs.Common.{◌∙◌}
 use Rattle.std.proofs.lemmas.Result.{err_from_is_err_and}
-use Rattle.instance_model.specs.Limits.{standard_limits}
 use Rattle.command_frame.specs.Sources.{source_view}
 use Rattle.command_frame.specs.Ending.{reply}
 use Rattle.command_frame.specs.Files.{reading, OnPlan}
@@ -16,9 +15,9 @@ returns-in_err-inst-clause-err g c =
     let new = g.D.Desk.shows c.instance_of.new.desk in
     let p = err_from_is_err_and c.from_residual.result c.from_residual.ensures.1 in
     rw (p.1, p.2)
-    (refuses_instance (source_view c.args.source.now) old new
-    (λ i. OnPlan standard_limits i (reading old new) 3 c.args.plan.now
-    (OnAudited c.args.certificate.now old new i)) _ c.in_err-inst.ensures.err)
+    (refuses_instance c.args.limits.now (source_view c.args.source.now) old new
+    (λ i. OnPlan c.args.limits.now i (reading old new) 3 c.args.plan.now
+    (OnAudited c.args.limits.now c.args.certificate.now old new i)) _ c.in_err-inst.ensures.err)
 
 pub returns-in_err-plan-clause-err : goal.returns-in_err-plan-clause-err
 returns-in_err-plan-clause-err g c =
@@ -27,8 +26,9 @@ returns-in_err-plan-clause-err g c =
     let new = g.D.Desk.shows c.plan_of.new.desk in
     let p = err_from_is_err_and c.from_residual-in_err-plan.result c.from_residual-in_err-plan.ensures.1 in
     rw (p.1, p.2)
-    (refuses_plan (source_view c.args.source.now) c.args.plan.now old mid new c.in_ok-inst.inst
-    (λ i. OnAudited c.args.certificate.now old new i) _ c.in_ok-inst.ensures.ok
+    (refuses_plan c.args.limits.now (source_view c.args.source.now)
+    c.args.plan.now old mid new c.in_ok-inst.inst
+    (λ i. OnAudited c.args.limits.now c.args.certificate.now old new i) _ c.in_ok-inst.ensures.ok
     (is_read c.args.source.now.instance.now old mid c.in_ok-inst.ensures.read c.in_ok-inst.ensures.only_reads.later)
     c.in_err-plan.ensures.err)
 
@@ -40,7 +40,8 @@ returns-in_err-certificate-clause-err g c =
     let p = err_from_is_err_and c.from_residual-in_err-certificate.result
     c.from_residual-in_err-certificate.ensures.1 in
     rw (p.1, p.2)
-    (audit_refuses_certificate (source_view c.args.source.now) c.args.plan.now c.args.certificate.now old mid last
+    (audit_refuses_certificate c.args.limits.now (source_view c.args.source.now)
+    c.args.plan.now c.args.certificate.now old mid last
     (g.D.Desk.shows c.certificate_of.new.desk) c.in_ok-inst.inst c.in_ok-plan.plan _ c.in_ok-inst.ensures.ok
     (is_read c.args.source.now.instance.now old mid c.in_ok-inst.ensures.read c.in_ok-inst.ensures.only_reads.later)
     c.in_ok-plan.ensures.ok
@@ -68,7 +69,8 @@ returns-in-Ok-clause-ok g c =
     let old = g.D.Desk.shows c.args.desk.now in
     let mid = g.D.Desk.shows c.instance_of.new.desk in
     let last = g.D.Desk.shows c.plan_of.new.desk in
-    audit_answers (source_view c.args.source.now) c.args.plan.now c.args.certificate.now old mid last
+    audit_answers c.args.limits.now (source_view c.args.source.now)
+    c.args.plan.now c.args.certificate.now old mid last
     (g.D.Desk.shows c.certificate_of.new.desk) c.in_ok-inst.inst c.in_ok-plan.plan c.in_ok-certificate.certificate
     (reply c.in-Ok.report.status c.in-Ok.report.text) c.in_ok-inst.ensures.ok
     (is_read c.args.source.now.instance.now old mid c.in_ok-inst.ensures.read c.in_ok-inst.ensures.only_reads.later)

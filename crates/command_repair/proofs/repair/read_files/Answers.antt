@@ -36,7 +36,7 @@ pub returns-clause-ok : goal.returns-clause-ok
 returns-clause-ok g c =
     let old = g.D.Desk.shows c.args.desk.now in
     let mid = g.D.Desk.shows c.instance_of.new.desk in
-    both_read (source_view c.args.source.now) c.args.plan.now old mid c.in_ok-inst.inst c.in_ok-plan.plan
-    c.in_ok-inst.ensures.ok
+    both_read c.args.limits.now (source_view c.args.source.now) c.args.plan.now old mid c.in_ok-inst.inst
+    c.in_ok-plan.plan c.in_ok-inst.ensures.ok
     (is_read c.args.source.now.instance.now old mid c.in_ok-inst.ensures.read c.in_ok-inst.ensures.only_reads.later)
     c.in_ok-plan.ensures.ok
