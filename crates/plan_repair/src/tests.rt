@@ -33,7 +33,7 @@ const NO_START: &[u8] = b"mpcert 2\nbound none\nlists 0\ntree\nempty 1\n";
 /// A tree on the first instance that bounds scores by 2 and changes from both at once by 1.
 const TREE: &str = "lists 0\ntree\nsplit 1 1\nsplit 2 1\nband 1 1 over\ncost 0\ncost 0\n";
 
-const REPAIR: &[&str] = ["repair", "I", "P", "C", "O", "3"].as_slice();
+const REPAIR: [&str; 6] = ["repair", "I", "P", "C", "O", "3"];
 
 // A desk with the files I and P.
 fn desk(alloc: Global, instance: &str, plan: &[u8]) -> Result<MemDesk, AllocError> {
@@ -64,7 +64,7 @@ fn holds(desk: &MemDesk, name: &str, bytes: &[u8]) -> bool {
 fn one_start_of_two_is_changed(rt: HostRuntime) -> Result<(), Fail> {
     let alloc = rt.alloc();
     let mut desk = desk(alloc, BANDED, TOGETHER)?;
-    assert_eq!(rt; status_of(alloc, REPAIR, &mut desk)?, 0);
+    assert_eq!(rt; status_of(alloc, &REPAIR, &mut desk)?, 0);
     assert!(rt;
         desk.spoken()
             .starts_with(b"plan repaired\nchanged 1\nleast 1\nsplits ")
@@ -79,7 +79,7 @@ fn one_start_of_two_is_changed(rt: HostRuntime) -> Result<(), Fail> {
 fn a_feasible_plan_is_not_changed(rt: HostRuntime) -> Result<(), Fail> {
     let alloc = rt.alloc();
     let mut desk = desk(alloc, BANDED, APART)?;
-    assert_eq!(rt; status_of(alloc, REPAIR, &mut desk)?, 0);
+    assert_eq!(rt; status_of(alloc, &REPAIR, &mut desk)?, 0);
     assert!(rt;
         desk.spoken()
             .starts_with(b"plan repaired\nchanged 0\nleast 0\nsplits ")
@@ -92,7 +92,7 @@ fn a_feasible_plan_is_not_changed(rt: HostRuntime) -> Result<(), Fail> {
 fn without_old_starts_all_are_changed(rt: HostRuntime) -> Result<(), Fail> {
     let alloc = rt.alloc();
     let mut desk = desk(alloc, BANDED, b"")?;
-    assert_eq!(rt; status_of(alloc, REPAIR, &mut desk)?, 0);
+    assert_eq!(rt; status_of(alloc, &REPAIR, &mut desk)?, 0);
     assert!(rt;
         desk.spoken()
             .starts_with(b"plan repaired\nchanged 2\nleast 2\nsplits ")
@@ -169,7 +169,7 @@ fn files_are_refused_in_order(rt: HostRuntime) -> Result<(), Fail> {
         status_of(alloc, &["repair", "X", "P", "C", "O", "3"], &mut desk)?,
         7
     );
-    assert_eq!(rt; status_of(alloc, REPAIR, &mut desk)?, 4);
+    assert_eq!(rt; status_of(alloc, &REPAIR, &mut desk)?, 4);
     assert_eq!(rt; status_of(alloc, &["audit", "I", "P", "C"], &mut desk)?, 4);
     assert_eq!(rt;
         status_of(alloc, &["repair", "I", "X", "C", "O", "3"], &mut desk)?,
@@ -188,7 +188,7 @@ fn a_write_that_fails_is_told(rt: HostRuntime) -> Result<(), Fail> {
     let alloc = rt.alloc();
     let mut desk = desk(alloc, BANDED, APART)?;
     desk.fail_at(DeskCall::PutOut, 2)?;
-    assert_eq!(rt; status_of(alloc, REPAIR, &mut desk)?, 8);
+    assert_eq!(rt; status_of(alloc, &REPAIR, &mut desk)?, 8);
     assert_eq!(rt; desk.spoken(), b"refused write 5\n".as_slice());
     assert!(rt; desk.file("O").is_none());
     Ok(())
