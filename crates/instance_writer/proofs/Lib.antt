@@ -10,4 +10,3 @@ pub mod NumberSizes
 pub mod FileLemmas
 pub mod PartSizes
 pub mod WholeSize
-pub mod ZeroLemmas

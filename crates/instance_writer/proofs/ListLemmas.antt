@@ -9,7 +9,7 @@ use Rattle.fixed_num.proofs.SumLemmas.{list_of_more}
 use Rattle.json_spelling.specs.Value.{Value}
 use Rattle.instance_model.specs.Tables.{Tables, tmax, durations, delta_of, scenarios_of}
 use Rattle.instance_shape.specs.FileTables.{lists_below}
-use Rattle.instance_text.specs.Styles.{decimals}
+use Rattle.instance_text.specs.Styles.{Style}
 use Rattle.instance_text.specs.Written.{whole_number, count_number}
 use Rattle.instance_writer.proofs.Items.{count_item}
 
@@ -64,7 +64,8 @@ counts_of_first h xs (suc n) low =
     ∙ map-append h (take n xs) (get_or xs n (pos 0) ∷ [])
     ∙ ap (λ l. l ++ h (get_or xs n (pos 0)) ∷ []) (counts_of_first h xs n (omega arith))
 
-pub map-counts : (xs : List ℤ) → map (count_number decimals) xs ≡ lists_below (length xs) (count_item xs)
-map-counts xs =
-    ap (map (count_number decimals)) (sym (take_all (length xs) xs (omega arith)))
-    ∙ counts_of_first (count_number decimals) xs (length xs) (omega arith)
+pub map-counts : (style : Style) (xs : List ℤ)
+    → map (count_number style) xs ≡ lists_below (length xs) (count_item style xs)
+map-counts style xs =
+    ap (map (count_number style)) (sym (take_all (length xs) xs (omega arith)))
+    ∙ counts_of_first (count_number style) xs (length xs) (omega arith)

@@ -2,13 +2,13 @@
 use Rattle.std.proofs.Common.{◌≡◌, Some, sym, ap}
 use Rattle.json_spelling.specs.Value.{Value}
 use Rattle.instance_model.specs.Tables.{Tables, upper_of, lower_of, in_season_of, exclusion_of}
-use Rattle.instance_text.specs.Styles.{decimals}
+use Rattle.instance_text.specs.Styles.{Style}
 use Rattle.instance_text.specs.Written.{object_of, named, resource_value, season_value, exclusion_value}
 use Rattle.instance_writer.specs.Views.{IsViewOf}
 use Rattle.instance_writer.specs.Steps.{number_fields}
 
-abbrev pub resources : Tables → Value
-resources t = object_of (named t.resource_names (λ c. Some (resource_value decimals t c)))
+abbrev pub resources : Style → Tables → Value
+resources style t = object_of (named t.resource_names (λ c. Some (resource_value style t c)))
 
 abbrev pub seasons : Tables → Value
 seasons t = object_of (named t.season_names (λ q. Some (season_value t q)))
@@ -17,9 +17,9 @@ abbrev pub exclusions : Tables → Value
 exclusions t = object_of (named t.exclusion_names (λ e. Some (exclusion_value t e)))
 
 module _ (inst view : Tables) (shown : IsViewOf inst view) where
-  pub same_resource_values : resources inst ≡ resources view
+  pub same_resource_values : (style : Style) → resources style inst ≡ resources style view
   unfolding upper_of lower_of
-  same_resource_values = sym (ap resources shown.same)
+  same_resource_values style = sym (ap (resources style) shown.same)
 
   pub same_season_values : seasons inst ≡ seasons view
   unfolding in_season_of
@@ -29,5 +29,5 @@ module _ (inst view : Tables) (shown : IsViewOf inst view) where
   unfolding exclusion_of
   same_exclusion_values = sym (ap exclusions shown.same)
 
-  pub same_number_fields : number_fields decimals inst ≡ number_fields decimals view
-  same_number_fields = sym (ap (number_fields decimals) shown.same)
+  pub same_number_fields : (style : Style) → number_fields style inst ≡ number_fields style view
+  same_number_fields style = sym (ap (number_fields style) shown.same)

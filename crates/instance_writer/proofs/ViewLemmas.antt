@@ -1,14 +1,15 @@
 -- Starts, runs and load cells of a view.
 use Rattle.std.proofs.Common.{◌≡◌, ◌⊎◌, ℕ, ◌+◌, ◌-◌, ◌<◌, ◌≤◌, Bool, true, false, ◌&&◌, cond, List, [], ◌∷◌, refl, sym}
-use Rattle.std.proofs.Common.{◌∙◌, ap, arith}
+use Rattle.std.proofs.Common.{◌∙◌, ap, arith, true≢false}
 use Rattle.std.proofs.Common.{Option, Some, None, inl, inr, is_some, length}
-use Rattle.std.specs.Prelude.{ℤ, nat_le, nat_lt, IsTrue, All, slice_index, slice_index_or, find, option_map}
+use Rattle.std.specs.Prelude.{ℤ, pos, nat_le, nat_lt, IsTrue, IsSome, All, slice_index, slice_index_or, find}
+use Rattle.std.specs.Prelude.{option_map, unwrap_or}
 use Rattle.std.proofs.lemmas.Bool.Decides.{nat_tests}
 use Rattle.std.proofs.lemmas.List.Elements.{All-head, All-tail}
 use Rattle.instance_model.specs.declared.parts.LoadCell.{LoadCell}
 use Rattle.instance_model.specs.Tables.{Tables, tmax, delta_of, is_allowed, allowed_of, in_run, scenarios_of, risk_of}
-use Rattle.instance_model.specs.Tables.{is_cell_of}
-use Rattle.instance_model.specs.Fitting.{AreCells}
+use Rattle.instance_model.specs.Tables.{is_cell_of, load_of}
+use Rattle.instance_model.specs.Fitting.{AreCells, IsFitting}
 use Rattle.instance_text.specs.Styles.{Style}
 use Rattle.instance_text.specs.Written.{count_number, count_list, risks_of}
 use Rattle.fixed_num.specs.Sums.{list_of}
@@ -99,6 +100,26 @@ pub risks_running : (style : Style) (view : Tables) (i t s : ℕ) → (is_allowe
 risks_running style view i t s runs =
     ap (λ b. cond b (Some (count_list style (list_of (scenarios_of view t) (λ k. risk_of view i s t (k + 1))))) None)
     runs
+
+-- ---- an instance that is shown as it is
+
+pub shows_itself : (inst : Tables) → IsFitting inst → IsViewOf inst inst
+shows_itself inst fits = record {
+  same = refl;
+  starts = λ i low. refl;
+  durations = λ i s low allowed. refl;
+  risks = λ i s t k low allowed running from to. refl;
+  fits = fits;
+}
+
+pub cell_load_is : (inst : Tables) (i s c t : ℕ) → IsSome (cell_load inst i s c t)
+    → Some (load_of inst i s c t) ≡ cell_load inst i s c t
+unfolding load_of
+cell_load_is inst i s c t some = go (cell_load inst i s c t) some
+  where
+    go : (o : Option ℤ) → IsSome o → Some (unwrap_or o (pos 0)) ≡ o
+    go None none = absurd (true≢false (sym none))
+    go (Some z) some = refl
 
 -- ---- starts that a view allows
 

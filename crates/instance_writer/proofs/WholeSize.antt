@@ -110,7 +110,7 @@ module _ (inst : Tables) (fits : IsFitting inst) where
         length-field (codes "min") lower 3 18434 (omega arith) (omega (arith, b, fits.few_periods)),
       )
 
-  pub resources_short : length (spell (resources inst)) ≤ 1_188_802
+  pub resources_short : length (spell (resources decimals inst)) ≤ 1_188_802
   resources_short = omega (
     arith,
     length-object (named inst.resource_names (λ c. Some (resource_value decimals inst c))),
@@ -314,8 +314,9 @@ module _ (inst : Tables) (fits : IsFitting inst) where
       a in
       let c : length (fields_text false second) ≤ 10_392_171_221_583 =
       field_more (codes "Seasons") (seasons inst) third 7 344_450 10_392_170_877_115 (omega arith) seasons_short b in
-      let d : length (fields_text false (under known.Resources (resources inst) ∷ second)) ≤ 10_392_172_410_407 =
-      field_more (codes "Resources") (resources inst) second 9 1_188_802 10_392_171_221_583 (omega arith)
+      let all_resources = resources decimals inst in
+      let d : length (fields_text false (under known.Resources all_resources ∷ second)) ≤ 10_392_172_410_407 =
+      field_more (codes "Resources") all_resources second 9 1_188_802 10_392_171_221_583 (omega arith)
       resources_short
       c in
-      omega (arith, d, length-object (under known.Resources (resources inst) ∷ second))
+      omega (arith, d, length-object (under known.Resources all_resources ∷ second))

@@ -1,12 +1,13 @@
 -- That texts that are taken one after another are taken as one.
 use Rattle.std.specs.Prelude.{◌≡◌, ℕ, ◌+◌, Bool, true, false, List, [], ◌++◌, length, Err, refl}
-use Rattle.std.proofs.Common.{sym, ◌∙◌, ap, subst, append_assoc, arith}
+use Rattle.std.specs.Prelude.{Option, Some, None, option_map}
+use Rattle.std.proofs.Common.{sym, ◌∙◌, ap, subst, append_assoc, arith, inl, inr}
 use Rattle.std.proofs.lemmas.List.{append-nil, length-append}
 use Rattle.plan_desk.specs.Desk.{Shown}
 use Rattle.plan_desk.specs.Written.{PutsText}
 use Rattle.plan_desk.specs.Written.Way.{writing}
 use Rattle.plan_desk.proofs.Written.{begins, joins, last, cut, respelled}
-use Rattle.instance_writer.specs.Sinks.{CountsText, Progress, TakesAs, TakesText}
+use Rattle.instance_writer.specs.Sinks.{CountsText, AddsText, Progress, TakesAs, TakesText}
 
 pub counts_none : (n : ℕ) → CountsText [] n n
 counts_none n low = omega arith
@@ -17,6 +18,18 @@ counts_more a b s t u first next low =
     let mid : t ≡ s + length a = first (omega (arith, both, low)) in
     let end : u ≡ t + length b = next (omega (arith, both, mid, low)) in
     omega (arith, both, mid, end)
+
+pub adds_none : (t : Option (List ℕ)) → AddsText [] t t
+adds_none None = inl refl
+adds_none (Some bytes) = inl (ap (λ (l : List ℕ). Some l) (sym (append-nil bytes)))
+
+pub adds_more : (a b : List ℕ) (s t u : Option (List ℕ)) → AddsText a s t → AddsText b t u → AddsText (a ++ b) s u
+adds_more a b s t u first (inr refused) = inr refused
+adds_more a b s t u (inr refused) (inl next) =
+    inr (next ∙ ap (option_map (λ (l : List ℕ). l ++ b)) refused)
+adds_more a b None t u (inl first) (inl next) = inl (next ∙ ap (option_map (λ (l : List ℕ). l ++ b)) first)
+adds_more a b (Some bytes) t u (inl first) (inl next) =
+    inl (next ∙ ap (option_map (λ (l : List ℕ). l ++ b)) first ∙ ap (λ (l : List ℕ). Some l) (append_assoc bytes a b))
 
 takes_none_as : (failed : Bool) (p : Progress) → TakesAs failed failed [] p p
 takes_none_as true p = refl

@@ -1,5 +1,7 @@
--- Defines what the takers of a text have taken: a counter of bytes, and a file in front of whose desk bytes are kept.
-use Rattle.std.specs.Prelude.{◌≡◌, ℕ, ◌+◌, ◌^◌, ◌<◌, Bool, true, false, List, ◌++◌, length, Result, Err, IsErr}
+-- Defines what the takers of a text have taken: a counter of bytes, bytes in memory, and a file in front of whose desk
+-- bytes are kept.
+use Rattle.std.specs.Prelude.{◌≡◌, ◌⊎◌, ℕ, ◌+◌, ◌^◌, ◌<◌, Bool, true, false, List, ◌++◌, length, Result, Err, IsErr}
+use Rattle.std.specs.Prelude.{Option, None, option_map}
 use Rattle.plan_desk.specs.declared.call.Failed.{Failed}
 use Rattle.plan_desk.specs.Desk.{Shown}
 use Rattle.plan_desk.specs.Written.{PutsText, HasPut}
@@ -8,6 +10,10 @@ use Rattle.plan_desk.specs.Written.Way.{writing}
 -- a count of bytes, which is exact below 2 ^ 64
 abbrev pub CountsText : List ℕ → (old new : ℕ) → Type 0
 CountsText text old new = old + length text < 2 ^ 64 → new ≡ old + length text
+
+-- bytes in memory, where there was enough of it: none once it was refused
+abbrev pub AddsText : List ℕ → (old new : Option (List ℕ)) → Type 0
+AddsText text old new = new ≡ option_map (λ bytes. bytes ++ text) old ⊎ new ≡ None
 
 -- a file that is being written: what its desk shows, the bytes that were taken and aren't written yet, and whether a
 -- write has failed

@@ -1,9 +1,7 @@
 -- Defines what is seen of an instance: its tables, with other durations, and with what these leave of its risks and
 -- load cells.
-use Rattle.std.specs.Prelude.{◌≡◌, ℕ, ◌<◌, ◌≤◌, ℤ, pos, not, [], Option, IsTrue, length, map, filter, find}
+use Rattle.std.specs.Prelude.{◌≡◌, ℕ, ◌<◌, ◌≤◌, ℤ, [], Option, IsSome, IsTrue, length, find}
 use Rattle.std.specs.Prelude.{option_map, slice_index_or}
-use Rattle.std.specs.Ordering.{int_eq}
-use Rattle.instance_model.specs.declared.parts.LoadCell.{LoadCell}
 use Rattle.instance_model.specs.Tables.{Tables, tmax, delta_of, is_allowed, in_run, scenarios_of, risk_of, is_cell_of}
 use Rattle.instance_model.specs.Fitting.{IsFitting}
 
@@ -28,8 +26,7 @@ pub record IsViewOf (inst view : Tables) : Type 0 where
       → k ≤ scenarios_of inst t → risk_of view i s t k ≡ risk_of inst i s t k
   pub fits : IsFitting view
 
--- an instance without its load cells of 0, which say nothing
-abbrev pub without_zeros : Tables → Tables
-without_zeros inst = record inst {
-  loads = map (filter (λ (cell : LoadCell). not (int_eq cell.load (pos 0)))) inst.loads;
-}
+-- Each resource has a load cell in each period of the run at each start that is allowed.
+abbrev pub HasEachCell : Tables → Type 0
+HasEachCell inst = (i s c t : ℕ) → i < length inst.names → c < length inst.resource_names
+    → IsTrue (is_allowed inst i s) → IsTrue (in_run inst i s t) → IsSome (cell_load inst i s c t)

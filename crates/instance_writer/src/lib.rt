@@ -1,15 +1,19 @@
-//! The text of an instance, written to a file in one pass, and its length. No call takes memory.
+//! The text of an instance, written to a file in one pass or into memory, and its length. Only `instance_bytes` takes
+//! memory.
 //!
-//! What is written is what an `InstanceView` shows of an instance. The walk over the text stands once: it hands pieces
-//! to a `Sink`, which writes them or counts their bytes.
+//! What is written is what an `InstanceView` shows of an instance, with numbers as some `Numerals` spell them. The walk
+//! over the text stands once: it hands pieces to a `Sink`, which writes them, gathers them or counts their bytes.
 #![tactic(auto)]
 
 mod count;
 mod exclusions;
 mod file;
+mod full;
 mod interventions;
 mod loads;
 mod marks;
+mod memory;
+mod numerals;
 mod resources;
 mod risks;
 mod room;
@@ -18,5 +22,8 @@ mod sink;
 mod view;
 mod write;
 
+pub use full::FullInstance;
+pub use numerals::{Decimals, Numerals};
+pub use sink::Sink;
 pub use view::InstanceView;
-pub use write::{instance_length, write_instance};
+pub use write::{instance_bytes, instance_length, write_instance};

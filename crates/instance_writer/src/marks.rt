@@ -2,10 +2,10 @@
 ghost use Rattle.std.specs.Prelude.{◌≡◌, ◌≤◌, [], ◌∷◌, ◌++◌, decimal};
 ghost use Rattle.json_spelling.specs.Value.{Value};
 ghost use Rattle.json_spelling.specs.Spelling.{escaped, quoted};
-ghost use Rattle.instance_text.specs.Styles.{decimals, part_text};
 ghost use Rattle.instance_text.specs.Written.{whole_number, count_number};
 ghost use Rattle.instance_writer.specs.Steps.{separator, values_text};
 
+use crate::numerals::Numerals;
 use crate::sink::Sink;
 use fixed_num::Line;
 
@@ -95,24 +95,11 @@ pub fn put_whole<S: Sink>(first: bool, n: u32, sink: &mut S)
 }
 
 /// A count in a list.
-pub fn put_count<S: Sink>(first: bool, z: i128, sink: &mut S)
+pub fn put_count<N: Numerals, S: Sink>(first: bool, z: i128, sink: &mut S)
     requires ready { S.IsReady sink.old }
     ensures ready { S.IsReady sink.new }
-    ensures text { S.Takes (values_text first (count_number decimals z ∷ [])) sink.old sink.new }
+    ensures text { S.Takes (values_text first (count_number N.style z ∷ [])) sink.old sink.new }
 {
     separate(first, sink);
-    sink.put(Line::of_fixed(z).bytes());
-}
-
-/// A number of millionths, with 6 decimals.
-pub fn put_part<S: Sink>(m: u32, sink: &mut S)
-    requires ready { S.IsReady sink.old }
-    ensures ready { S.IsReady sink.new }
-    ensures text { S.Takes (part_text m) sink.old sink.new }
-{
-    sink.put(Line::of_natural(u64::from(m / 1_000_000)).bytes());
-    sink.put(b".");
-    let digits = Line::of_natural(u64::from(m % 1_000_000));
-    sink.put(&[b'0'; 6][..6 - digits.bytes().len()]);
-    sink.put(digits.bytes());
+    N::put_count(z, sink);
 }

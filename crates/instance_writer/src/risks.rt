@@ -3,13 +3,14 @@ ghost use Rattle.std.specs.Prelude.{◌≡◌, ◌+◌, ◌<◌, ◌≤◌, deci
 ghost use Rattle.fixed_num.specs.Sums.{list_of};
 ghost use Rattle.json_spelling.specs.Spelling.{spell};
 ghost use Rattle.instance_model.specs.Tables.{tmax, is_allowed, in_run, scenarios_of, risk_of};
-ghost use Rattle.instance_text.specs.Styles.{decimals};
+ghost use Rattle.instance_text.specs.Styles.{Style};
 ghost use Rattle.instance_text.specs.Written.{count_list, object_of, optional, numbered, risks_of, risk_value};
 ghost use Rattle.instance_writer.specs.Views.{IsViewOf};
 ghost use Rattle.instance_writer.specs.Steps.{fields_text, is_first_after, period_risks};
 
 use crate::loads::is_running;
 use crate::marks::{put_count, put_number_key};
+use crate::numerals::Numerals;
 use crate::sink::Sink;
 use crate::view::InstanceView;
 use fixed_num::{Fixed, Steps};
@@ -37,7 +38,7 @@ fn risks_on<L: Ledger>(inst: &Instance, i: u32, s: u32, t: u32, blank: Blank) ->
 fn has_risks_in<V: InstanceView>(view: &V, i: u32, t: u32) -> bool
     requires shown { IsViewOf (V.base view.now) (V.tables view.now) }
     requires number { i < length (V.base view.now).names }
-    ensures { result ≡ is_some (period_risks decimals (V.tables view.now) i t) }
+    ensures { (style : Style) → result ≡ is_some (period_risks style (V.tables view.now) i t) }
 {
     for k in 0..view.instance().tmax(i) {
         if is_running(view, i, k + 1, t) {
@@ -48,23 +49,23 @@ fn has_risks_in<V: InstanceView>(view: &V, i: u32, t: u32) -> bool
 }
 
 /// The risks of intervention `i`, by period, start and scenario.
-pub fn put_risk<V: InstanceView, S: Sink>(view: &V, i: u32, sink: &mut S)
+pub fn put_risk<V: InstanceView, N: Numerals, S: Sink>(view: &V, i: u32, sink: &mut S)
     requires ready { S.IsReady sink.old }
     requires shown { IsViewOf (V.base view.now) (V.tables view.now) }
     requires number { i < length (V.base view.now).names }
     ensures ready { S.IsReady sink.new }
-    ensures text { S.Takes (spell (risk_value decimals (V.tables view.now) i)) sink.old sink.new }
+    ensures text { S.Takes (spell (risk_value N.style (V.tables view.now) i)) sink.old sink.new }
 {
     sink.put(b"{");
     let mut first = true;
     for k in 0..view.instance().periods() {
-        first = put_period_risks(view, i, k + 1, first, sink);
+        first = put_period_risks::<_, N, _>(view, i, k + 1, first, sink);
     }
     sink.put(b"}");
 }
 
 // Those in period `t`, if there are any. Says whether the next field would be the first.
-fn put_period_risks<V: InstanceView, S: Sink>(
+fn put_period_risks<V: InstanceView, N: Numerals, S: Sink>(
     view: &V,
     i: u32,
     t: u32,
@@ -78,21 +79,21 @@ fn put_period_risks<V: InstanceView, S: Sink>(
     requires to { t ≤ (V.base view.now).periods }
     ensures ready { S.IsReady sink.new }
     ensures text { S.Takes
-        (fields_text first (optional (decimal t) (period_risks decimals (V.tables view.now) i t)))
+        (fields_text first (optional (decimal t) (period_risks N.style (V.tables view.now) i t)))
         sink.old sink.new }
     ensures first { result
-        ≡ is_first_after first (optional (decimal t) (period_risks decimals (V.tables view.now) i t)) }
+        ≡ is_first_after first (optional (decimal t) (period_risks N.style (V.tables view.now) i t)) }
 {
     if !has_risks_in(view, i, t) {
         return first;
     }
     put_number_key(first, t, sink);
-    put_starts(view, i, t, sink);
+    put_starts::<_, N, _>(view, i, t, sink);
     false
 }
 
 // Those in period `t`, by start and scenario.
-fn put_starts<V: InstanceView, S: Sink>(view: &V, i: u32, t: u32, sink: &mut S)
+fn put_starts<V: InstanceView, N: Numerals, S: Sink>(view: &V, i: u32, t: u32, sink: &mut S)
     requires ready { S.IsReady sink.old }
     requires shown { IsViewOf (V.base view.now) (V.tables view.now) }
     requires number { i < length (V.base view.now).names }
@@ -100,19 +101,19 @@ fn put_starts<V: InstanceView, S: Sink>(view: &V, i: u32, t: u32, sink: &mut S)
     requires to { t ≤ (V.base view.now).periods }
     ensures ready { S.IsReady sink.new }
     ensures text { S.Takes
-        (spell (object_of (numbered (tmax (V.tables view.now) i) (risks_of decimals (V.tables view.now) i t))))
+        (spell (object_of (numbered (tmax (V.tables view.now) i) (risks_of N.style (V.tables view.now) i t))))
         sink.old sink.new }
 {
     sink.put(b"{");
     let mut first = true;
     for k in 0..view.instance().tmax(i) {
-        first = put_start_risks(view, i, t, k + 1, first, sink);
+        first = put_start_risks::<_, N, _>(view, i, t, k + 1, first, sink);
     }
     sink.put(b"}");
 }
 
 // Those at start `s`, if its run holds the period. Says whether the next field would be the first.
-fn put_start_risks<V: InstanceView, S: Sink>(
+fn put_start_risks<V: InstanceView, N: Numerals, S: Sink>(
     view: &V,
     i: u32,
     t: u32,
@@ -129,16 +130,16 @@ fn put_start_risks<V: InstanceView, S: Sink>(
     requires few { s ≤ tmax (V.base view.now) i }
     ensures ready { S.IsReady sink.new }
     ensures text { S.Takes
-        (fields_text first (optional (decimal s) (risks_of decimals (V.tables view.now) i t s)))
+        (fields_text first (optional (decimal s) (risks_of N.style (V.tables view.now) i t s)))
         sink.old sink.new }
     ensures first { result
-        ≡ is_first_after first (optional (decimal s) (risks_of decimals (V.tables view.now) i t s)) }
+        ≡ is_first_after first (optional (decimal s) (risks_of N.style (V.tables view.now) i t s)) }
 {
     if !is_running(view, i, s, t) {
         return first;
     }
     put_number_key(first, s, sink);
-    put_counts(risks_of_run(view, i, s, t), sink);
+    put_counts::<N, _>(risks_of_run(view, i, s, t), sink);
     false
 }
 
@@ -156,15 +157,15 @@ fn risks_of_run<V: InstanceView>(view: &V, i: u32, s: u32, t: u32) -> &[Fixed]
     risks_on::<Brand>(view.instance(), i, s, t, Blank::new(1))
 }
 
-fn put_counts<S: Sink>(counts: &[Fixed], sink: &mut S)
+fn put_counts<N: Numerals, S: Sink>(counts: &[Fixed], sink: &mut S)
     requires ready { S.IsReady sink.old }
     ensures ready { S.IsReady sink.new }
-    ensures text { S.Takes (spell (count_list decimals counts.now)) sink.old sink.new }
+    ensures text { S.Takes (spell (count_list N.style counts.now)) sink.old sink.new }
 {
     sink.put(b"[");
     let mut first = true;
     for z in counts {
-        put_count(first, z.count(), sink);
+        put_count::<N, _>(first, z.count(), sink);
         first = false;
     }
     sink.put(b"]");

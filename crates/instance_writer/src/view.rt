@@ -33,25 +33,3 @@ pub trait InstanceView {
         requires running { IsTrue (in_run (tables self.now) i s t) }
         ensures { result ≡ cell_load (tables self.now) i s c t };
 }
-
-impl InstanceView for Instance {
-    ghost use Rattle.instance_writer.specs.Views.{without_zeros};
-
-    ghost base = { λ inst. inst };
-
-    ghost tables = { without_zeros };
-
-    fn instance(&self) -> &Instance {
-        self
-    }
-
-    fn delta(&self, i: u32, s: u32) -> u32 {
-        self.delta(i, s)
-    }
-
-    fn load(&self, i: u32, s: u32, c: u32, t: u32) -> Option<Fixed> {
-        self.fits();
-        let load = self.load(i, s, c, t);
-        if load.count() == 0 { None } else { Some(load) }
-    }
-}

@@ -1,6 +1,5 @@
 use Rattle.std.proofs.Common.{List, ℕ, length, Some, refl, ap, arith}
 use Rattle.instance_model.specs.Tables.{Tables}
-use Rattle.instance_text.specs.Styles.{decimals}
 use Rattle.instance_text.specs.Written.{intervention_value}
 use Rattle.instance_writer.proofs.ViewLemmas.{same_names}
 use Rattle.instance_writer.proofs.LoopLemmas.{begin_fields, next_fields, end_fields}
@@ -15,19 +14,21 @@ loop-i-init g c = record {
 
 pub loop-i-preserved : goal.loop-i-preserved
 loop-i-preserved g c =
+    let style = g.N.Numerals.style in
     let view = g.V.InstanceView.tables c.args.view.now in
     record {
       ready = c.put_intervention.ensures.ready;
       fields = next_fields g.S.Sink.Takes g.met.S.Sink.takes_more
-          (named_item view.names (λ k. Some (intervention_value decimals view k))) c.loop-i.i c.loop-i.invariant.fields
+          (named_item view.names (λ k. Some (intervention_value style view k))) c.loop-i.i c.loop-i.invariant.fields
           c.put_intervention.ensures.text refl;
     }
 
 pub returns-clause-text : goal.returns-clause-text
 returns-clause-text g c =
+    let style = g.N.Numerals.style in
     let view = g.V.InstanceView.tables c.args.view.now in
     end_fields g.S.Sink.Takes g.met.S.Sink.takes_more
-    (named_item view.names (λ k. Some (intervention_value decimals view k))) c.loop-i.i (length view.names)
+    (named_item view.names (λ k. Some (intervention_value style view k))) c.loop-i.i (length view.names)
     (omega (
       arith,
       ap (λ (inst : Tables). length inst.names) c.instance.ensures,

@@ -4,7 +4,6 @@ use Rattle.json_spelling.specs.Value.{Field}
 use Rattle.json_spelling.specs.Spelling.{spell}
 use Rattle.instance_model.specs.Tables.{Tables, tmax, durations}
 use Rattle.instance_shape.specs.declared.fault.Known.TheVariants as known
-use Rattle.instance_text.specs.Styles.{decimals}
 use Rattle.instance_text.specs.Written.{whole_number, whole_list, workload_value, risk_value, under}
 use Rattle.instance_writer.specs.Steps.{values_text}
 use Rattle.instance_writer.proofs.LoopLemmas.{respelled, put_field, join_fields, whole_object}
@@ -13,12 +12,13 @@ use Rattle.instance_writer.proofs.interventions.put_tables_of.Goals as goal
 pub returns-clause-text : goal.returns-clause-text
 unfolding spell
 returns-clause-text g c =
+    let style = g.N.Numerals.style in
     let view = g.V.InstanceView.tables c.args.view.now in
     let more = g.met.S.Sink.takes_more in
     let starts = whole_number (tmax view c.args.i) in
     let delta = whole_list (durations view c.args.i) in
-    let workload = workload_value decimals view c.args.i in
-    let risk = risk_value decimals view c.args.i in
+    let workload = workload_value style view c.args.i in
+    let risk = risk_value style view c.args.i in
     let last : List Field = under known.Workload workload ∷ under known.Risk risk ∷ [] in
     let rest : List Field = under known.Delta delta ∷ last in
     whole_object g.S.Sink.Takes more (under known.Tmax starts ∷ rest) c.put.ensures.text

@@ -1,44 +1,35 @@
-use Rattle.std.proofs.Common.{◌≡◌, ◌+◌, is_some, decimal, ◌∙◌, sym, ap, arith}
+use Rattle.std.proofs.Common.{◌+◌, is_some, ◌∙◌, sym, ap, arith}
 use Rattle.instance_model.specs.Tables.{Tables, tmax}
-use Rattle.instance_shape.specs.FileTables.{lists_below}
-use Rattle.instance_text.specs.Styles.{decimals}
 use Rattle.instance_writer.specs.Steps.{start_load}
-use Rattle.instance_writer.proofs.FilledLemmas.{full_below, some_full, none_more, none_optional, none_filled}
+use Rattle.instance_writer.proofs.FilledLemmas.{some_at, none_more, none_below}
 use Rattle.instance_writer.proofs.ViewLemmas.{start_load_some}
-use Rattle.instance_writer.proofs.Items.{numbered_item}
 use Rattle.instance_writer.proofs.loads.has_load_in.Goals as goal
 
 pub returns-then-is_some : goal.returns-then-is_some
-returns-then-is_some g c =
+returns-then-is_some g c style =
     let view = g.V.InstanceView.tables c.args.view.now in
-    let item = start_load decimals view c.args.i c.args.c c.args.t in
-    sym (full_below (tmax view c.args.i) (numbered_item item) c.loop-k.k
+    some_at (tmax view c.args.i) (start_load style view c.args.i c.args.c c.args.t) c.loop-k.k
     (omega (
       arith,
       ap (λ (inst : Tables). tmax inst c.args.i) c.instance.ensures,
       c.requires.shown.starts c.args.i c.requires.number,
     ))
-    (some_full (decimal (c.loop-k.k + 1)) (item (c.loop-k.k + 1))
-    (start_load_some decimals view c.args.i c.args.c c.args.t (c.loop-k.k + 1) ∙ sym (ap is_some c.load_at.ensures)
-    ∙ sym c.is_some.ensures ∙ c.if-is_some.true)))
+    (start_load_some style view c.args.i c.args.c c.args.t (c.loop-k.k + 1) ∙ sym (ap is_some c.load_at.ensures)
+    ∙ sym c.is_some.ensures ∙ c.if-is_some.true)
 
 pub loop-k-preserved : goal.loop-k-preserved
-loop-k-preserved g c =
+loop-k-preserved g c style =
     let view = g.V.InstanceView.tables c.args.view.now in
-    let item = start_load decimals view c.args.i c.args.c c.args.t in
-    none_more c.loop-k.k (numbered_item item) c.loop-k.invariant
-    (none_optional (decimal (c.loop-k.k + 1)) (item (c.loop-k.k + 1))
-    (start_load_some decimals view c.args.i c.args.c c.args.t (c.loop-k.k + 1) ∙ sym (ap is_some c.load_at.ensures)
-    ∙ sym c.is_some.ensures ∙ c.if-is_some.false))
+    none_more c.loop-k.k (start_load style view c.args.i c.args.c c.args.t) (c.loop-k.invariant style)
+    (start_load_some style view c.args.i c.args.c c.args.t (c.loop-k.k + 1) ∙ sym (ap is_some c.load_at.ensures)
+    ∙ sym c.is_some.ensures ∙ c.if-is_some.false)
 
 pub returns : goal.returns
-returns g c =
+returns g c style =
     let view = g.V.InstanceView.tables c.args.view.now in
-    let item = start_load decimals view c.args.i c.args.c c.args.t in
-    let end : tmax view c.args.i ≡ c.loop-k.k = omega (
+    none_below (tmax view c.args.i) (start_load style view c.args.i c.args.c c.args.t) c.loop-k.k
+    (omega (
       arith,
       ap (λ (inst : Tables). tmax inst c.args.i) c.instance.ensures,
       c.requires.shown.starts c.args.i c.requires.number,
-    ) in
-    sym (none_filled (lists_below (tmax view c.args.i) (numbered_item item))
-    (ap (λ n. lists_below n (numbered_item item)) end ∙ c.loop-k.invariant))
+    )) (c.loop-k.invariant style)

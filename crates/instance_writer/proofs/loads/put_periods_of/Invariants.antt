@@ -1,4 +1,3 @@
-use Rattle.instance_text.specs.Styles.{decimals}
 use Rattle.instance_writer.specs.Steps.{period_loads}
 use Rattle.instance_writer.proofs.LoopLemmas.{HasFields}
 use Rattle.instance_writer.proofs.Items.{numbered_item}
@@ -6,9 +5,10 @@ use Rattle.instance_writer.proofs.loads.put_periods_of.Given as goal
 
 abbrev pub invariant-loop-k : goal.invariant-loop-k
 invariant-loop-k g l =
+    let style = g.N.Numerals.style in
     let view = g.V.InstanceView.tables l.view in
     record {
       ready : g.S.Sink.IsReady l.sink;
-      fields : HasFields g.S.Sink.Takes (numbered_item (period_loads decimals view l.i l.c)) l.k l.first l.fn.sink
+      fields : HasFields g.S.Sink.Takes (numbered_item (period_loads style view l.i l.c)) l.k l.first l.fn.sink
           l.sink;
     }

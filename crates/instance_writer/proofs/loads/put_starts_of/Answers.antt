@@ -1,6 +1,5 @@
 use Rattle.std.proofs.Common.{ap, arith}
 use Rattle.instance_model.specs.Tables.{Tables, tmax}
-use Rattle.instance_text.specs.Styles.{decimals}
 use Rattle.instance_writer.specs.Steps.{start_load}
 use Rattle.instance_writer.proofs.LoopLemmas.{begin_fields, next_fields, end_fields}
 use Rattle.instance_writer.proofs.Items.{numbered_item}
@@ -14,19 +13,21 @@ loop-k-init g c = record {
 
 pub loop-k-preserved : goal.loop-k-preserved
 loop-k-preserved g c =
+    let style = g.N.Numerals.style in
     let view = g.V.InstanceView.tables c.args.view.now in
     record {
       ready = c.put_load-first.ensures.ready;
       fields = next_fields g.S.Sink.Takes g.met.S.Sink.takes_more
-          (numbered_item (start_load decimals view c.args.i c.args.c c.args.t)) c.loop-k.k c.loop-k.invariant.fields
+          (numbered_item (start_load style view c.args.i c.args.c c.args.t)) c.loop-k.k c.loop-k.invariant.fields
           c.put_load-first.ensures.text c.put_load-first.ensures.first;
     }
 
 pub returns-clause-text : goal.returns-clause-text
 returns-clause-text g c =
+    let style = g.N.Numerals.style in
     let view = g.V.InstanceView.tables c.args.view.now in
     end_fields g.S.Sink.Takes g.met.S.Sink.takes_more
-    (numbered_item (start_load decimals view c.args.i c.args.c c.args.t)) c.loop-k.k (tmax view c.args.i)
+    (numbered_item (start_load style view c.args.i c.args.c c.args.t)) c.loop-k.k (tmax view c.args.i)
     (omega (
       arith,
       ap (λ (inst : Tables). tmax inst c.args.i) c.instance.ensures,

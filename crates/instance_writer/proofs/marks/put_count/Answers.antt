@@ -1,12 +1,11 @@
-use Rattle.std.proofs.Common.{◌∙◌, ap, to_z-of_z}
-use Rattle.fixed_num.specs.Texts.{fixed_text}
+use Rattle.std.proofs.Common.{ap, to_z-of_z}
 use Rattle.instance_writer.proofs.TextLemmas.{number_in_list}
 use Rattle.instance_writer.proofs.LoopLemmas.{respelled, two}
 use Rattle.instance_writer.proofs.marks.put_count.Goals as goal
 
 pub returns-clause-text : goal.returns-clause-text
 returns-clause-text g c =
-    respelled g.S.Sink.Takes (number_in_list c.args.first (fixed_text c.args.z))
+    let style = g.N.Numerals.style in
+    respelled g.S.Sink.Takes (number_in_list c.args.first (style.count c.args.z))
     (two g.S.Sink.Takes g.met.S.Sink.takes_more c.separate.ensures.text
-    (respelled g.S.Sink.Takes (c.bytes.ensures.value ∙ c.of_fixed.ensures ∙ ap fixed_text (to_z-of_z c.ranges.z))
-    c.put.ensures.text))
+    (respelled g.S.Sink.Takes (ap style.count (to_z-of_z c.ranges.z)) c.put_count.ensures.text))

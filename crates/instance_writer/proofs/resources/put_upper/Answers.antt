@@ -2,7 +2,6 @@ use Rattle.std.proofs.Common.{[], ◌∷◌, ◌+◌, refl, sym, ◌∙◌, ap, 
 use Rattle.std.specs.Prelude.{ℤ}
 use Rattle.fixed_num.proofs.SignedLemmas.{back_from_abs}
 use Rattle.instance_model.specs.Tables.{upper_of}
-use Rattle.instance_text.specs.Styles.{decimals}
 use Rattle.instance_text.specs.Written.{count_number}
 use Rattle.instance_writer.specs.Steps.{values_text}
 use Rattle.instance_writer.proofs.ListLemmas.{map-list_of}
@@ -17,19 +16,23 @@ loop-k-init g c = record {
 }
 
 pub loop-k-preserved : goal.loop-k-preserved
-loop-k-preserved g c = record {
-  ready = c.put_count.ensures.ready;
-  values = next_values g.S.Sink.Takes g.met.S.Sink.takes_more (upper_item c.args.inst.now c.args.c) c.loop-k.k
-      c.loop-k.invariant.values
-      (respelled g.S.Sink.Takes
-      (ap (λ (z : ℤ). values_text c.loop-k.first (count_number decimals z ∷ []))
-      (back_from_abs c.upper.result (omega (arith, c.upper.ensures.small)) ∙ c.upper.ensures.value))
-      c.put_count.ensures.text) refl;
-}
+loop-k-preserved g c =
+    let style = g.N.Numerals.style in
+    record {
+      ready = c.put_count.ensures.ready;
+      values = next_values g.S.Sink.Takes g.met.S.Sink.takes_more (upper_item style c.args.inst.now c.args.c) c.loop-k.k
+          c.loop-k.invariant.values
+          (respelled g.S.Sink.Takes
+          (ap (λ (z : ℤ). values_text c.loop-k.first (count_number style z ∷ []))
+          (back_from_abs c.upper.result (omega (arith, c.upper.ensures.small)) ∙ c.upper.ensures.value))
+          c.put_count.ensures.text) refl;
+    }
 
 pub returns-clause-text : goal.returns-clause-text
 returns-clause-text g c =
+    let style = g.N.Numerals.style in
     let inst = c.args.inst.now in
-    end_values g.S.Sink.Takes g.met.S.Sink.takes_more (upper_item inst c.args.c) _ c.loop-k.k inst.periods (omega arith)
-    (sym (map-list_of (count_number decimals) inst.periods (λ k. upper_of inst c.args.c (k + 1))))
+    end_values g.S.Sink.Takes g.met.S.Sink.takes_more (upper_item style inst c.args.c) _ c.loop-k.k inst.periods
+    (omega arith)
+    (sym (map-list_of (count_number style) inst.periods (λ k. upper_of inst c.args.c (k + 1))))
     c.loop-k.invariant.values c.put-2.ensures.text

@@ -4,7 +4,8 @@ use Rattle.instance_writer.proofs.resources.put_upper.Given as goal
 
 abbrev pub invariant-loop-k : goal.invariant-loop-k
 invariant-loop-k g l =
+    let style = g.N.Numerals.style in
     record {
       ready : g.S.Sink.IsReady l.sink;
-      values : HasValues g.S.Sink.Takes (upper_item l.inst l.c) l.k l.first l.fn.sink l.sink;
+      values : HasValues g.S.Sink.Takes (upper_item style l.inst l.c) l.k l.first l.fn.sink l.sink;
     }

@@ -2,7 +2,6 @@ use Rattle.std.proofs.Common.{[], ◌∷◌, length, refl, sym, ◌∙◌, ap, a
 use Rattle.std.specs.Prelude.{ℤ, pos}
 use Rattle.std.proofs.lemmas.List.{get_or_default}
 use Rattle.fixed_num.proofs.SignedLemmas.{back_from_abs}
-use Rattle.instance_text.specs.Styles.{decimals}
 use Rattle.instance_text.specs.Written.{count_number}
 use Rattle.instance_writer.specs.Steps.{values_text}
 use Rattle.instance_writer.proofs.ListLemmas.{map-counts}
@@ -18,20 +17,22 @@ loop-z-init g c = record {
 
 pub loop-z-preserved : goal.loop-z-preserved
 loop-z-preserved g c =
+    let style = g.N.Numerals.style in
     let counts = c.args.counts.now in
     record {
       ready = c.put_count.ensures.ready;
-      values = next_values g.S.Sink.Takes g.met.S.Sink.takes_more (count_item counts) c.loop-z.z-index
+      values = next_values g.S.Sink.Takes g.met.S.Sink.takes_more (count_item style counts) c.loop-z.z-index
           c.loop-z.invariant.values
           (respelled g.S.Sink.Takes
-          (ap (λ (z : ℤ). values_text c.loop-z.first (count_number decimals z ∷ []))
+          (ap (λ (z : ℤ). values_text c.loop-z.first (count_number style z ∷ []))
           (back_from_abs c.count.result (omega (arith, c.count.ensures.small)) ∙ c.count.ensures.value ∙ c.z-item.is
           ∙ get_or_default counts c.loop-z.z-index _ (pos 0) c.loop-z-test.true)) c.put_count.ensures.text) refl;
     }
 
 pub returns-clause-text : goal.returns-clause-text
 returns-clause-text g c =
+    let style = g.N.Numerals.style in
     let counts = c.args.counts.now in
-    end_values g.S.Sink.Takes g.met.S.Sink.takes_more (count_item counts) _ c.loop-z.z-index (length counts)
+    end_values g.S.Sink.Takes g.met.S.Sink.takes_more (count_item style counts) _ c.loop-z.z-index (length counts)
     (omega arith)
-    (sym (map-counts counts)) c.loop-z.invariant.values c.put-2.ensures.text
+    (sym (map-counts style counts)) c.loop-z.invariant.values c.put-2.ensures.text

@@ -1,6 +1,5 @@
 use Rattle.std.proofs.Common.{ap, arith}
 use Rattle.instance_model.specs.Tables.{Tables}
-use Rattle.instance_text.specs.Styles.{decimals}
 use Rattle.instance_writer.specs.Steps.{period_risks}
 use Rattle.instance_writer.proofs.ViewLemmas.{same_periods}
 use Rattle.instance_writer.proofs.LoopLemmas.{begin_fields, next_fields, end_fields}
@@ -15,18 +14,20 @@ loop-k-init g c = record {
 
 pub loop-k-preserved : goal.loop-k-preserved
 loop-k-preserved g c =
+    let style = g.N.Numerals.style in
     let view = g.V.InstanceView.tables c.args.view.now in
     record {
       ready = c.put_period_risks-first.ensures.ready;
       fields = next_fields g.S.Sink.Takes g.met.S.Sink.takes_more
-          (numbered_item (period_risks decimals view c.args.i)) c.loop-k.k c.loop-k.invariant.fields
+          (numbered_item (period_risks style view c.args.i)) c.loop-k.k c.loop-k.invariant.fields
           c.put_period_risks-first.ensures.text c.put_period_risks-first.ensures.first;
     }
 
 pub returns-clause-text : goal.returns-clause-text
 returns-clause-text g c =
+    let style = g.N.Numerals.style in
     let view = g.V.InstanceView.tables c.args.view.now in
-    end_fields g.S.Sink.Takes g.met.S.Sink.takes_more (numbered_item (period_risks decimals view c.args.i)) c.loop-k.k
+    end_fields g.S.Sink.Takes g.met.S.Sink.takes_more (numbered_item (period_risks style view c.args.i)) c.loop-k.k
     view.periods
     (omega (
       arith,

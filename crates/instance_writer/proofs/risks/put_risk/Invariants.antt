@@ -1,4 +1,3 @@
-use Rattle.instance_text.specs.Styles.{decimals}
 use Rattle.instance_writer.specs.Steps.{period_risks}
 use Rattle.instance_writer.proofs.LoopLemmas.{HasFields}
 use Rattle.instance_writer.proofs.Items.{numbered_item}
@@ -6,8 +5,9 @@ use Rattle.instance_writer.proofs.risks.put_risk.Given as goal
 
 abbrev pub invariant-loop-k : goal.invariant-loop-k
 invariant-loop-k g l =
+    let style = g.N.Numerals.style in
     let view = g.V.InstanceView.tables l.view in
     record {
       ready : g.S.Sink.IsReady l.sink;
-      fields : HasFields g.S.Sink.Takes (numbered_item (period_risks decimals view l.i)) l.k l.first l.fn.sink l.sink;
+      fields : HasFields g.S.Sink.Takes (numbered_item (period_risks style view l.i)) l.k l.first l.fn.sink l.sink;
     }

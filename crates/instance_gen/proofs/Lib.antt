@@ -1,0 +1,10 @@
+mod StepLemmas
+mod DurationLemmas
+mod PartLemmas
+mod NameLemmas
+mod RunLemmas
+mod DrawnLemmas
+mod FitLemmas
+mod TableLemmas
+mod SpellLemmas
+mod LawLemmas
