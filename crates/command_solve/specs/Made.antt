@@ -7,7 +7,6 @@ use Rattle.instance_model.specs.Limits.{standard_limits}
 use Rattle.instance_model.specs.Tables.{Tables}
 use Rattle.instance_model.specs.Plans.{AreAllowedStarts}
 use Rattle.instance_model.specs.Rules.{IsFeasible}
-use Rattle.instance_model.specs.Keys.{IsOpening}
 use Rattle.plan_score.specs.declared.values.Values.{Values}
 use Rattle.plan_moves.specs.declared.change.Change.{Change}
 use Rattle.plan_moves.specs.Scripts.{NamesKnown, line_of}
@@ -26,21 +25,14 @@ use Rattle.command_frame.specs.Refusals.{SaysOrFails}
 use Rattle.command_frame.specs.Writing.{TellsAnswer}
 use Rattle.command_evaluate.specs.Evaluating.{EnclosesEveryReading}
 use Rattle.command_check.specs.Accepting.{IsShortValid}
-use Rattle.command_solve.specs.declared.opening.Opening.{Opening}
-use Rattle.command_solve.specs.declared.opening.Opening.TheVariants.{From, Without}
 use Rattle.command_solve.specs.declared.making.Descended.{Descended}
 use Rattle.command_solve.specs.declared.solution.Solution.{Solution}
 use Rattle.command_solve.specs.declared.solve.SolveFiles.{SolveFiles as SolveNames}
-use Rattle.command_solve.specs.Solved.{end_of, IsTrail, IsSolved, AreEnough, IsWithoutStart}
+use Rattle.command_solve.specs.Solved.{end_of, IsTrail, IsSolved, AreEnough}
 use Rattle.command_solve.specs.Solving.{SolveFiles, counts_text, found_report, nothing_report, none_report}
 use Rattle.command_solve.specs.Solving.{cert_write, trail_write, plan_write, Solves}
 
 -- ---- the descent and the search
-
--- from what a descent sets out
-abbrev pub OpensAs : Tables → Opening → Type 0
-OpensAs inst (From starts) = IsOpening inst starts
-OpensAs inst (Without i) = IsWithoutStart inst i
 
 -- what a descent from an opening plan came to
 pub record IsDescended (inst : Tables) (turns : ℕ) (opening : List ℕ) (descended : Descended) : Type 0 where

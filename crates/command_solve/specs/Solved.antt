@@ -21,6 +21,8 @@ use Rattle.branch_tree.specs.Trees.{leaves, root_box}
 use Rattle.price_ladder.specs.Raised.{IsRaised, root_worth, least_total}
 use Rattle.branch_search.specs.declared.tree_end.TreeEnd.{TreeEnd}
 use Rattle.branch_search.specs.Searched.{IsSearched, IsUnfinishedLeaf}
+use Rattle.command_solve.specs.declared.opening.Opening.{Opening}
+use Rattle.command_solve.specs.declared.opening.Opening.TheVariants.{From, Without}
 
 -- ---- the descent
 
@@ -105,3 +107,8 @@ pub record IsWithoutStart (inst : Tables) (i : ℕ) : Type 0 where
 -- the certificate of one leaf that says so
 abbrev pub empty_certificate : ℕ → Certificate
 empty_certificate i = record { version = Two; bound = NoPlan; lists = []; nodes = Empty i ∷ [] }
+
+-- the plan from which a descent sets out, or the first intervention without an allowed start
+abbrev pub OpensAs : Tables → Opening → Type 0
+OpensAs inst (From starts) = IsOpening inst starts
+OpensAs inst (Without i) = IsWithoutStart inst i

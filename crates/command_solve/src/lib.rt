@@ -11,4 +11,7 @@ mod solve;
 #[cfg(test)]
 mod tests;
 
+pub use making::{given_end, is_feasible, present_starts};
+pub use opening::{Opening, opening_of};
+pub use report::{push_count, split_count};
 pub use solve::{SolveFiles, solve_files};

@@ -56,7 +56,7 @@ pub(crate) fn make<R: Row>(
         &RiskGoal,
         inst,
         Some(&prices),
-        given(inst, &descended),
+        given_end(inst, &descended.starts, descended.feasible),
         turns,
     )?;
     Ok(Made {
@@ -65,19 +65,15 @@ pub(crate) fn make<R: Row>(
     })
 }
 
-/// The end of a descent, where it keeps the rules.
-fn given<'a>(inst: &Instance, descended: &'a Descended) -> Option<&'a [u32]>
-    requires allowed { AreAllowedStarts inst.now descended.now.starts }
-    requires feasible { IsTrue descended.now.feasible ↔ IsFeasible inst.now (map Some descended.now.starts) }
-    ensures given { IsGiven inst.now descended.now.starts (option_map (λ starts. starts.now) result) }
+/// The end of a descent, where it keeps the rules: the plan that a search is given.
+pub fn given_end<'a>(inst: &Instance, end: &'a Starts, feasible: bool) -> Option<&'a [u32]>
+    requires allowed { AreAllowedStarts inst.now end.now }
+    requires feasible { IsTrue feasible ↔ IsFeasible inst.now (map Some end.now) }
+    ensures given { IsGiven inst.now end.now (option_map (λ starts. starts.now) result) }
     ensures plan { IfSome result (λ starts. IsFeasiblePlan inst.now starts.now) }
 {
     let _inst = inst;
-    if descended.feasible {
-        Some(descended.starts.as_slice())
-    } else {
-        None
-    }
+    if feasible { Some(end.as_slice()) } else { None }
 }
 
 /// Descends from the opening plan. What is kept for the descent is let go at its end.
@@ -102,7 +98,7 @@ fn descend_from<R: Row>(
 }
 
 /// The starts of the present plan.
-fn present_starts<R: Row>(
+pub fn present_starts<R: Row>(
     alloc: Global,
     inst: &Instance,
     kept: &Kept<'_, R>,
@@ -119,7 +115,7 @@ fn present_starts<R: Row>(
 }
 
 /// Whether the present plan keeps the rules.
-fn is_feasible<R: Row>(inst: &Instance, kept: &Kept<'_, R>) -> bool
+pub fn is_feasible<R: Row>(inst: &Instance, kept: &Kept<'_, R>) -> bool
     requires { kept.now.instance ≡ inst.now }
     ensures { IsTrue result ↔ IsFeasible inst.now (map Some (present kept.now.plans)) }
 {

@@ -1,6 +1,6 @@
 //! Where a descent sets out.
 ghost use Rattle.std.specs.Prelude.{IfOk};
-ghost use Rattle.command_solve.specs.Made.{OpensAs};
+ghost use Rattle.command_solve.specs.Solved.{OpensAs};
 
 use duration_calendar::first_allowed;
 use instance_model::{Instance, Starts};
@@ -8,7 +8,7 @@ use std::alloc::{AllocError, Global};
 
 /// The plan from which a descent sets out, or why there is none.
 #[derive(Drop)]
-pub(crate) enum Opening {
+pub enum Opening {
     /// The least allowed start of each intervention.
     From(Starts),
     /// The first intervention without an allowed start.
@@ -16,7 +16,7 @@ pub(crate) enum Opening {
 }
 
 /// The plan of the least allowed starts.
-pub(crate) fn opening_of(alloc: Global, inst: &Instance) -> Result<Opening, AllocError>
+pub fn opening_of(alloc: Global, inst: &Instance) -> Result<Opening, AllocError>
     ensures { IfOk result (OpensAs inst.now) }
 {
     inst.fits();

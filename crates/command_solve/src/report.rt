@@ -80,8 +80,8 @@ fn push_counts(
     push_rounded(text, inst.rounded())
 }
 
-// Adds a word and a number.
-fn push_count(text: &mut Text, word: &str, n: u64) -> Result<(), AllocError>
+/// Adds a line of a word and a number.
+pub fn push_count(text: &mut Text, word: &str, n: u64) -> Result<(), AllocError>
     ensures { OnOk result (text.new ≡ text.old ++ count_line word.now n) }
 {
     text.push(word)?;
@@ -90,8 +90,8 @@ fn push_count(text: &mut Text, word: &str, n: u64) -> Result<(), AllocError>
     text.push("\n")
 }
 
-// How many nodes are splits.
-fn split_count(nodes: &[Node]) -> u64
+/// How many nodes are splits.
+pub fn split_count(nodes: &[Node]) -> u64
     ensures { result ≡ split_count nodes.now }
 {
     let mut count: u64 = 0;

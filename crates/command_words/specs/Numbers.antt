@@ -1,4 +1,4 @@
--- File words, slacks, turns and periods. A word is the list of its bytes.
+-- File words, slacks, turns, periods, seeds and counts. A word is the list of its bytes.
 use Rattle.std.specs.Prelude.{ℕ, ◌-◌, ◌*◌, ◌^◌, List, length, take, drop, codes, bytes_eq, nat_le, nat_lt, ◌&&◌, not, Bool}
 use Rattle.std.specs.Prelude.{Option, Some, None, if◌then◌else◌}
 use Rattle.instance_shape.specs.Keys.{all_bytes, is_digit, number_of}
@@ -31,11 +31,15 @@ slack_count d =
 abbrev pub slack_of : List ℕ → Option ℕ
 slack_of word = if bytes_eq (take 6 word) (codes "slack=") then slack_count (drop 6 word) else None
 
+-- 1 to `most` digits, the first of which is no needless zero
+abbrev pub is_numeral_within : (most : ℕ) → List ℕ → Bool
+is_numeral_within most word =
+    nat_le 1 (length word) && nat_le (length word) most
+    && not (nat_lt 1 (length word) && bytes_eq (take 1 word) (codes "0")) && all_bytes is_digit word
+
 -- 1 to 7 digits, the first of which is no needless zero
 abbrev pub is_numeral : List ℕ → Bool
-is_numeral word =
-    nat_le 1 (length word) && nat_le (length word) 7 && not (nat_lt 1 (length word) && bytes_eq (take 1 word) (codes "0"))
-    && all_bytes is_digit word
+is_numeral word = is_numeral_within 7 word
 
 -- turns: such a numeral, at most 1,000,000
 abbrev pub turns_of : List ℕ → Option ℕ
@@ -45,3 +49,13 @@ turns_of word = if is_numeral word && nat_le (number_of word) 1_000_000 then Som
 abbrev pub period_of : List ℕ → Option ℕ
 period_of word =
     if is_numeral word && nat_le 1 (number_of word) && nat_le (number_of word) 512 then Some (number_of word) else None
+
+-- the number that an instance is drawn from: such a numeral of at most 20 digits, below 2^64
+abbrev pub seed_of : List ℕ → Option ℕ
+seed_of word =
+    if is_numeral_within 20 word && nat_lt (number_of word) (2 ^ 64) then Some (number_of word) else None
+
+-- how many interventions it has: such a numeral, from 1 to 200
+abbrev pub count_of : List ℕ → Option ℕ
+count_of word =
+    if is_numeral word && nat_le 1 (number_of word) && nat_le (number_of word) 200 then Some (number_of word) else None

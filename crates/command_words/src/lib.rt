@@ -1,6 +1,6 @@
-//! Words that several commands have: a slack, turns and periods.
+//! Words that are numbers: slacks, turns, periods, seeds and counts.
 #![tactic(auto)]
 
 mod numbers;
 
-pub use numbers::{period_of, slack_of, turns_of};
+pub use numbers::{count_of, period_of, seed_of, slack_of, turns_of};

@@ -18,7 +18,7 @@ returns g c =
       not_below_zeros = p.not_below_zeros;
       few_exclusions = p.few_exclusions;
     })
-    (option_map (λ starts. starts.now) c.given.result) c.given.ensures.given c.in_ok-answer.answer
+    (option_map (λ starts. starts.now) c.given_end.result) c.given_end.ensures.given c.in_ok-answer.answer
     (record {
       searched = a.searched;
       valid = a.valid;

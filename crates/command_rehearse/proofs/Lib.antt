@@ -1,0 +1,4 @@
+-- Lemmas of the command.
+pub mod UndoneLemmas
+pub mod RehearsalLemmas
+pub mod RehearseRun

@@ -1,0 +1,3 @@
+-- What the contract of the command cites.
+pub mod Rehearsed
+pub mod Rehearsing
