@@ -2,7 +2,7 @@
 use Rattle.std.proofs.Common.{◌≡◌, ℕ, List, Option, Some, None, refl, sym, ◌∙◌, ap, subst}
 use Rattle.plan_desk.specs.Desk.{Shown}
 use Rattle.plan_desk.specs.Contents.{Says, KeepsFiles}
-use Rattle.planner_cli.specs.Words.{Command, evaluate, replay, check, solve, table, rebound, roll}
+use Rattle.planner_cli.specs.Words.{Command, evaluate, replay, check, solve, table, rebound, roll, rehearse}
 use Rattle.planner_cli.specs.Words.{command_of}
 use Rattle.command_frame.specs.Lines.{words_line}
 use Rattle.command_frame.specs.Ending.{Answer, reply, Ends}
@@ -62,6 +62,7 @@ outcome_refused words old new status none keeps says =
       tabulates = λ source plan from to asks. absurd (apart words (table source plan from to) none asks);
       rebounds = λ source cert out asks. absurd (apart words (rebound source cert out) none asks);
       rolls = λ files period asks. absurd (apart words (roll files period) none asks);
+      rehearses = λ seed count asks. absurd (apart words (rehearse seed count) none asks);
       quiet = run.quiet;
       later = run.later;
     }

@@ -9,8 +9,8 @@ use Rattle.planner_cli.specs.Words.{replaying, checking, evaluate_of, replay_of,
 use Rattle.planner_cli.specs.Words.{solve, are_file_words, are_apart, solving, solve_files, solve_of}
 use Rattle.planner_cli.specs.Words.{table, tabling, table_of, after_check, after_replay, after_evaluate}
 use Rattle.planner_cli.specs.Words.{after_solve, after_table, names_differ, rebound, rebounding, rebound_of, roll, rolling}
-use Rattle.planner_cli.specs.Words.{roll_files, roll_of}
-use Rattle.command_words.specs.Numbers.{is_file_word, slack_of, turns_of, period_of}
+use Rattle.planner_cli.specs.Words.{roll_files, roll_of, after_rebound, rehearse, rehearsing, rehearse_of}
+use Rattle.command_words.specs.Numbers.{is_file_word, slack_of, turns_of, period_of, seed_of, count_of}
 use Rattle.command_solve.specs.Solving.{SolveFiles}
 use Rattle.command_roll.specs.Rolling.{RollFiles}
 
@@ -133,6 +133,19 @@ many_roll (a ∷ b ∷ d ∷ e ∷ []) h = refl
 many_roll (a ∷ b ∷ d ∷ e ∷ f ∷ []) h = absurd (omega (arith, h))
 many_roll (a ∷ b ∷ d ∷ e ∷ f ∷ k ∷ words) h = refl
 
+pub few_rehearse : (words : List (List ℕ)) → length words < 3 → rehearse_of words ≡ None
+few_rehearse [] h = refl
+few_rehearse (a ∷ []) h = refl
+few_rehearse (a ∷ b ∷ []) h = refl
+few_rehearse (a ∷ b ∷ d ∷ words) h = absurd (omega (arith, h))
+
+pub many_rehearse : (words : List (List ℕ)) → 3 < length words → rehearse_of words ≡ None
+many_rehearse [] h = refl
+many_rehearse (a ∷ []) h = refl
+many_rehearse (a ∷ b ∷ []) h = refl
+many_rehearse (a ∷ b ∷ d ∷ []) h = absurd (omega (arith, h))
+many_rehearse (a ∷ b ∷ d ∷ e ∷ words) h = refl
+
 -- ---- a parser answers where word 1 is its command
 
 first : List (List ℕ) → List ℕ
@@ -141,6 +154,10 @@ first (word ∷ words) = word
 
 no_answer : (c : Command) → None ≡ Some c → ⊥
 no_answer c e = cc
+
+if_one : (a : Bool) (x c : Command) → (if a then Some x else None) ≡ Some c → a ≡ true
+if_one true x c e = refl
+if_one false x c e = absurd (no_answer c e)
 
 if_three : (a b d : Bool) (x c : Command) → (if a && b && d then Some x else None) ≡ Some c → a ≡ true
 if_three true b d x c e = refl
@@ -205,6 +222,13 @@ rolling_named name files None c e = absurd (no_answer c e)
 rolling_named name files (Some period) c e =
     if_five (bytes_eq name (codes "roll")) (is_file_word files.instance) (is_file_word files.plan)
     (is_file_word files.out) (names_differ files.instance files.plan files.out) (roll files period) c e
+
+rehearsing_named : (name : List ℕ) (seed count : Option ℕ) (c : Command) → rehearsing name seed count ≡ Some c
+    → bytes_eq name (codes "rehearse") ≡ true
+rehearsing_named name None count c e = absurd (no_answer c e)
+rehearsing_named name (Some seed) None c e = absurd (no_answer c e)
+rehearsing_named name (Some seed) (Some count) c e =
+    if_one (bytes_eq name (codes "rehearse")) (rehearse seed count) c e
 
 evaluate_named : (words : List (List ℕ)) (c : Command) → evaluate_of words ≡ Some c
     → bytes_eq (first words) (codes "evaluate") ≡ true
@@ -287,6 +311,15 @@ roll_named (a ∷ b ∷ d ∷ f ∷ []) c e = absurd (no_answer c e)
 roll_named (a ∷ b ∷ d ∷ f ∷ k ∷ []) c e = rolling_named a (roll_files b d k) (period_of f) c e
 roll_named (a ∷ b ∷ d ∷ f ∷ k ∷ l ∷ words) c e = absurd (no_answer c e)
 
+rehearse_named : (words : List (List ℕ)) (c : Command) → rehearse_of words ≡ Some c
+    → bytes_eq (first words) (codes "rehearse") ≡ true
+unfolding first
+rehearse_named [] c e = absurd (no_answer c e)
+rehearse_named (a ∷ []) c e = absurd (no_answer c e)
+rehearse_named (a ∷ b ∷ []) c e = absurd (no_answer c e)
+rehearse_named (a ∷ b ∷ d ∷ []) c e = rehearsing_named a (seed_of b) (count_of d) c e
+rehearse_named (a ∷ b ∷ d ∷ f ∷ words) c e = absurd (no_answer c e)
+
 -- a word is one name
 one_name : (word a b : List ℕ) → bytes_eq word a ≡ true → bytes_eq word b ≡ true → a ≡ b
 one_name word a b x y = sym ((bytes_eq-Decides word a).0 x) ∙ (bytes_eq-Decides word b).0 y
@@ -351,6 +384,12 @@ module _ (words : List (List ℕ)) (name : List ℕ) (c : Command) (named : byte
       found_later (rebound_of words) rest c
       (λ d also. two_names words (codes "rebound") name apart (rebound_named words d also) named) e
 
+  past_roll : (rest : Option Command) → bytes_eq (codes "roll") name ≡ false → rest ≡ Some c
+      → or_else (roll_of words) rest ≡ Some c
+  past_roll rest apart e =
+      found_later (roll_of words) rest c
+      (λ d also. two_names words (codes "roll") name apart (roll_named words d also) named) e
+
 pub one_command : (words : List (List ℕ)) → IsOneCommand words
 one_command words =
     record {
@@ -383,7 +422,7 @@ one_command words =
           (past_check words (codes "rebound") c named (after_check words) refl
           (past_solve words (codes "rebound") c named (after_solve words) refl
           (past_table words (codes "rebound") c named (after_table words) refl
-          (found (rebound_of words) (roll_of words) c e)))));
+          (found (rebound_of words) (after_rebound words) c e)))));
       rolls = λ c e.
           let named = roll_named words c e in
           past_evaluate words (codes "roll") c named (after_evaluate words) refl
@@ -391,5 +430,15 @@ one_command words =
           (past_check words (codes "roll") c named (after_check words) refl
           (past_solve words (codes "roll") c named (after_solve words) refl
           (past_table words (codes "roll") c named (after_table words) refl
-          (past_rebound words (codes "roll") c named (roll_of words) refl e)))));
+          (past_rebound words (codes "roll") c named (after_rebound words) refl
+          (found (roll_of words) (rehearse_of words) c e))))));
+      rehearses = λ c e.
+          let named = rehearse_named words c e in
+          past_evaluate words (codes "rehearse") c named (after_evaluate words) refl
+          (past_replay words (codes "rehearse") c named (after_replay words) refl
+          (past_check words (codes "rehearse") c named (after_check words) refl
+          (past_solve words (codes "rehearse") c named (after_solve words) refl
+          (past_table words (codes "rehearse") c named (after_table words) refl
+          (past_rebound words (codes "rehearse") c named (after_rebound words) refl
+          (past_roll words (codes "rehearse") c named (rehearse_of words) refl e))))));
     }

@@ -2,8 +2,8 @@
 use Rattle.std.specs.Prelude.{◌≤◌, ⊤, option_copied}
 use Rattle.planner_cli.specs.declared.words.Command.{Command as CommandWords}
 use Rattle.planner_cli.specs.declared.words.Command.TheVariants.{Evaluate, Replay, Check, Solve, Table}
-use Rattle.planner_cli.specs.declared.words.Command.TheVariants.{Rebound, Roll}
-use Rattle.planner_cli.specs.Words.{Command, evaluate, replay, check, solve, table, rebound, roll}
+use Rattle.planner_cli.specs.declared.words.Command.TheVariants.{Rebound, Roll, Rehearse}
+use Rattle.planner_cli.specs.Words.{Command, evaluate, replay, check, solve, table, rebound, roll, rehearse}
 use Rattle.command_frame.specs.Sources.{source_view}
 use Rattle.command_solve.specs.Solving.{AreDistinct}
 use Rattle.command_solve.specs.Made.{files_view}
@@ -17,9 +17,10 @@ command_view (Solve source files turns) = solve (source_view source) (files_view
 command_view (Table source plan from to) = table (source_view source) plan.now from to
 command_view (Rebound source certificate out) = rebound (source_view source) certificate.now out.now
 command_view (Roll files period) = roll (roll_files_view files) period
+command_view (Rehearse seed count) = rehearse seed count
 
 -- What a command needs of its words: `solve` not too many turns, and names that differ; `table` a first period from 1;
--- `roll` a period from 1 to 512.
+-- `roll` a period from 1 to 512; `rehearse` from 1 to 200 interventions.
 abbrev pub CanRun : Command → Type 0
 CanRun (evaluate source plan) = ⊤
 CanRun (replay source plan script) = ⊤
@@ -28,3 +29,4 @@ CanRun (solve source files turns) = (turns ≤ 1_000_000) × AreDistinct source.
 CanRun (table source plan from to) = 1 ≤ from
 CanRun (rebound source certificate out) = ⊤
 CanRun (roll files period) = (1 ≤ period) × (period ≤ 512)
+CanRun (rehearse seed count) = (1 ≤ count) × (count ≤ 200)

@@ -6,7 +6,7 @@ use Rattle.plan_desk.specs.Desk.{Shown}
 use Rattle.plan_desk.specs.Contents.{Says}
 use Rattle.instance_model.specs.Limits.{standard_limits}
 use Rattle.command_frame.specs.Sources.{Source}
-use Rattle.planner_cli.specs.Words.{Command, evaluate, replay, check, solve, table, rebound, roll}
+use Rattle.planner_cli.specs.Words.{Command, evaluate, replay, check, solve, table, rebound, roll, rehearse}
 use Rattle.planner_cli.specs.Words.{command_of}
 use Rattle.command_frame.specs.Lines.{words_line}
 use Rattle.command_frame.specs.Ending.{Answer, reply, IsQuiet, SayFails, IsUnsaid, Ends}
@@ -17,6 +17,7 @@ use Rattle.command_solve.specs.Solving.{SolveFiles, RunsSolve}
 use Rattle.command_table.specs.Tabling.{RunsTable}
 use Rattle.command_rebound.specs.Rebinding.{RunsRebound}
 use Rattle.command_roll.specs.Rolling.{RollFiles, RunsRoll}
+use Rattle.command_rehearse.specs.Rehearsing.{RunsRehearse}
 
 -- the words ask for this command
 abbrev pub Asks : List (List ℕ) → Command → Type 0
@@ -65,6 +66,7 @@ pub record Outcome (words : List (List ℕ)) (old new : Shown) (status : ℕ) : 
       → RunsRebound standard_limits source cert out old new status
   pub rolls : (files : RollFiles) (period : ℕ) → Asks words (roll files period)
       → RunsRoll standard_limits files period old new status
+  pub rehearses : (seed count : ℕ) → Asks words (rehearse seed count) → RunsRehearse seed count old new status
   -- the last fault is what it was, but at 7 and 8, and faults never fall
   pub quiet : IsQuiet status old new
   pub later : old.faults ≤ new.faults

@@ -2,7 +2,7 @@
 use Rattle.std.specs.Prelude.{◌≡◌, ℕ, List, [], ◌∷◌, codes, bytes_eq, nat_le, ◌&&◌, not, Bool, Option, Some, None}
 use Rattle.std.specs.Prelude.{if◌then◌else◌}
 use Rattle.instance_model.specs.Rules.{or_else}
-use Rattle.command_words.specs.Numbers.{is_file_word, slack_of, turns_of, period_of}
+use Rattle.command_words.specs.Numbers.{is_file_word, slack_of, turns_of, period_of, seed_of, count_of}
 use Rattle.command_frame.specs.Sources.{Source}
 use Rattle.command_solve.specs.Solving.{SolveFiles}
 use Rattle.command_roll.specs.Rolling.{RollFiles}
@@ -10,7 +10,8 @@ use Rattle.command_roll.specs.Rolling.{RollFiles}
 -- What a command line asks for, with the names of its files: the plan is word 3, the script or the certificate word 4,
 -- and the trail of a solution word 5. A check may be without a plan. A table has two periods, words 4 and 5. What is
 -- rebound has its certificate as word 3, and is written to word 4; what is rolled has its period as word 4, and is
--- written to word 5.
+-- written to word 5. A rehearsal has no file: the number that its instance is drawn from is word 2, and how many
+-- interventions that has is word 3.
 pub data Command : Type 0 where
   evaluate : (source : Source) (plan : List ℕ) → Command
   replay : (source : Source) (plan script : List ℕ) → Command
@@ -19,8 +20,9 @@ pub data Command : Type 0 where
   table : (source : Source) (plan : List ℕ) (from to : ℕ) → Command
   rebound : (source : Source) (certificate out : List ℕ) → Command
   roll : (files : RollFiles) (period : ℕ) → Command
+  rehearse : (seed count : ℕ) → Command
 
--- how far the bands of a command's instance are widened, in 10^-12; those of what is rolled never are
+-- how far the bands of a command's instance are widened, in 10^-12; those of what is rolled or drawn never are
 abbrev pub slack_in : Command → ℕ
 slack_in (evaluate source plan) = source.slack
 slack_in (replay source plan script) = source.slack
@@ -29,6 +31,7 @@ slack_in (solve source files turns) = source.slack
 slack_in (table source plan from to) = source.slack
 slack_in (rebound source certificate out) = source.slack
 slack_in (roll files period) = 0
+slack_in (rehearse seed count) = 0
 
 -- `evaluate INSTANCE PLAN` with a slack
 abbrev pub evaluation : List ℕ → List ℕ → List ℕ → Option ℕ → Option Command
@@ -110,7 +113,14 @@ rolling name files (Some period) =
     then Some (roll files period)
     else None
 
--- ---- a parser for each command, whose words may end with one word `slack=D`, but those of `roll`
+-- `rehearse SEED N`
+abbrev pub rehearsing : List ℕ → Option ℕ → Option ℕ → Option Command
+rehearsing name None count = None
+rehearsing name (Some seed) None = None
+rehearsing name (Some seed) (Some count) =
+    if bytes_eq name (codes "rehearse") then Some (rehearse seed count) else None
+
+-- ---- a parser for each command, whose words may end with one word `slack=D`, but those of `roll` and `rehearse`
 
 abbrev pub evaluate_of : List (List ℕ) → Option Command
 evaluate_of (name ∷ instance ∷ plan ∷ []) = evaluation name instance plan (Some 0)
@@ -158,9 +168,16 @@ abbrev pub roll_of : List (List ℕ) → Option Command
 roll_of (name ∷ instance ∷ plan ∷ period ∷ out ∷ []) = rolling name (roll_files instance plan out) (period_of period)
 roll_of words = None
 
+abbrev pub rehearse_of : List (List ℕ) → Option Command
+rehearse_of (name ∷ seed ∷ count ∷ []) = rehearsing name (seed_of seed) (count_of count)
+rehearse_of words = None
+
 -- what the parsers behind each command answer
+abbrev pub after_rebound : List (List ℕ) → Option Command
+after_rebound words = or_else (roll_of words) (rehearse_of words)
+
 abbrev pub after_table : List (List ℕ) → Option Command
-after_table words = or_else (rebound_of words) (roll_of words)
+after_table words = or_else (rebound_of words) (after_rebound words)
 
 abbrev pub after_solve : List (List ℕ) → Option Command
 after_solve words = or_else (table_of words) (after_table words)
@@ -187,3 +204,4 @@ pub record IsOneCommand (words : List (List ℕ)) : Type 0 where
   pub tabulates : (c : Command) → table_of words ≡ Some c → command_of words ≡ Some c
   pub rebounds : (c : Command) → rebound_of words ≡ Some c → command_of words ≡ Some c
   pub rolls : (c : Command) → roll_of words ≡ Some c → command_of words ≡ Some c
+  pub rehearses : (c : Command) → rehearse_of words ≡ Some c → command_of words ≡ Some c

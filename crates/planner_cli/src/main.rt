@@ -8,6 +8,8 @@ mod check_tests;
 #[cfg(test)]
 mod output_tests;
 #[cfg(test)]
+mod rehearse_tests;
+#[cfg(test)]
 mod replay_tests;
 mod run;
 #[cfg(test)]

@@ -145,6 +145,9 @@ fn rows_hold_the_keys(rt: HostRuntime) -> Result<(), Fail> {
     let (status, said) = replays::<NoRow>(alloc, &mut desk)?;
     assert_eq!(rt; status, 11);
     assert_eq!(rt; said.as_slice(), b"refused memory\n".as_slice());
+    let words = owned(alloc, &["rehearse", "7", "40"])?;
+    let mut desk = MemDesk::make(alloc);
+    assert_eq!(rt; run_with::<NoRow, MemDesk>(alloc, &words, &mut desk), 11);
     let words = owned(alloc, &["evaluate", "I", "P"])?;
     let mut desk = scripted(alloc, PLAIN, BOTH, "")?;
     assert_eq!(rt; run_with::<NoRow, MemDesk>(alloc, &words, &mut desk), 0);

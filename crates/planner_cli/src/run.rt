@@ -14,6 +14,7 @@ use command_check::check_files;
 use command_evaluate::evaluate_files;
 use command_frame::{Source, WORDS_LINE, say};
 use command_rebound::rebound_files;
+use command_rehearse::rehearse_drawn;
 use command_replay::replay_files;
 use command_roll::{RollFiles, roll_files};
 use command_solve::solve_files;
@@ -81,6 +82,9 @@ pub fn run_with<R: Row, D: Desk>(alloc: Global, words: &[String], desk: &mut D) 
             },
         ) => rebound_standard(alloc, &source, certificate, out, desk),
         Some(Command::Roll { files, period }) => roll_standard(alloc, &files, period, desk),
+        Some(Command::Rehearse { seed, count }) => {
+            rehearse_drawn::<R, D>(alloc, seed, count, desk)
+        }
     }
 }
 

@@ -4,6 +4,7 @@ ghost use Rattle.planner_cli.specs.Words.{command_of, evaluate_of, replay_of, ch
 ghost use Rattle.planner_cli.specs.Words.{replaying, checking, given_plan, slack_in, solve_of, solving, are_file_words};
 ghost use Rattle.planner_cli.specs.Words.{are_apart, table_of, tabling, names_differ, rebound_of, rebounding, roll_of, rolling};
 ghost use Rattle.planner_cli.specs.Words.{after_evaluate, after_replay, after_check, after_solve, after_table};
+ghost use Rattle.planner_cli.specs.Words.{after_rebound, rehearse_of, rehearsing};
 ghost use Rattle.command_solve.specs.Made.{files_view};
 ghost use Rattle.command_roll.specs.Made.{files_view as roll_files_view};
 ghost use Rattle.planner_cli.specs.Asked.{command_view, CanRun};
@@ -11,7 +12,7 @@ ghost use Rattle.planner_cli.specs.Asked.{command_view, CanRun};
 use command_frame::Source;
 use command_roll::RollFiles;
 use command_solve::SolveFiles;
-use command_words::{period_of, slack_of, turns_of};
+use command_words::{count_of, period_of, seed_of, slack_of, turns_of};
 
 /// What the words ask for, with the names of its files: the plan is word 3, the script or the certificate word 4.
 #[derive(Clone, Copy)]
@@ -54,6 +55,11 @@ pub enum Command<'a> {
     Roll {
         files: RollFiles<'a>,
         period: u32,
+    },
+    /// A rehearsal has a number that its instance is drawn from, word 2, and its number of interventions, word 3.
+    Rehearse {
+        seed: u64,
+        count: u32,
     },
 }
 
@@ -134,7 +140,20 @@ fn after_table(words: &[String]) -> Option<Command<'_>>
 {
     match rebound_of(words) {
         Some(command) => Some(command),
-        None => roll_of(words),
+        None => after_rebound(words),
+    }
+}
+
+// The command of words that are those of no command before `roll`.
+fn after_rebound(words: &[String]) -> Option<Command<'_>>
+    ensures found { IfSome result (λ asked. after_rebound (map string_bytes words.now) ≡ Some (command_view asked)) }
+    ensures none { IfNone result (after_rebound (map string_bytes words.now) ≡ None) }
+    ensures small { IfSome result (λ asked. slack_in (command_view asked) ≤ 1_000_000_000) }
+    ensures can { IfSome result (λ asked. CanRun (command_view asked)) }
+{
+    match roll_of(words) {
+        Some(command) => Some(command),
+        None => rehearse_of(words),
     }
 }
 
@@ -315,6 +334,23 @@ fn roll_of(words: &[String]) -> Option<Command<'_>>
                 out: out.as_str(),
             },
             period_of(period.as_str()),
+        ),
+        _ => None,
+    }
+}
+
+// `rehearse` of these words.
+fn rehearse_of(words: &[String]) -> Option<Command<'_>>
+    ensures found { IfSome result (λ asked. rehearse_of (map string_bytes words.now) ≡ Some (command_view asked)) }
+    ensures none { IfNone result (rehearse_of (map string_bytes words.now) ≡ None) }
+    ensures small { IfSome result (λ asked. slack_in (command_view asked) ≤ 1_000_000_000) }
+    ensures can { IfSome result (λ asked. CanRun (command_view asked)) }
+{
+    match words {
+        [name, seed, count] => rehearsing(
+            name.as_str(),
+            seed_of(seed.as_str()),
+            count_of(count.as_str()),
         ),
         _ => None,
     }
@@ -509,6 +545,23 @@ fn rolling<'a>(name: &str, files: RollFiles<'a>, period: Option<u32>) -> Option<
         return None;
     }
     Some(Command::Roll { files, period })
+}
+
+// `rehearse` of the instance of so many interventions that is drawn from this number.
+fn rehearsing(name: &str, seed: Option<u64>, count: Option<u32>) -> Option<Command<'static>>
+    requires first { IfSome count (λ n. 1 ≤ n) }
+    requires last { IfSome count (λ n. n ≤ 200) }
+    ensures found { IfSome result (λ asked. rehearsing name.now seed count ≡ Some (command_view asked)) }
+    ensures none { IfNone result (rehearsing name.now seed count ≡ None) }
+    ensures small { IfSome result (λ asked. slack_in (command_view asked) ≤ 1_000_000_000) }
+    ensures can { IfSome result (λ asked. CanRun (command_view asked)) }
+{
+    let seed = seed?;
+    let count = count?;
+    if name != "rehearse" {
+        return None;
+    }
+    Some(Command::Rehearse { seed, count })
 }
 
 // Whether three names differ.
