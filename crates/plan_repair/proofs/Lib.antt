@@ -1,2 +1,5 @@
 pub mod WordLemmas
 pub mod OutcomeLemmas
+pub mod AuditComplete
+pub mod RepairComplete
+pub mod CompleteLemmas

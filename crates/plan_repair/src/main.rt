@@ -3,11 +3,13 @@
 //! `run_repair` is the whole program over any device; `main` runs it over real files and standard output.
 #![tactic(auto)]
 
+mod laws;
 mod run;
 #[cfg(test)]
 mod tests;
 mod words;
 
+pub use laws::repairs_are_complete;
 use plan_desk::RealDesk;
 pub use run::{repair_with, run_repair};
 use std::alloc::Global;

@@ -5,6 +5,7 @@
 
 #[cfg(test)]
 mod check_tests;
+mod laws;
 #[cfg(test)]
 mod output_tests;
 #[cfg(test)]
@@ -20,6 +21,7 @@ mod table_tests;
 mod tests;
 mod words;
 
+pub use laws::runs_are_complete;
 use plan_desk::RealDesk;
 pub use run::{rebound_within, roll_within, run, run_with};
 use std::alloc::Global;

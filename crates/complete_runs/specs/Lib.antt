@@ -1,0 +1,2 @@
+-- What the laws of the programs cite.
+pub mod Completing

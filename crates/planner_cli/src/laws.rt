@@ -1,0 +1,13 @@
+//! The law of completeness. The function does nothing: the contract is the law.
+ghost use Rattle.std.specs.Prelude.{ℕ, List};
+ghost use Rattle.plan_desk.specs.Desk.{Shown};
+ghost use Rattle.command_frame.specs.Ending.{NoFault};
+ghost use Rattle.planner_cli.specs.Outcome.{Outcome};
+ghost use Rattle.planner_cli.specs.Complete.{IsComplete};
+
+/// Where the files of the command are read and no fault rose, what `run` promises leaves the statuses of that command
+/// alone, and 11: 0, 1, 5 for a leaf, 6 for a line of the script that fails, 9, 10 or 12.
+pub fn runs_are_complete()
+    ensures { (words : List (List ℕ)) (old new : Shown) (status : ℕ) → Outcome words old new status
+        → NoFault old new → IsComplete words old new status }
+{}
