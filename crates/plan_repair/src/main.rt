@@ -9,7 +9,7 @@ mod tests;
 mod words;
 
 use plan_desk::RealDesk;
-pub use run::{repair_with, run_repair};
+pub use run::run_repair;
 use std::alloc::Global;
 use std::process::ExitCode;
 use std::{env, io};
