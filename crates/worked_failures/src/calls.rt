@@ -55,14 +55,12 @@ fn are_told(alloc: Global, command: Command, call: DeskCall) -> Result<bool, All
 // Whether a run without a failing call ends well, says something, and writes something to each of its files.
 fn is_done(alloc: Global, command: Command) -> Result<bool, AllocError> {
     let ran = ran(alloc, command, None)?;
-    Ok(
-        ran.status == 0
-            && !ran.desk.spoken().is_empty()
-            && command
-                .outputs()
-                .iter()
-                .all(|(_, name)| is_new(ran.desk.file(name))),
-    )
+    for (_, name) in command.outputs() {
+        if !is_new(ran.desk.file(name)) {
+            return Ok(false);
+        }
+    }
+    Ok(ran.status == 0 && !ran.desk.spoken().is_empty())
 }
 
 fn is_new(held: Option<&[u8]>) -> bool {

@@ -135,11 +135,22 @@ impl Case<'_> {
 
     // The files that the command doesn't write are as they were.
     fn keeps_others(&self) -> bool {
-        let outputs = self.command.outputs();
-        FILES.iter().all(|(name, text)| {
-            outputs.iter().any(|(_, output)| output == name) || holds(&self.ran.desk, name, text)
-        })
+        for (name, text) in FILES {
+            if !is_output(self.command, name) && !holds(&self.ran.desk, name, text) {
+                return false;
+            }
+        }
+        true
     }
+}
+
+fn is_output(command: Command, name: &str) -> bool {
+    for (_, output) in command.outputs() {
+        if *output == name {
+            return true;
+        }
+    }
+    false
 }
 
 /// Whether the run makes no further call of this kind after so many; for a write and for what is said, whether so many
@@ -157,7 +168,12 @@ pub(crate) fn are_all(command: Command, call: DeskCall, count: usize) -> bool {
 
 // Whether all files are as they were.
 fn are_old(desk: &MemDesk) -> bool {
-    FILES.iter().all(|(name, text)| holds(desk, name, text))
+    for (name, text) in FILES {
+        if !holds(desk, name, text) {
+            return false;
+        }
+    }
+    true
 }
 
 fn holds(desk: &MemDesk, name: &str, text: &str) -> bool {

@@ -6,10 +6,10 @@ use plan_desk::{DeskCall, MemDesk};
 use std::alloc::{AllocError, Global};
 use std::test::Fail;
 
-/// A text that is an instance up to no byte of it, of three reads with bytes.
+/// A text with a fault in its first byte, which is read in three pieces.
 const FAULTY: [u8; 250] = [b']'; 250];
 
-// The status of a command on an instance file with a fault in its first byte, of which the nth read is to fail.
+// The status of a command on an instance file of this text, of which the nth read is to fail.
 fn status_of_faulty(
     alloc: Global,
     command: Command,
@@ -21,11 +21,14 @@ fn status_of_faulty(
     Ok(command.run(alloc, desk))
 }
 
+// Whether no file was written.
 fn are_old(command: Command, desk: &MemDesk) -> bool {
-    command
-        .outputs()
-        .iter()
-        .all(|(_, name)| desk.file(name) == Some(OLD.as_bytes()))
+    for (_, name) in command.outputs() {
+        if desk.file(name) != Some(OLD.as_bytes()) {
+            return false;
+        }
+    }
+    true
 }
 
 #[test]
@@ -59,7 +62,8 @@ enum Long {
     Certificate,
 }
 
-// The status of a command that reads such a file, of which the first read is within the limit for an instance alone.
+// The status of a command that reads such a file, whose limit an instance passes with its second read, and another
+// file with its first.
 fn status_of_long(alloc: Global, long: Long, desk: &mut MemDesk) -> u8 {
     match long {
         Long::Instance => roll(alloc, 150, ANY, desk),
@@ -68,42 +72,32 @@ fn status_of_long(alloc: Global, long: Long, desk: &mut MemDesk) -> u8 {
     }
 }
 
+// How many reads come before those of such a file.
+fn reads_before(long: Long) -> usize {
+    match long {
+        Long::Instance => 0,
+        Long::Plan | Long::Certificate => reads_of("I"),
+    }
+}
+
 #[test]
 fn no_read_is_made_past_a_limit(rt: HostRuntime) -> Result<(), Fail> {
     let alloc = rt.alloc();
-    let before = u32::try_from(reads_of("I"))?;
-    for (long, nth, status, line) in [
+    for (long, read, status, line) in [
         (Long::Instance, 2, 7, "refused read 2\n"),
         (Long::Instance, 3, 3, "refused instance too long\n"),
-        (Long::Plan, before.saturating_add(1), 7, "refused read 3\n"),
-        (
-            Long::Plan,
-            before.saturating_add(2),
-            4,
-            "refused plan too long\n",
-        ),
-        (
-            Long::Certificate,
-            before.saturating_add(1),
-            7,
-            "refused read 3\n",
-        ),
-        (
-            Long::Certificate,
-            before.saturating_add(2),
-            5,
-            "refused certificate too long\n",
-        ),
+        (Long::Plan, 1, 7, "refused read 3\n"),
+        (Long::Plan, 2, 4, "refused plan too long\n"),
+        (Long::Certificate, 1, 7, "refused read 3\n"),
+        (Long::Certificate, 2, 5, "refused certificate too long\n"),
     ] {
         let mut desk = fresh_desk(alloc)?;
-        desk.fail_at(DeskCall::Read, nth)?;
-        assert_eq!(rt;
-            status_of_long(alloc, long, &mut desk),
-            status,
-            "{long:?} {nth}"
-        );
-        assert_eq!(rt; desk.spoken(), line.as_bytes(), "{long:?} {nth}");
-        assert_eq!(rt; desk.file("O"), Some(OLD.as_bytes()), "{long:?} {nth}");
+        let nth = reads_before(long).saturating_add(read);
+        desk.fail_at(DeskCall::Read, u32::try_from(nth)?)?;
+        let answer = status_of_long(alloc, long, &mut desk);
+        assert_eq!(rt; answer, status, "{long:?} {read}");
+        assert_eq!(rt; desk.spoken(), line.as_bytes(), "{long:?} {read}");
+        assert!(rt; are_old(Command::Roll, &desk), "{long:?} {read}");
     }
     Ok(())
 }
