@@ -8,8 +8,8 @@ use crate::given::{fails_at, is_proved};
 use crate::written::is_rewritten;
 use crate::{Audit, audit_text};
 use branch_certificate::Bound;
-use duration_calendar::run;
-use fixed_num::{Steps, floor_div};
+use duration_calendar::{in_run, run};
+use fixed_num::Steps;
 use instance_gen::{drawn_instance, generate};
 use instance_model::Instance;
 use std::alloc::{AllocError, Global};
@@ -59,11 +59,12 @@ fn share<L: Ledger>(inst: &Instance, i: u32, s: u32, steps: &mut Steps<L>) -> i1
     if !inst.allowed(i, s) {
         return 0;
     }
-    inst.fits();
     let window = run(inst, i, s);
     let mut sum = 0i128;
-    for t in window.from..window.past {
-        sum = sum.saturating_add(share_in(inst, i, s, t, steps));
+    for t in 1..=inst.periods() {
+        if in_run(window, t) {
+            sum = sum.saturating_add(share_in(inst, i, s, t, steps));
+        }
     }
     sum
 }
@@ -81,7 +82,7 @@ fn share_in<L: Ledger>(inst: &Instance, i: u32, s: u32, t: u32, steps: &mut Step
         total = total.saturating_add(risk.count());
     }
     let weighed = total.saturating_mul(i128::from(inst.alpha()));
-    floor_div(weighed, i128::from(inst.scenarios(t)))
+    weighed.div_euclid(i128::from(inst.scenarios(t)))
 }
 
 /// What the deep tree comes to for each of these bounds. The instance is drawn once, and not read from its text.
@@ -103,7 +104,8 @@ fn audit_of(alloc: Global, inst: &Instance, bound: i128) -> Result<Audit, Fail> 
     Ok(audit_text(alloc, inst, text.as_bytes())?)
 }
 
-/// The worth of each leaf that splits the first intervention, and the number above it.
+/// The worth of each leaf at a start of the first intervention, and the number above it. No leaf behind them is the
+/// first that fails: the first intervention adds least at one of these starts, so no box has a lower worth.
 fn edges(alloc: Global, shares: &[i128]) -> Result<Vec<i128>, AllocError> {
     let mut edges = Vec::new(alloc);
     for start in 1..STARTS {
@@ -125,10 +127,11 @@ fn a_deep_tree_of_a_drawn_instance_is_audited_as_its_boxes(rt: HostRuntime) -> R
     Ok(())
 }
 
-/// What a risk of 1 in one scenario of a period adds to a score.
-const ONE: i128 = 62_500_000_000_000_000;
+/// What a risk of 1 in one of eight scenarios adds to a score, where alpha is a half.
+const RISK: i128 = 62_500_000_000_000_000;
 
-/// For a sum of risks the first leaf whose box has no greater one. They were found by another program.
+/// For a sum of risks the first leaf whose box has no greater one. They were found by a program in another language
+/// over the text that `tools/plain_drawn.py` draws.
 const LOWEST: [(i128, u64); 8] = [
     (5740, 1),
     (5425, 4),
@@ -143,7 +146,7 @@ const LOWEST: [(i128, u64); 8] = [
 #[test]
 fn leaves_fail_where_another_program_says_so(rt: HostRuntime) -> Result<(), Fail> {
     for (risks, n) in LOWEST {
-        let bound = risks.saturating_mul(ONE).saturating_add(1);
+        let bound = risks.saturating_mul(RISK).saturating_add(1);
         for audit in audits(rt.alloc(), &[bound])? {
             fails_at(&rt, audit, n);
         }
