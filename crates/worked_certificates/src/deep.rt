@@ -17,7 +17,8 @@ pub const STARTS: u64 = 50;
 const ONE: i128 = 1_000_000_000_000_000_000;
 
 /// The risk of an intervention, counted from 1, at a start: its number at the last start, and before that more, which
-/// falls from intervention to intervention and from start to start, though not at each.
+/// falls from intervention to intervention and from start to start, though not at each. So leaves all along the tree
+/// are the first that fails for some bound, as they aren't on a drawn instance.
 fn risk(i: u64, start: u64) -> u64 {
     if start == STARTS {
         return i;
