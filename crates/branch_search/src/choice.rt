@@ -18,7 +18,6 @@ use crate::cover::{Cover, better};
 use crate::least_plan::LeastPlan;
 use crate::looking::{Room, View, look};
 use crate::piece::least_price;
-use crate::place_loads::PlaceLoads;
 use crate::point::take_starts;
 use crate::reaches::Reaches;
 use crate::splitting::middle;
@@ -28,16 +27,21 @@ use instance_model::Instance;
 use lagrange_bound::{Goal, PriceTable, Prices, Span, worth};
 use std::alloc::{AllocError, Global};
 
-/// What is kept for choices: the loads by place, the plans of least prices by the list of zeros and by the one handed
-/// in, what each intervention reaches, what each place has left, and room.
+/// What is kept for looks by one list: the plan of least prices, and room.
+#[derive(Drop)]
+struct Looker {
+    plan: LeastPlan,
+    room: Room,
+}
+
+/// What is kept for choices: what each intervention reaches, what each place has left, and what is kept for looks by
+/// the list of zeros and by the one handed in.
 #[derive(Drop)]
 pub(crate) struct Chooser {
-    cells: PlaceLoads,
     reaches: Reaches,
     slacks: Slacks,
-    zero: LeastPlan,
-    given: LeastPlan,
-    room: Room,
+    zero: Looker,
+    given: Looker,
 }
 
 /// The middle of an interval of several starts: the last start of its first half.
@@ -47,15 +51,25 @@ fn middle_of(span: Span) -> u32
     span.from + (span.to - span.from) / 2
 }
 
+impl Looker {
+    fn make(alloc: Global, inst: &Instance, reaches: &Reaches) -> Result<Looker, AllocError> {
+        Ok(Looker {
+            plan: LeastPlan::make(alloc, inst)?,
+            room: Room::make(alloc, inst, reaches)?,
+        })
+    }
+}
+
 impl Chooser {
     pub(crate) fn make(alloc: Global, inst: &Instance) -> Result<Chooser, AllocError> {
+        let reaches = Reaches::make(alloc, inst)?;
+        let zero = Looker::make(alloc, inst, &reaches)?;
+        let given = Looker::make(alloc, inst, &reaches)?;
         Ok(Chooser {
-            cells: PlaceLoads::make(alloc, inst)?,
-            reaches: Reaches::make(alloc, inst)?,
+            reaches,
             slacks: Slacks::make(alloc, inst)?,
-            zero: LeastPlan::make(alloc, inst)?,
-            given: LeastPlan::make(alloc, inst)?,
-            room: Room::make(alloc, inst)?,
+            zero,
+            given,
         })
     }
 }
@@ -69,9 +83,8 @@ fn look_by<G: Goal>(
     lists: &[Prices],
     table: &PriceTable,
     boxes: &BoxLoads,
-    cells: &PlaceLoads,
-    plan: &mut LeastPlan,
-    room: &mut Room,
+    reaches: &Reaches,
+    looker: &mut Looker,
     target: i128,
     best: &mut Option<Best>,
 ) -> Result<Option<Cover>, AllocError>
@@ -85,11 +98,14 @@ fn look_by<G: Goal>(
     ensures valued { OnOk result (IsValued (G.value_gives goal.now) inst.now best.new) }
 {
     let spans = boxes.spans();
+    let plan = &mut looker.plan;
+    let room = &mut looker.room;
     plan.follow(inst, table, spans);
+    room.follow(inst, reaches, spans);
     let reached = worth(table, spans);
     let view = View {
         inst,
-        cells,
+        reaches,
         boxes,
         table,
         plan: &*plan,
@@ -221,13 +237,7 @@ fn closing_cut(
     let spans = boxes.spans();
     chooser.reaches.follow(inst, &worths.zero, spans);
     chooser.slacks.follow(inst, boxes);
-    let mut found = band_cut(
-        &chooser.reaches,
-        &chooser.slacks,
-        &mut chooser.room,
-        &worths.zero,
-        spans,
-    );
+    let mut found = band_cut(&chooser.reaches, &chooser.slacks, &worths.zero, spans);
     found = longer(found, exclusion_cut(inst, spans));
     if let Some(best) = best {
         found = longer(found, dearest_cut(worths, spans, best.value));
@@ -282,9 +292,8 @@ fn choose_by_plans<G: Goal>(
 {
     inst.fits();
     let target = target_of(worths, boxes.spans(), best);
-    let cells = &chooser.cells;
-    let room = &mut chooser.room;
-    let zeros = &mut chooser.zero;
+    let reaches = &chooser.reaches;
+    let zero = &mut chooser.zero;
     let first = look_by(
         alloc,
         goal,
@@ -292,18 +301,17 @@ fn choose_by_plans<G: Goal>(
         lists,
         &worths.zero,
         boxes,
-        cells,
-        zeros,
-        room,
+        reaches,
+        zero,
         target,
         best,
     )?;
     let Some(table) = &worths.given else {
         return Ok(split_or_middle(boxes.spans(), &worths.zero, first));
     };
-    let plan = &mut chooser.given;
+    let given = &mut chooser.given;
     let second = look_by(
-        alloc, goal, inst, lists, table, boxes, cells, plan, room, target, best,
+        alloc, goal, inst, lists, table, boxes, reaches, given, target, best,
     )?;
     Ok(split_or_middle(boxes.spans(), table, better(second, first)))
 }

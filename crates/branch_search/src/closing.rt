@@ -5,9 +5,9 @@ ghost use Rattle.lagrange_bound.specs.Boxes.{span_of};
 ghost use Rattle.duration_calendar.specs.Windows.{IsInHorizon};
 ghost use Rattle.box_state.specs.KeptLoads.{IsOver};
 
-use crate::looking::{Room, meets_at, signed};
+use crate::looking::{meets_at, signed};
 use crate::piece::{is_allowed, least_price, load_at, price_at};
-use crate::place_loads::{place_of, places};
+use crate::place_loads::{PlaceCell, load_in, place_of, places};
 use crate::reaches::{Reach, Reaches};
 use box_state::BoxLoads;
 use branch_tree::Side;
@@ -24,11 +24,13 @@ pub(crate) struct Cut {
     pub(crate) last: u32,
 }
 
-/// How far the least load of each place is below its upper limit, and the greatest above its lower limit.
+/// How far the least load of each place is below its upper limit, and the greatest above its lower limit, and the
+/// lesser of these two.
 #[derive(Drop)]
 pub(crate) struct Slacks {
     over: Vec<i128>,
     under: Vec<i128>,
+    lesser: Vec<i128>,
 }
 
 /// The cut that takes off more, the first one where both take off the same.
@@ -108,30 +110,49 @@ pub(crate) fn price_cut(table: &PriceTable, spans: &[Span], lacking: i128) -> Op
     found
 }
 
-/// Whether a start isn't allowed or has more than this load.
-fn is_heavy(prices: &[Option<i128>], loads: &[i128], limit: i128, k: usize) -> bool {
-    !is_allowed(prices, k) || limit < load_at(loads, k)
+/// Whether a start isn't allowed or has more than this load, with the other sign for a lower limit.
+fn is_heavy(
+    prices: &[Option<i128>],
+    cells: &[PlaceCell],
+    side: Side,
+    limit: i128,
+    k: usize,
+) -> bool {
+    if !is_allowed(prices, k) {
+        return true;
+    }
+    let start = k.min(512) as u32 + 1;
+    limit < signed(side, load_in(cells, start))
+}
+
+/// The same of the first or the last start of an interval, of which the load is told where it is allowed.
+fn is_end_heavy(load: Option<i128>, side: Side, limit: i128) -> bool {
+    match load {
+        Some(load) => limit < signed(side, load),
+        None => true,
+    }
 }
 
 /// The cut of starts of more than this load.
 fn heavy_cut(
     prices: &[Option<i128>],
-    loads: &[i128],
+    cells: &[PlaceCell],
     i: u32,
     span: Span,
+    side: Side,
     limit: i128,
 ) -> Option<Cut> {
     let (from, past) = starts_of(span);
     let mut below: usize = 0;
     for k in from..past {
-        if !is_heavy(prices, loads, limit, k) {
+        if !is_heavy(prices, cells, side, limit, k) {
             break;
         }
         below = below.saturating_add(1);
     }
     let mut above: usize = 0;
     for k in (from..past).rev() {
-        if !is_heavy(prices, loads, limit, k) {
+        if !is_heavy(prices, cells, side, limit, k) {
             break;
         }
         above = above.saturating_add(1);
@@ -139,21 +160,10 @@ fn heavy_cut(
     cut_of(i, span, below, above)
 }
 
-/// Sets the slacks of resource `c`.
-fn set_slacks(over: &mut [i128], under: &mut [i128], inst: &Instance, boxes: &BoxLoads, c: u32)
-    requires over { IsOver inst.now boxes.now }
-    requires resource { c < length inst.now.resource_names }
-{
-    for t in 1..inst.periods() + 1 {
-        let place = place_of(inst, c, t);
-        if place < over.len() && place < under.len() {
-            over[place] = inst
-                .upper(c, t)
-                .saturating_sub(boxes.least_load(inst, c, t));
-            under[place] = boxes
-                .greatest_load(inst, c, t)
-                .saturating_sub(inst.lower(c, t));
-        }
+/// Sets the entry of a place, where there is one.
+fn set_at(slacks: &mut [i128], place: usize, slack: i128) {
+    if place < slacks.len() {
+        slacks[place] = slack;
     }
 }
 
@@ -162,7 +172,27 @@ impl Slacks {
         Ok(Slacks {
             over: vec![in alloc; 0; places(inst)]?,
             under: vec![in alloc; 0; places(inst)]?,
+            lesser: vec![in alloc; 0; places(inst)]?,
         })
+    }
+
+    /// Takes over the loads of resource `c`.
+    fn follow_one(&mut self, inst: &Instance, boxes: &BoxLoads, c: u32)
+        requires over { IsOver inst.now boxes.now }
+        requires resource { c < length inst.now.resource_names }
+    {
+        for t in 1..inst.periods() + 1 {
+            let place = place_of(inst, c, t);
+            let over = inst
+                .upper(c, t)
+                .saturating_sub(boxes.least_load(inst, c, t));
+            let under = boxes
+                .greatest_load(inst, c, t)
+                .saturating_sub(inst.lower(c, t));
+            set_at(&mut self.over, place, over);
+            set_at(&mut self.under, place, under);
+            set_at(&mut self.lesser, place, over.min(under));
+        }
     }
 
     /// Takes over the loads of a box.
@@ -170,14 +200,13 @@ impl Slacks {
         requires { IsOver inst.now boxes.now }
     {
         for c in 0..inst.resources() {
-            set_slacks(
-                self.over.as_mut_slice(),
-                self.under.as_mut_slice(),
-                inst,
-                boxes,
-                c,
-            );
+            self.follow_one(inst, boxes, c);
         }
+    }
+
+    /// The lesser slack of a place.
+    fn lesser(&self, place: usize) -> i128 {
+        load_at(self.lesser.as_slice(), place)
     }
 
     /// The slack of a place on a side.
@@ -193,7 +222,6 @@ impl Slacks {
 fn side_cut(
     reaches: &Reaches,
     slacks: &Slacks,
-    room: &mut Room,
     prices: &[Option<i128>],
     reach: &Reach,
     i: u32,
@@ -201,28 +229,24 @@ fn side_cut(
     side: Side,
 ) -> Option<Cut> {
     let slack = slacks.of(reach.place, side);
-    if reach.greatest.saturating_sub(reach.least) <= slack {
+    if reach.width <= slack {
         return None;
     }
     let base = match side {
         Side::Over => reach.least,
         Side::Under => signed(side, reach.greatest),
     };
-    room.spread(reaches.loads_of(reach), side);
-    heavy_cut(
-        prices,
-        room.loads.as_slice(),
-        i,
-        span,
-        base.saturating_add(slack),
-    )
+    let limit = base.saturating_add(slack);
+    if !is_end_heavy(reach.first, side, limit) && !is_end_heavy(reach.last, side, limit) {
+        return None;
+    }
+    heavy_cut(prices, reaches.loads_of(reach), i, span, side, limit)
 }
 
 /// The longest cut of starts at which intervention `i` breaks a limit.
 fn limit_cut(
     reaches: &Reaches,
     slacks: &Slacks,
-    room: &mut Room,
     table: &PriceTable,
     i: u32,
     span: Span,
@@ -230,8 +254,11 @@ fn limit_cut(
     let prices = table.row(i);
     let mut found = None;
     for reach in reaches.of_intervention(i) {
-        let over = side_cut(reaches, slacks, room, prices, reach, i, span, Side::Over);
-        let under = side_cut(reaches, slacks, room, prices, reach, i, span, Side::Under);
+        if reach.width <= slacks.lesser(reach.place) {
+            continue;
+        }
+        let over = side_cut(reaches, slacks, prices, reach, i, span, Side::Over);
+        let under = side_cut(reaches, slacks, prices, reach, i, span, Side::Under);
         found = longer(found, longer(over, under));
     }
     found
@@ -241,7 +268,6 @@ fn limit_cut(
 pub(crate) fn band_cut(
     reaches: &Reaches,
     slacks: &Slacks,
-    room: &mut Room,
     table: &PriceTable,
     spans: &[Span],
 ) -> Option<Cut>
@@ -251,10 +277,7 @@ pub(crate) fn band_cut(
     for i in 0..spans.len() {
         let span = spans[i];
         if span.from < span.to {
-            found = longer(
-                found,
-                limit_cut(reaches, slacks, room, table, i as u32, span),
-            );
+            found = longer(found, limit_cut(reaches, slacks, table, i as u32, span));
         }
     }
     found

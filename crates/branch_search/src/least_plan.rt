@@ -7,11 +7,12 @@ use instance_model::{Instance, LoadCell};
 use lagrange_bound::{PriceTable, Span};
 use std::alloc::{AllocError, Global};
 
-/// A start for each intervention, 0 for none so far, and the loads by resource, then period. Whether this plan was
-/// judged already is kept until a start changes.
+/// A start for each intervention, 0 for none so far, the intervals that they were taken from, and the loads by
+/// resource, then period. Whether this plan was judged already is kept until a start changes.
 #[derive(Drop)]
 pub(crate) struct LeastPlan {
     pub(crate) starts: Vec<u32>,
+    spans: Vec<Span>,
     loads: Vec<i128>,
     pub(crate) is_judged: bool,
 }
@@ -52,8 +53,10 @@ fn cheapest_start(prices: &[Option<i128>], span: Span) -> Option<u32> {
 impl LeastPlan {
     /// No start so far.
     pub(crate) fn make(alloc: Global, inst: &Instance) -> Result<LeastPlan, AllocError> {
+        let none = Span { from: 1, to: 0 };
         Ok(LeastPlan {
             starts: vec![in alloc; 0; inst.interventions() as usize]?,
+            spans: vec![in alloc; none; inst.interventions() as usize]?,
             loads: vec![in alloc; 0; places(inst)]?,
             is_judged: false,
         })
@@ -81,13 +84,25 @@ impl LeastPlan {
         self.is_judged = false;
     }
 
-    /// Takes over the least prices of a box.
+    /// Takes over the interval of intervention `i`, where it is another.
+    fn follow_one(&mut self, inst: &Instance, table: &PriceTable, i: u32, span: Span)
+        requires { i < length inst.now.names }
+    {
+        let k = i as usize;
+        if k >= self.spans.len() || self.spans[k] == span {
+            return;
+        }
+        self.spans[k] = span;
+        if let Some(s) = cheapest_start(table.row(i), span) {
+            self.set_start(inst, i, s);
+        }
+    }
+
+    /// Takes over the least prices of a box. The table is the same at each call.
     pub(crate) fn follow(&mut self, inst: &Instance, table: &PriceTable, spans: &[Span]) {
         for i in 0..inst.interventions() {
             if let Some(span) = spans.get(i as usize) {
-                if let Some(s) = cheapest_start(table.row(i), *span) {
-                    self.set_start(inst, i, s);
-                }
+                self.follow_one(inst, table, i, *span);
             }
         }
     }

@@ -6,20 +6,21 @@ ghost use Rattle.box_state.specs.KeptLoads.{IsOver};
 use crate::cover::{Cover, better, cover_of};
 use crate::least_plan::LeastPlan;
 use crate::piece::{Member, member_of};
-use crate::place_loads::{PlaceCell, PlaceLoads, place_of, split_first};
+use crate::place_loads::{PlaceCell, load_in, place_of};
+use crate::reaches::{Reach, Reaches};
 use box_state::BoxLoads;
 use branch_tree::Side;
 use duration_calendar::{Window, meets_in, run};
 use instance_model::Instance;
-use lagrange_bound::PriceTable;
+use lagrange_bound::{PriceTable, Span};
 use std::alloc::{AllocError, Global};
 
-/// What is looked at: a box with its loads, the plan of least prices in it by one list, the worth by that list, and how
-/// much it lacks of the value that closes the box.
+/// What is looked at: a box with its loads and what each intervention reaches in it, the plan of least prices in it by
+/// one list, the worth by that list, and how much it lacks of the value that closes the box.
 #[derive(Clone, Copy)]
 pub(crate) struct View<'a> {
     pub(crate) inst: &'a Instance,
-    pub(crate) cells: &'a PlaceLoads,
+    pub(crate) reaches: &'a Reaches,
     pub(crate) boxes: &'a BoxLoads,
     pub(crate) table: &'a PriceTable,
     pub(crate) plan: &'a LeastPlan,
@@ -28,13 +29,28 @@ pub(crate) struct View<'a> {
     ghost over: { IsOver inst.now boxes.now },
 }
 
-/// Room for a look at one band or exclusion: the loads of an intervention by start, the members of a cover, and the
-/// shares of their costs.
+/// Whether an intervention becomes a member for a limit in a place, which holds as long as its interval stays: nothing
+/// where it wasn't looked at.
+#[derive(Clone, Copy)]
+struct Kept {
+    side: Option<Side>,
+    member: Option<Member>,
+}
+
+const UNKNOWN: Kept = Kept {
+    side: None,
+    member: None,
+};
+
+/// Room for looks at bands and exclusions with one plan: the loads of an intervention by start, the members of a cover,
+/// the shares of their costs, what is kept by the number of a reach, and the intervals for which that holds.
 #[derive(Drop)]
 pub(crate) struct Room {
-    pub(crate) loads: Vec<i128>,
+    loads: Vec<i128>,
     members: Vec<Member>,
     shares: Vec<u64>,
+    kept: Vec<Kept>,
+    spans: Vec<Span>,
 }
 
 /// What was seen of a plan: whether it breaks a band or an exclusion, and the cover that is worth most.
@@ -53,16 +69,47 @@ impl Seen {
 }
 
 impl Room {
-    pub(crate) fn make(alloc: Global, inst: &Instance) -> Result<Room, AllocError> {
+    pub(crate) fn make(
+        alloc: Global,
+        inst: &Instance,
+        reaches: &Reaches,
+    ) -> Result<Room, AllocError> {
+        let none = Span { from: 1, to: 0 };
         Ok(Room {
             loads: vec![in alloc; 0; inst.periods() as usize]?,
             members: Vec::new(alloc),
             shares: Vec::new(alloc),
+            kept: vec![in alloc; UNKNOWN; reaches.len()]?,
+            spans: vec![in alloc; none; inst.interventions() as usize]?,
         })
     }
 
+    /// Forgets what is kept of intervention `i`, where its interval is another.
+    fn follow_one(&mut self, reaches: &Reaches, i: u32, span: Span) {
+        let k = i as usize;
+        if k >= self.spans.len() || self.spans[k] == span {
+            return;
+        }
+        self.spans[k] = span;
+        let (from, past) = reaches.numbers_of(i);
+        for number in from..past {
+            if let Some(kept) = self.kept.as_mut_slice().get_mut(number) {
+                *kept = UNKNOWN;
+            }
+        }
+    }
+
+    /// Takes over the intervals of a box. The plan's starts are those of least prices in them.
+    pub(crate) fn follow(&mut self, inst: &Instance, reaches: &Reaches, spans: &[Span]) {
+        for i in 0..inst.interventions() {
+            if let Some(span) = spans.get(i as usize) {
+                self.follow_one(reaches, i, *span);
+            }
+        }
+    }
+
     /// Spreads loads over the starts, with the other sign for a lower limit.
-    pub(crate) fn spread(&mut self, cells: &[PlaceCell], side: Side) {
+    fn spread(&mut self, cells: &[PlaceCell], side: Side) {
         self.loads.fill(0);
         for cell in cells {
             let k = cell.start.saturating_sub(1) as usize;
@@ -87,16 +134,18 @@ impl Room {
         }
     }
 
-    /// Notes intervention `i`, of which the loads are spread, where it may become a member.
-    fn note(&mut self, view: &View<'_>, i: u32) -> Result<(), AllocError> {
-        let Some(span) = view.boxes.spans().get(i as usize) else {
-            return Ok(());
-        };
+    /// Intervention `i`, of which the loads are spread, where it may become a member.
+    fn member(&self, view: &View<'_>, i: u32) -> Option<Member> {
+        let span = view.boxes.spans().get(i as usize)?;
         let from = span.from.saturating_sub(1) as usize;
         let past = span.to.min(512) as usize;
         let at = view.plan.start(i).saturating_sub(1) as usize;
-        let prices = view.table.row(i);
-        if let Some(member) = member_of(i, prices, &self.loads, from, past, at) {
+        member_of(i, view.table.row(i), &self.loads, from, past, at)
+    }
+
+    /// Notes intervention `i`, of which the loads are spread, where it may become a member.
+    fn note(&mut self, view: &View<'_>, i: u32) -> Result<(), AllocError> {
+        if let Some(member) = self.member(view, i) {
             self.members.push(member)?;
         }
         Ok(())
@@ -113,14 +162,43 @@ impl Room {
         )
     }
 
+    /// An intervention by what it reaches in a place, where another start of its interval is better there, and where it
+    /// may become a member.
+    fn member_by(&mut self, view: &View<'_>, reach: &Reach, side: Side) -> Option<Member> {
+        let cells = view.reaches.loads_of(reach);
+        let load = load_in(cells, view.plan.start(reach.i));
+        if !is_bettered(reach, load, side) {
+            return None;
+        }
+        self.spread(cells, side);
+        self.member(view, reach.i)
+    }
+
+    /// The same, as it was kept or else is kept from now on.
+    fn kept_member(&mut self, view: &View<'_>, number: usize, side: Side) -> Option<Member> {
+        if let Some(kept) = self.kept.get(number) {
+            if kept.side == Some(side) {
+                return kept.member;
+            }
+        }
+        let reach = view.reaches.reach(number)?;
+        let member = self.member_by(view, reach, side);
+        if let Some(kept) = self.kept.as_mut_slice().get_mut(number) {
+            *kept = Kept {
+                side: Some(side),
+                member,
+            };
+        }
+        member
+    }
+
     /// Notes all interventions that have a load in a place.
     fn note_all(&mut self, view: &View<'_>, place: usize, side: Side) -> Result<(), AllocError> {
         self.members.clear();
-        let mut rest = view.cells.of_place(place);
-        while let Some((i, own, others)) = split_first(rest) {
-            self.spread(own, side);
-            self.note(view, i)?;
-            rest = others;
+        for numbered in view.reaches.of_place(place) {
+            if let Some(member) = self.kept_member(view, numbered.number, side) {
+                self.members.push(member)?;
+            }
         }
         Ok(())
     }
@@ -131,6 +209,14 @@ pub(crate) fn signed(side: Side, load: i128) -> i128 {
     match side {
         Side::Over => load,
         Side::Under => 0i128.saturating_sub(load),
+    }
+}
+
+/// Whether another start of the interval has a lesser load than this, or for a lower limit a greater one.
+fn is_bettered(reach: &Reach, load: i128, side: Side) -> bool {
+    match side {
+        Side::Over => reach.least < load,
+        Side::Under => load < reach.greatest,
     }
 }
 

@@ -1,5 +1,5 @@
 //! The loads of an instance by resource and period, so that one band can be looked at alone.
-ghost use Rattle.std.specs.Prelude.{◌<◌, length, IfSome};
+ghost use Rattle.std.specs.Prelude.{◌<◌, length};
 
 use fixed_num::Fixed;
 use instance_model::Instance;
@@ -22,12 +22,6 @@ pub(crate) struct PlaceCell {
     pub(crate) i: u32,
     pub(crate) start: u32,
     pub(crate) load: Fixed,
-}
-
-/// The loads by place, then intervention, then start.
-#[derive(Drop)]
-pub(crate) struct PlaceLoads {
-    cells: Vec<PlaceCell>,
 }
 
 /// Appends the loads of intervention `i`.
@@ -54,28 +48,15 @@ pub(crate) fn loads_of_all(alloc: Global, inst: &Instance) -> Result<Vec<PlaceCe
     Ok(cells)
 }
 
-impl PlaceLoads {
-    pub(crate) fn make(alloc: Global, inst: &Instance) -> Result<PlaceLoads, AllocError> {
-        let mut cells = loads_of_all(alloc, inst)?;
-        cells.sort_unstable_by_key(|cell| (cell.place, cell.i, cell.start));
-        Ok(PlaceLoads { cells })
+/// The load at a start, of loads of one intervention in one place by start.
+pub(crate) fn load_in(cells: &[PlaceCell], start: u32) -> i128 {
+    let k = cells.partition_point(|cell| cell.start < start);
+    match cells.get(k) {
+        Some(cell) => if cell.start == start {
+            cell.load.count()
+        } else {
+            0
+        },
+        None => 0,
     }
-
-    /// The loads of a place.
-    pub(crate) fn of_place(&self, place: usize) -> &[PlaceCell] {
-        let cells = self.cells.as_slice();
-        let from = cells.partition_point(|cell| cell.place < place);
-        let rest = &cells[from..];
-        let count = rest.partition_point(|cell| cell.place <= place);
-        &rest[..count]
-    }
-}
-
-/// The loads of the first intervention of a place, and those of the others.
-pub(crate) fn split_first(cells: &[PlaceCell]) -> Option<(u32, &[PlaceCell], &[PlaceCell])>
-    ensures { IfSome result (λ parts. length parts.2.now < length cells.now) }
-{
-    let i = cells.first()?.i;
-    let count = cells.partition_point(|cell| cell.i <= i).max(1);
-    Some((i, &cells[..count], &cells[count..]))
 }

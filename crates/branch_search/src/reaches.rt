@@ -2,28 +2,41 @@
 ghost use Rattle.std.specs.Prelude.{◌<◌, ◌≤◌, length};
 
 use crate::piece::is_allowed;
-use crate::place_loads::{PlaceCell, loads_of_all, places};
+use crate::place_loads::{PlaceCell, load_in, loads_of_all, places};
 use instance_model::Instance;
 use lagrange_bound::{PriceTable, Span};
 use std::alloc::{AllocError, Global};
 
-/// The loads of an intervention in one place: where they stand among all, and the least and the greatest one at the
-/// allowed starts of an interval.
+/// The loads of an intervention in one place: where they stand among all, the least and the greatest one at the
+/// allowed starts of an interval, how far these are apart, and that at its first and at its last start, where that is
+/// allowed.
 #[derive(Clone, Copy)]
 pub(crate) struct Reach {
-    i: u32,
+    pub(crate) i: u32,
     pub(crate) place: usize,
     from: usize,
     past: usize,
     pub(crate) least: i128,
     pub(crate) greatest: i128,
+    pub(crate) width: i128,
+    pub(crate) first: Option<i128>,
+    pub(crate) last: Option<i128>,
 }
 
-/// What all interventions reach, by intervention, then place, and the intervals that it was taken over.
+/// The place of what an intervention reaches, and its number.
+#[derive(Clone, Copy)]
+pub(crate) struct Numbered {
+    place: usize,
+    pub(crate) number: usize,
+}
+
+/// What all interventions reach, by intervention, then place, the numbers of it by place, then intervention, and the
+/// intervals that it was taken over.
 #[derive(Drop)]
 pub(crate) struct Reaches {
     cells: Vec<PlaceCell>,
     reaches: Vec<Reach>,
+    by_place: Vec<Numbered>,
     spans: Vec<Span>,
 }
 
@@ -47,8 +60,24 @@ fn take_cell(reaches: &mut Vec<Reach>, cell: &PlaceCell, k: usize) -> Result<(),
         past: k.saturating_add(1),
         least: 0,
         greatest: 0,
+        width: 0,
+        first: None,
+        last: None,
     })?;
     Ok(())
+}
+
+/// The numbers of what is reached, by place, then intervention.
+fn numbers_by_place(alloc: Global, reaches: &[Reach]) -> Result<Vec<Numbered>, AllocError> {
+    let mut numbers = Vec::new(alloc);
+    for number in 0..reaches.len() {
+        numbers.push(Numbered {
+            place: reaches[number].place,
+            number,
+        })?;
+    }
+    numbers.sort_unstable_by_key(|one| (one.place, one.number));
+    Ok(numbers)
 }
 
 /// How many starts of an interval are allowed.
@@ -68,6 +97,15 @@ fn part_of<'a>(cells: &'a [PlaceCell], from: usize, past: usize) -> &'a [PlaceCe
         &cells[from..past]
     } else {
         &[]
+    }
+}
+
+/// The load at a start, where that is allowed.
+fn allowed_load(cells: &[PlaceCell], prices: &[Option<i128>], start: u32) -> Option<i128> {
+    if is_allowed(prices, start.saturating_sub(1) as usize) {
+        Some(load_in(cells, start))
+    } else {
+        None
     }
 }
 
@@ -102,6 +140,9 @@ impl Reach {
         if count < starts {
             self.take(0, count);
         }
+        self.width = self.greatest.saturating_sub(self.least);
+        self.first = allowed_load(cells, prices, span.from);
+        self.last = allowed_load(cells, prices, span.to);
     }
 }
 
@@ -115,16 +156,23 @@ impl Reaches {
             let cell = cells[k];
             take_cell(&mut reaches, &cell, k)?;
         }
+        let by_place = numbers_by_place(alloc, reaches.as_slice())?;
         let none = Span { from: 1, to: 0 };
         Ok(Reaches {
             cells,
             reaches,
+            by_place,
             spans: vec![in alloc; none; inst.interventions() as usize]?,
         })
     }
 
+    /// How many pairs of an intervention and a place that it loads there are.
+    pub(crate) fn len(&self) -> usize {
+        self.reaches.len()
+    }
+
     /// The numbers of what intervention `i` reaches: the first one, and the one behind the last.
-    fn numbers_of(&self, i: u32) -> (usize, usize)
+    pub(crate) fn numbers_of(&self, i: u32) -> (usize, usize)
         ensures { result.1 ≤ length self.now.reaches.items }
     {
         let from = self.reaches.partition_point(|reach| reach.i < i);
@@ -140,6 +188,20 @@ impl Reaches {
         } else {
             &[]
         }
+    }
+
+    /// The numbers of what is reached in a place.
+    pub(crate) fn of_place(&self, place: usize) -> &[Numbered] {
+        let numbers = self.by_place.as_slice();
+        let from = numbers.partition_point(|one| one.place < place);
+        let rest = &numbers[from..];
+        let count = rest.partition_point(|one| one.place <= place);
+        &rest[..count]
+    }
+
+    /// What is reached that has this number.
+    pub(crate) fn reach(&self, number: usize) -> Option<&Reach> {
+        self.reaches.get(number)
     }
 
     /// The loads of an intervention in one place.

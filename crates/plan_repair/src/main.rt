@@ -11,7 +11,7 @@ mod words;
 
 pub use laws::repairs_are_complete;
 use plan_desk::RealDesk;
-pub use run::{repair_with, run_repair};
+pub use run::run_repair;
 use std::alloc::Global;
 use std::process::ExitCode;
 use std::{env, io};

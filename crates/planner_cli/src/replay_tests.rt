@@ -156,6 +156,17 @@ fn rows_hold_the_keys(rt: HostRuntime) -> Result<(), Fail> {
 }
 
 #[test]
+fn rows_hold_the_sums_of_a_descent(rt: HostRuntime) -> Result<(), Fail> {
+    let alloc = rt.alloc();
+    let words = owned(alloc, &["solve", "I", "O", "C", "M", "3"])?;
+    let mut desk = scripted(alloc, BANDED, BOTH, "")?;
+    assert_eq!(rt; run_with::<NoRow, MemDesk>(alloc, &words, &mut desk), 11);
+    assert_eq!(rt; desk.spoken(), b"refused memory\n".as_slice());
+    assert!(rt; desk.file("C").is_none() && desk.file("M").is_none());
+    Ok(())
+}
+
+#[test]
 fn failed_calls_of_a_replay_are_told(rt: HostRuntime) -> Result<(), Fail> {
     let alloc = rt.alloc();
     for (call, nth, status, told) in [

@@ -2,7 +2,8 @@
 ghost use Rattle.std.specs.Prelude.{◌≡◌, ◌≤◌, map, string_bytes, option_copied, IfSome, IfNone, Some, None};
 ghost use Rattle.planner_cli.specs.Words.{command_of, evaluate_of, replay_of, check_of, IsOneCommand, evaluation};
 ghost use Rattle.planner_cli.specs.Words.{replaying, checking, given_plan, slack_in, solve_of, solving, are_file_words};
-ghost use Rattle.planner_cli.specs.Words.{are_apart, table_of, tabling, names_differ, rebound_of, rebounding, roll_of, rolling};
+ghost use Rattle.planner_cli.specs.Words.{are_apart, table_of, tabling, names_differ, rebound_of, rebounding};
+ghost use Rattle.planner_cli.specs.Words.{roll_of, rolling};
 ghost use Rattle.planner_cli.specs.Words.{after_evaluate, after_replay, after_check, after_solve, after_table};
 ghost use Rattle.planner_cli.specs.Words.{after_rebound, rehearse_of, rehearsing};
 ghost use Rattle.command_solve.specs.Made.{files_view};

@@ -9,6 +9,8 @@ mod audit;
 #[cfg(test)]
 mod deep;
 #[cfg(test)]
+mod drawn;
+#[cfg(test)]
 mod edges;
 #[cfg(test)]
 mod given;

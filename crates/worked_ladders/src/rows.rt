@@ -5,7 +5,7 @@
 ghost use Rattle.instance_model.specs.Plans.{AreAllowedStarts};
 ghost use Rattle.lagrange_bound.specs.Prices.{IsPriceList};
 
-use crate::root_worth;
+use crate::{raised_bound, root_worth};
 use fixed_num::Fixed;
 use instance_model::{Instance, Limits};
 use instance_read::read_instance;
@@ -150,6 +150,16 @@ fn raised(alloc: Global, text: &str, starts: &[u32]) -> Result<Option<(Row, i128
     Ok(rows_of(alloc, &inst, starts)?)
 }
 
+/// The bound that is raised for a plan of these starts, where they are allowed, on the instance of a text.
+fn bound_of(alloc: Global, text: &str, starts: &[u32]) -> Result<Option<i128>, Fail> {
+    let limits = Limits::standard();
+    let inst = read_instance(alloc, &limits, Fixed::zero(), text.as_bytes())?;
+    if !are_allowed(&inst, starts) {
+        return Ok(None);
+    }
+    Ok(Some(raised_bound(alloc, &inst, starts)?))
+}
+
 /// Whether the row is that of the plain ladder, and the fast one's worth is no less, and at most `best`.
 fn are_as_wanted(rows: Option<(Row, i128)>, wanted: Row, best: i128) -> bool {
     match rows {
@@ -243,5 +253,12 @@ fn nothing_is_raised_without_interventions(rt: HostRuntime) -> Result<(), Fail> 
         scenario: 0,
     };
     assert!(rt; are_as_wanted(rows, wanted, 0), "{rows:?}");
+    Ok(())
+}
+
+#[test]
+fn a_bound_is_the_worth_of_the_plain_list(rt: HostRuntime) -> Result<(), Fail> {
+    let bound = bound_of(rt.alloc(), PAIR, &[1, 1])?;
+    assert_eq!(rt; bound, Some(600_000_000_000_000_000));
     Ok(())
 }

@@ -4,8 +4,18 @@
 //! The tests are worked rows: bands, seasons, exclusions, starts, ranks and values, all over small instances.
 #![tactic(auto)]
 
+#[cfg(test)]
+mod bands;
+#[cfg(test)]
+mod exclusions;
 mod kept;
 #[cfg(test)]
-mod tests;
+mod sketches;
+#[cfg(test)]
+mod starts;
+#[cfg(test)]
+mod values;
+#[cfg(test)]
+mod verdicts;
 
 pub use kept::keeps_rules;

@@ -2,7 +2,7 @@
 use Rattle.std.proofs.Common.{List, ℕ, map, string_bytes, subst}
 use Rattle.command_frame.specs.Refusals.{SaysOrFails}
 use Rattle.plan_repair.proofs.OutcomeLemmas.{outcome_refused}
-use Rattle.plan_repair.proofs.run.repair_with.Goals as goal
+use Rattle.plan_repair.proofs.run.run_repair.Goals as goal
 
 pub returns-in-None : goal.returns-in-None
 returns-in-None g c =

@@ -1,0 +1,92 @@
+//! The table of failing calls: each kind, each call of it that a run makes, and each command.
+
+use crate::commands::{COMMANDS, Command, OLD, fresh_desk};
+use crate::due::{Case, Ran, are_all};
+use plan_desk::DeskCall;
+use std::alloc::{AllocError, Global};
+use std::test::Fail;
+
+const KINDS: [DeskCall; 6] = [
+    DeskCall::TakeIn,
+    DeskCall::Read,
+    DeskCall::PutOut,
+    DeskCall::Write,
+    DeskCall::FinishOut,
+    DeskCall::Say,
+];
+
+/// More calls of a kind than any of these runs makes.
+const MANY: u32 = 1000;
+
+// Runs a command over a fresh desk, of which the nth call of a kind is to fail if one is given.
+fn ran(
+    alloc: Global,
+    command: Command,
+    failing: Option<(DeskCall, u32)>,
+) -> Result<Ran, AllocError> {
+    let mut desk = fresh_desk(alloc)?;
+    if let Some((call, nth)) = failing {
+        desk.fail_at(call, nth)?;
+    }
+    let status = command.run(alloc, &mut desk);
+    Ok(Ran { status, desk })
+}
+
+// Whether each call of this kind that a run makes, failing alone, leaves what is due.
+fn are_told(alloc: Global, command: Command, call: DeskCall) -> Result<bool, AllocError> {
+    let clean = ran(alloc, command, None)?;
+    for before in 0..MANY {
+        let ran = ran(alloc, command, Some((call, before + 1)))?;
+        let case = Case {
+            command,
+            clean: &clean,
+            ran: &ran,
+        };
+        if case.is_clean() {
+            return Ok(are_all(command, call, before as usize));
+        }
+        if !case.is_due(alloc, call, before as usize)? {
+            return Ok(false);
+        }
+    }
+    Ok(false)
+}
+
+// Whether a run without a failing call ends well, says something, and writes something to each of its files.
+fn is_done(alloc: Global, command: Command) -> Result<bool, AllocError> {
+    let ran = ran(alloc, command, None)?;
+    for (_, name) in command.outputs() {
+        if !is_new(ran.desk.file(name)) {
+            return Ok(false);
+        }
+    }
+    Ok(ran.status == 0 && !ran.desk.spoken().is_empty())
+}
+
+fn is_new(held: Option<&[u8]>) -> bool {
+    match held {
+        Some(bytes) => !bytes.is_empty() && bytes != OLD.as_bytes(),
+        None => false,
+    }
+}
+
+#[test]
+fn without_a_failing_call_each_command_is_done(rt: HostRuntime) -> Result<(), Fail> {
+    for command in COMMANDS {
+        assert!(rt; is_done(rt.alloc(), command)?, "{command:?}");
+    }
+    Ok(())
+}
+
+#[test]
+fn a_failing_call_is_told_at_each_place(rt: HostRuntime) -> Result<(), Fail> {
+    for command in COMMANDS {
+        for call in KINDS {
+            assert!(rt;
+                are_told(rt.alloc(), command, call)?,
+                "{command:?} {call:?}"
+            );
+        }
+    }
+    Ok(())
+}
