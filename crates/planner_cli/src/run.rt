@@ -2,21 +2,20 @@
 ghost use Rattle.std.specs.Prelude.{◌≤◌, ℕ, List, map, string_bytes};
 ghost use Rattle.instance_model.specs.Limits.{standard_limits};
 ghost use Rattle.instance_shape.specs.Ranges.{AreStandard};
-ghost use Rattle.command_frame.specs.Sources.{Source as SourceWords, source_view};
+ghost use Rattle.command_frame.specs.Sources.{Source as SourceWords};
 ghost use Rattle.command_rebound.specs.Rebinding.{RunsRebound};
 ghost use Rattle.command_roll.specs.Rolling.{RollFiles as RollNames, RunsRoll};
-ghost use Rattle.command_roll.specs.Made.{files_view as roll_files_view};
 ghost use Rattle.planner_cli.specs.Words.{rebound, roll};
 ghost use Rattle.planner_cli.specs.Outcome.{Asks, AskToRebound, AskToRoll, Outcome};
 
 use crate::words::{Command, command_of};
 use command_check::check_files;
 use command_evaluate::evaluate_files;
-use command_frame::{Source, WORDS_LINE, say};
+use command_frame::{WORDS_LINE, say};
 use command_rebound::rebound_files;
 use command_rehearse::rehearse_drawn;
 use command_replay::replay_files;
-use command_roll::{RollFiles, roll_files};
+use command_roll::roll_files;
 use command_solve::solve_files;
 use command_table::table_files;
 use instance_model::Limits;
@@ -74,45 +73,30 @@ pub fn run_with<R: Row, D: Desk>(alloc: Global, words: &[String], desk: &mut D) 
                 to,
             },
         ) => table_files(alloc, &source, plan, from, to, desk),
-        Some(
-            Command::Rebound {
-                source,
-                certificate,
-                out,
-            },
-        ) => rebound_standard(alloc, &source, certificate, out, desk),
-        Some(Command::Roll { files, period }) => roll_standard(alloc, &files, period, desk),
+        Some(Command::Rebound { .. }) => rebound_standard(alloc, words, desk),
+        Some(Command::Roll { .. }) => roll_standard(alloc, words, desk),
         Some(Command::Rehearse { seed, count }) => {
             rehearse_drawn::<R, D>(alloc, seed, count, desk)
         }
     }
 }
 
-// `rebound` within the limits of the program.
-fn rebound_standard<D: Desk>(
-    alloc: Global,
-    source: &Source<'_>,
-    certificate: &str,
-    out: &str,
-    desk: &mut D,
-) -> u8
-    requires small { source.now.slack ≤ 1_000_000_000 }
-    ensures { RunsRebound standard_limits (source_view source.now) certificate.now out.now
-        (D.shows desk.old) (D.shows desk.new) result }
+// Runs words of `rebound` within the limits of the program.
+fn rebound_standard<D: Desk>(alloc: Global, words: &[String], desk: &mut D) -> u8
+    requires { AskToRebound (map string_bytes words.now) }
+    ensures { Outcome (map string_bytes words.now) (D.shows desk.old) (D.shows desk.new) result }
 {
     let limits = Limits::standard();
-    rebound_files(alloc, &limits, source, certificate, out, desk)
+    rebound_within(alloc, &limits, words, desk)
 }
 
-// `roll` within the limits of the program.
-fn roll_standard<D: Desk>(alloc: Global, files: &RollFiles<'_>, period: u32, desk: &mut D) -> u8
-    requires from { 1 ≤ period }
-    requires to { period ≤ 512 }
-    ensures { RunsRoll standard_limits (roll_files_view files.now) period
-        (D.shows desk.old) (D.shows desk.new) result }
+// Runs words of `roll` within the limits of the program.
+fn roll_standard<D: Desk>(alloc: Global, words: &[String], desk: &mut D) -> u8
+    requires { AskToRoll (map string_bytes words.now) }
+    ensures { Outcome (map string_bytes words.now) (D.shows desk.old) (D.shows desk.new) result }
 {
     let limits = Limits::standard();
-    roll_files(alloc, &limits, files, period, desk)
+    roll_within(alloc, &limits, words, desk)
 }
 
 /// Runs words of `rebound` within these limits, of which none is above the standard one.

@@ -1,13 +1,17 @@
 -- The limits are the standard ones.
-use Rattle.std.proofs.Common.{subst}
+use Rattle.std.proofs.Common.{ℕ, List, map, string_bytes, subst}
 use Rattle.instance_model.specs.declared.limits.Limits.{Limits}
-use Rattle.command_roll.specs.Rolling.{RunsRoll}
-use Rattle.command_roll.specs.Made.{files_view}
+use Rattle.command_roll.specs.Rolling.{RollFiles, RunsRoll}
+use Rattle.planner_cli.specs.Words.{roll}
+use Rattle.planner_cli.specs.Outcome.{Asks}
+use Rattle.planner_cli.proofs.OutcomeLemmas.{outcome_rolls}
 use Rattle.planner_cli.proofs.run.roll_standard.Goals as goal
 
 pub returns : goal.returns
 returns g c =
     let old = g.D.Desk.shows c.args.desk.now in
-    let new = g.D.Desk.shows c.roll_files.new.desk in
-    subst (λ (l : Limits). RunsRoll l (files_view c.args.files.now) c.args.period old new c.roll_files.result)
-    c.standard-limits.ensures c.roll_files.ensures
+    let new = g.D.Desk.shows c.roll_within.new.desk in
+    let words = map string_bytes c.args.words.now in
+    outcome_rolls words old new c.roll_within.result c.args.requires
+    (subst (λ (l : Limits). (files : RollFiles) (period : ℕ) → Asks words (roll files period)
+    → RunsRoll l files period old new c.roll_within.result) c.standard-limits.ensures c.roll_within.ensures)
