@@ -7,4 +7,3 @@ pub mod OverLemmas
 pub mod QuantileLemmas
 pub mod ShiftLemmas
 pub mod JudgeLemmas
-pub mod BoundLemmas

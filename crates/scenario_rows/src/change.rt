@@ -44,17 +44,6 @@ impl Change {
         }
     }
 
-    /// By how much the change by a risk raises a sum.
-    pub(crate) fn rise(self, risk: Fixed) -> i128
-        ensures value { result ≡ changed self (pos 0) risk }
-        ensures small { unsigned_abs result < 10 ^ 20 }
-    {
-        match self {
-            Change::Add => risk.count(),
-            Change::Take => -risk.count(),
-        }
-    }
-
     /// What stands on board of an intervention with this start after the change.
     pub(crate) fn start_after(self, s: u32) -> Option<u32>
         ensures { result ≡ start_after self s }

@@ -1,21 +1,15 @@
-//! The quantile of sums, exact on scratch, and a bound on it from the risks alone.
-ghost use Rattle.std.specs.Prelude.{◌≡◌, ℕ, ◌+◌, ◌-◌, ◌*◌, ◌<◌, ◌≤◌, ◌^◌, pos, neg_ℤ, ◌+ℤ◌, ◌≤ℤ◌, length, unsigned_abs};
-ghost use Rattle.std.specs.Prelude.{slice_index_or};
-ghost use Rattle.std.specs.Int.{int_max};
+//! The quantile of sums, exact on scratch, and a bound on it from the scenarios that were high before.
+ghost use Rattle.std.specs.Prelude.{◌≡◌, ℕ, ◌<◌, ◌≤◌, pos, ◌≤ℤ◌, length, slice_index_or};
 ghost use Rattle.fixed_num.specs.Rank.{mth_smallest};
 ghost use Rattle.instance_model.specs.Plans.{IsSmallSum};
-ghost use Rattle.scenario_rows.specs.Changes.{changed};
 ghost use Rattle.scenario_rows.specs.Parts.{AreRowSums};
 
-use crate::change::Change;
-use fixed_num::{Fixed, Steps, Sum};
+use fixed_num::{Steps, Sum};
+use quantile_index::Row;
 use std::sync::ledger::Ledger;
 
-/// No risk is above this.
-const MOST_RISK: i128 = 100_000_000_000_000_000_000;
-
-/// No scenario sum is below this.
-const LEAST_SUM: i128 = -102_400_000_000_000_000_000_000;
+/// No scenario sum is above this.
+const MOST_SUM: i128 = 102_400_000_000_000_000_000_000;
 
 /// Reads each sum, in a step.
 fn read_sums<L: Ledger>(sums: &[Sum], values: &mut [i128], steps: &mut Steps<L>)
@@ -50,24 +44,40 @@ pub(crate) fn sum_at_rank<L: Ledger>(
     *found
 }
 
-/// By how much a change by these risks raises each sum at least.
-pub(crate) fn least_rise(risks: &[Fixed], change: Change) -> i128
-    ensures least { (k : ℕ) → k < length risks.now
-        → result ≤ℤ changed change (pos 0) (slice_index_or risks.now k (pos 0)) }
-    ensures small { unsigned_abs result ≤ 10 ^ 20 }
+/// The lesser of two sums, where the second one was at least the quantile before; else the first.
+fn lowered(least: i128, quantile: i128, before: i128, sum: i128) -> i128
+    requires least { IsSmallSum least }
+    requires sum { IsSmallSum sum }
+    ensures kept { result ≤ℤ least }
+    ensures high { quantile ≤ℤ before → result ≤ℤ sum }
+    ensures small { IsSmallSum result }
 {
-    let mut least = MOST_RISK;
-    for risk in risks {
-        least = least.min(change.rise(*risk));
+    if quantile <= before {
+        least.min(sum)
+    } else {
+        least
     }
-    least
 }
 
-/// At most the quantile of sums, from what it was at least before each was raised by at least this much.
-pub(crate) fn raised(quantile: i128, rise: i128) -> i128
-    requires quantile { IsSmallSum quantile }
-    requires rise { unsigned_abs rise ≤ 10 ^ 20 }
-    ensures { result ≡ int_max (neg_ℤ (pos (1024 * 10 ^ 20))) (quantile +ℤ rise) }
+/// The least of the sums of those scenarios whose sum in the row is at least the row's quantile: at most the quantile
+/// of the sums, since so many are no smaller. Each sum that is looked at is read in a step.
+pub(crate) fn least_of_high<R: Row, L: Ledger>(
+    row: &R,
+    quantile: i128,
+    sums: &[Sum],
+    steps: &mut Steps<L>,
+) -> i128
+    requires each { length sums.now ≡ length (R.sums row.now) }
+    requires row { AreRowSums sums.now }
+    ensures least { (k : ℕ) → k < length sums.now → quantile ≤ℤ slice_index_or (R.sums row.now) k (pos 0)
+        → result ≤ℤ slice_index_or sums.now k (pos 0) }
+    ensures small { IsSmallSum result }
+    ensures forward { steps.old ≤ steps.new }
 {
-    LEAST_SUM.max(quantile + rise)
+    let mut least = MOST_SUM;
+    for (k, sum) in sums.iter().enumerate() {
+        let before = row.get(k as u32 + 1).value(steps);
+        least = lowered(least, quantile, before, sum.value(steps));
+    }
+    least
 }

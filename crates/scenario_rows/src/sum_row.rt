@@ -3,13 +3,12 @@ ghost use Rattle.std.specs.Prelude.{◌≡◌, ℕ, ◌+◌, ◌*◌, ◌≤◌,
 ghost use Rattle.fixed_num.specs.Sums.{total};
 ghost use Rattle.scenario_rows.specs.Changes.{changed_by};
 ghost use Rattle.scenario_rows.specs.Parts.{AreRowSums, part_in};
-ghost use Rattle.scenario_rows.specs.Shifts.{CanShift, shifted_by, AreBoundsOf, AreBoundsOnTheWay};
+ghost use Rattle.scenario_rows.specs.Shifts.{CanShift, shifted_by};
 
 use crate::change::{Change, RunChange};
 use crate::part::part;
-use crate::quantile::{least_rise, raised, sum_at_rank};
+use crate::quantile::{least_of_high, sum_at_rank};
 use crate::shift::{copy_sums, risk_total, shift, shift_by_runs};
-use crate::touched::is_running;
 use fixed_num::{Amount, Fixed, Steps, Sum};
 use instance_model::Instance;
 use quantile_index::Row;
@@ -97,35 +96,8 @@ impl<R: Row> SumRow<R> {
         part(alpha, self.row.len(), quantile, self.total.number())
     }
 
-    /// The total of the sums of period `t` after the changes by the runs, and at most their quantile: from the risks
-    /// alone.
-    fn bounds_after<L: Ledger>(
-        &self,
-        inst: &Instance,
-        runs: &[RunChange],
-        t: u32,
-        rank: u32,
-        steps: &mut Steps<L>,
-    ) -> (Amount, i128)
-        requires can { CanShift inst.now t runs.now self.now }
-        requires from { 1 ≤ rank }
-        requires to { rank ≤ length self.now }
-        ensures bounds { AreBoundsOf rank (shifted_by inst.now t runs.now self.now) result.0 result.1 }
-        ensures forward { steps.old ≤ steps.new }
-    {
-        let mut total = self.total;
-        let mut quantile = self.row.kth(rank, steps).value(steps);
-        for one in runs {
-            if is_running(inst, *one, t) {
-                let risks = inst.risks(one.i, one.s, t, steps);
-                total = one.change.total_after(total, risk_total(risks));
-                quantile = raised(quantile, least_rise(risks, one.change));
-            }
-        }
-        (total, quantile)
-    }
-
-    /// At most what the sums of period `t` add to the score after the changes by the runs.
+    /// At most what the sums of period `t` add to the score after the changes by the runs: nothing is ranked. The sums are
+    /// changed on scratch.
     pub(crate) fn least_part_after<L: Ledger>(
         &self,
         inst: &Instance,
@@ -133,17 +105,24 @@ impl<R: Row> SumRow<R> {
         t: u32,
         alpha: u32,
         rank: u32,
+        scratch: &mut [Sum],
         steps: &mut Steps<L>,
     ) -> Amount
         requires can { CanShift inst.now t runs.now self.now }
         requires alpha { alpha ≤ 1_000_000 }
         requires from { 1 ≤ rank }
         requires to { rank ≤ length self.now }
+        requires sums_room { length scratch.old ≡ length self.now }
         ensures least { result ≤ℤ part_in alpha rank (shifted_by inst.now t runs.now self.now) }
         ensures small { unsigned_abs result ≤ 3 * 1024 * 1024 * 10 ^ 26 }
+        ensures sums_room { length scratch.new ≡ length scratch.old }
         ensures forward { steps.old ≤ steps.new }
     {
-        let (total, quantile) = self.bounds_after(inst, runs, t, rank, steps);
+        copy_sums(&self.row, scratch);
+        shift_by_runs(inst, runs, t, scratch, steps);
+        let total = total_of(scratch, steps);
+        let before = self.row.kth(rank, steps).value(steps);
+        let quantile = least_of_high(&self.row, before, scratch, steps);
         part(alpha, self.row.len(), quantile, total.number())
     }
 
