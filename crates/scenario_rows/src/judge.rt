@@ -58,7 +58,7 @@ pub(crate) fn score_from<R: Row, L: Ledger>(
         return if_below(score, limit);
     }
     let period = &periods[t as usize - 1];
-    let least = period.least_part_after(inst, runs, t, scratch, steps);
+    let least = period.least_part_after(inst, runs, t, steps);
     let bound = score.minus(period.part()).plus(least);
     let after = score_from(
         periods,

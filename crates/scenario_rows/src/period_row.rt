@@ -98,27 +98,21 @@ impl<R: Row> PeriodRow<R> {
         self.part = self.row.part(self.alpha, self.rank, steps);
     }
 
-    /// At most what period `t`, which this is, adds to the score after the changes by the runs: nothing is ranked. The
-    /// sums are changed on scratch.
+    /// At most what period `t`, which this is, adds to the score after the changes by the runs: nothing is ranked.
     pub(crate) fn least_part_after<L: Ledger>(
         &self,
         inst: &Instance,
         runs: &[RunChange],
         t: u32,
-        scratch: &mut [Sum],
         steps: &mut Steps<L>,
     ) -> Amount
-        requires can { CanShift inst.now t runs.now self.now.sums }
-        requires room { length self.now.sums ≤ length scratch.old }
+        requires { CanShift inst.now t runs.now self.now.sums }
         ensures least { result ≤ℤ part_of (shifted_period inst.now t runs.now self.now) }
         ensures small { unsigned_abs result ≤ 3 * 1024 * 1024 * 10 ^ 26 }
-        ensures room { length scratch.new ≡ length scratch.old }
         ensures forward { steps.old ≤ steps.new }
     {
-        let n = self.row.len() as usize;
-        let scratch = &mut scratch[..n];
         self.row
-            .least_part_after(inst, runs, t, self.alpha, self.rank, scratch, steps)
+            .least_part_after(inst, runs, t, self.alpha, self.rank, steps)
     }
 
     /// What period `t`, which this is, adds to the score after the changes by the runs. The sums are changed on scratch.

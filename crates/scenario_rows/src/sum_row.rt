@@ -9,6 +9,7 @@ use crate::change::{Change, RunChange};
 use crate::part::part;
 use crate::quantile::{least_of_high, sum_at_rank};
 use crate::shift::{copy_sums, risk_total, shift, shift_by_runs};
+use crate::touched::is_running;
 use fixed_num::{Amount, Fixed, Steps, Sum};
 use instance_model::Instance;
 use quantile_index::Row;
@@ -96,8 +97,30 @@ impl<R: Row> SumRow<R> {
         part(alpha, self.row.len(), quantile, self.total.number())
     }
 
-    /// At most what the sums of period `t` add to the score after the changes by the runs: nothing is ranked. The sums are
-    /// changed on scratch.
+    /// The total of the sums of period `t` after the changes by the runs, from that of their risks.
+    fn total_after<L: Ledger>(
+        &self,
+        inst: &Instance,
+        runs: &[RunChange],
+        t: u32,
+        steps: &mut Steps<L>,
+    ) -> Amount
+        requires { CanShift inst.now t runs.now self.now }
+        ensures value { result ≡ total (shifted_by inst.now t runs.now self.now) }
+        ensures forward { steps.old ≤ steps.new }
+    {
+        let mut total = self.total;
+        for one in runs {
+            if is_running(inst, *one, t) {
+                let risks = inst.risks(one.i, one.s, t, steps);
+                total = one.change.total_after(total, risk_total(risks));
+            }
+        }
+        total
+    }
+
+    /// At most what the sums of period `t` add to the score after the changes by the runs: only the sums that were high
+    /// before are changed, and nothing is ranked.
     pub(crate) fn least_part_after<L: Ledger>(
         &self,
         inst: &Instance,
@@ -105,24 +128,19 @@ impl<R: Row> SumRow<R> {
         t: u32,
         alpha: u32,
         rank: u32,
-        scratch: &mut [Sum],
         steps: &mut Steps<L>,
     ) -> Amount
         requires can { CanShift inst.now t runs.now self.now }
         requires alpha { alpha ≤ 1_000_000 }
         requires from { 1 ≤ rank }
         requires to { rank ≤ length self.now }
-        requires sums_room { length scratch.old ≡ length self.now }
         ensures least { result ≤ℤ part_in alpha rank (shifted_by inst.now t runs.now self.now) }
         ensures small { unsigned_abs result ≤ 3 * 1024 * 1024 * 10 ^ 26 }
-        ensures sums_room { length scratch.new ≡ length scratch.old }
         ensures forward { steps.old ≤ steps.new }
     {
-        copy_sums(&self.row, scratch);
-        shift_by_runs(inst, runs, t, scratch, steps);
-        let total = total_of(scratch, steps);
+        let total = self.total_after(inst, runs, t, steps);
         let before = self.row.kth(rank, steps).value(steps);
-        let quantile = least_of_high(&self.row, before, scratch, steps);
+        let quantile = least_of_high(&self.row, inst, runs, t, before, steps);
         part(alpha, self.row.len(), quantile, total.number())
     }
 

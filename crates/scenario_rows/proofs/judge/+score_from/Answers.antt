@@ -57,13 +57,11 @@ score_from-requires g t c κs within =
     let e = exchanged_small c.args.score c.part.result c.least_part_after-least.result (512 + 2 * c.args.from)
     c.requires.small old c.least_part_after-least.ensures.small in
     let up = c.next_touched-t.ensures.from in
-    let room = c.least_part_after-least.ensures.room in
-    let can = subst (CanJudge c.args.inst.now c.args.runs.now c.args.periods.now) (sym room) c.requires.can in
     let small : unsigned_abs c.plus-bound.result
     ≤ (512 + 2 * (c.next_touched-t.result + 1)) * (3 * 1024 * 1024 * 10 ^ 26) =
     rw (c.plus-bound.ensures, c.minus.ensures) (omega (arith, e.1, up)) in (
       search rules,
-      (search rules, (search rules, (can, (c.requires.room ∙ sym room, (search rules, (search rules, small)))))),
+      (search rules, (search rules, (c.requires.can, (c.requires.room, (search rules, (search rules, small)))))),
     )
 
 -- the period that was read
@@ -115,7 +113,7 @@ part_after-part-requires-clause-sums_room g t c =
     let to : u ≤ inst.periods = omega (arith, c.periods.ensures.value) in
     let size = (period_read inst c.args.runs.now c.args.periods.now (length c.args.scratch.now) u
     c.index-periods-t.result c.requires.can from to c.index-periods-t.is).1 in
-    omega (arith, size, c.in_ok-after.ensures.sums_room, c.least_part_after-least.ensures.room)
+    omega (arith, size, c.in_ok-after.ensures.sums_room)
 
 pub part_after-part-requires-clause-values_room : goal.part_after-part-requires-clause-values_room
 part_after-part-requires-clause-values_room g t c =
