@@ -52,7 +52,14 @@ fn load_moved(inst: &Instance, load: Amount, one: StartChange, c: u32, t: u32) -
 }
 
 /// The load of resource `c` in period `t` after two starts have changed, which may be the same.
-fn load_after(loads: &Loads, inst: &Instance, first: StartChange, second: StartChange, c: u32, t: u32) -> Amount
+fn load_after(
+    loads: &Loads,
+    inst: &Instance,
+    first: StartChange,
+    second: StartChange,
+    c: u32,
+    t: u32,
+) -> Amount
     requires over { IsOver inst.now loads.now }
     requires first { CanChangeStart inst.now loads.now.board first }
     requires second { CanChangeStart inst.now loads.now.board second }
@@ -119,7 +126,16 @@ fn is_above_in_run(
     let past = cells_to(cells, one.to);
     for k in from..past {
         let cell = &cells[k];
-        if is_above_at(loads, inst, first, second, cell.resource, cell.period, cell.load, limit) {
+        if is_above_at(
+            loads,
+            inst,
+            first,
+            second,
+            cell.resource,
+            cell.period,
+            cell.load,
+            limit,
+        ) {
             return true;
         }
     }
@@ -129,7 +145,13 @@ fn is_above_in_run(
 impl Loads {
     /// Whether one of the loads to which new runs add is outside its limits by more than `limit` after two starts have
     /// changed, which may be the same: then all loads together are, too. Where the answer is no they may be as well.
-    pub fn is_above_after(&self, inst: &Instance, first: StartChange, second: StartChange, limit: i128) -> bool
+    pub fn is_above_after(
+        &self,
+        inst: &Instance,
+        first: StartChange,
+        second: StartChange,
+        limit: i128,
+    ) -> bool
         requires over { IsOver inst.now self.now }
         requires first { CanChangeStart inst.now self.now.board first }
         requires second { CanChangeStart inst.now self.now.board second }

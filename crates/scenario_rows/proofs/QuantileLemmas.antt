@@ -1,10 +1,9 @@
 -- How a quantile rises with its sums, and what a period adds with it.
 use Rattle.std.proofs.Common.{◌≡◌, ℕ, zero, suc, ◌-◌, ◌<◌, ◌≤◌, refl, sym, arith, ℤ, pos, ◌+ℤ◌, ◌-ℤ◌}
 use Rattle.std.proofs.Common.{◌*ℤ◌, ◌<ℤ◌, ◌≤ℤ◌, Bool, true, false, cond, List, [], ◌∷◌, ◌++◌, length, get_or, count_by}
-use Rattle.std.proofs.Common.{◌+◌, ◌∙◌, ap, subst, eqb, int_lt, int_le, int_cmp, is_lt, IsPermutation}
+use Rattle.std.proofs.Common.{◌∙◌, subst, int_lt, int_le, int_cmp, is_lt, IsPermutation}
 use Rattle.std.specs.List.Sorted.{IsSplitAround}
 use Rattle.std.proofs.lemmas.Bool.{false≢true}
-use Rattle.std.proofs.lemmas.Bool.Decides.{nat_tests}
 use Rattle.std.specs.Int.{int_max}
 use Rattle.std.proofs.lemmas.Int.{by_lt_z}
 use Rattle.std.proofs.lemmas.List.Sums.{sum_by-cons, sum_by-append, count_by-le-length}
@@ -99,25 +98,6 @@ mth_smallest-least m xs ys r one few each h =
   where
     too_low : (y : ℤ) → mth_smallest m ys <ℤ r → y ≤ℤ mth_smallest m ys → r ≤ℤ y → ⊥
     too_low y a b c = omega (arith, signed_arith, a, b, c)
-
--- the least number so far, after one more was looked at
-pub least_more : (xs ys : List ℤ) (k : ℕ) (q least before sum next : ℤ)
-    → ((j : ℕ) → j < k → q ≤ℤ get_or xs j (pos 0) → least ≤ℤ get_or ys j (pos 0)) → before ≡ get_or xs k (pos 0)
-    → sum ≡ get_or ys k (pos 0) → next ≤ℤ least → (q ≤ℤ before → next ≤ℤ sum) → (j : ℕ) → j < k + 1
-    → q ≤ℤ get_or xs j (pos 0) → next ≤ℤ get_or ys j (pos 0)
-least_more xs ys k q least before sum next h eb es kept high j l above = at (eqb j k) refl
-  where
-    transitive : (a b d : ℤ) → a ≤ℤ b → b ≤ℤ d → a ≤ℤ d
-    transitive a b d u v = omega (arith, signed_arith, u, v)
-
-    at : (b : Bool) → eqb j k ≡ b → next ≤ℤ get_or ys j (pos 0)
-    at true e =
-        let here : j ≡ k = grind (arith, nat_tests) in
-        let up : q ≤ℤ before = rw (eb, sym here) above in
-        subst (λ (x : ℤ). next ≤ℤ x) (es ∙ ap (λ (i : ℕ). get_or ys i (pos 0)) (sym here)) (high up)
-    at false e =
-        let other : j < k = grind (arith, nat_tests) in
-        transitive next least (get_or ys j (pos 0)) kept (h j other above)
 
 -- ---- what a greater quantile adds
 
