@@ -1,5 +1,5 @@
 //! Runs that are put on board or taken off it, and the change of sums by their risks.
-ghost use Rattle.std.specs.Prelude.{◌≡◌, ◌^◌, ◌<◌, pos, unsigned_abs};
+ghost use Rattle.std.specs.Prelude.{◌≡◌, ◌^◌, ◌<◌, unsigned_abs};
 ghost use Rattle.instance_model.specs.Plans.{IsSmallSum};
 ghost use Rattle.scenario_rows.specs.RunChanges.{start_after};
 ghost use Rattle.scenario_rows.specs.Changes.{changed};

@@ -1,5 +1,5 @@
 //! A row of scenario sums with their total, which is kept as they change: contracts see the sums.
-ghost use Rattle.std.specs.Prelude.{◌≡◌, ℕ, ◌+◌, ◌*◌, ◌≤◌, ◌^◌, ℤ, ◌≤ℤ◌, List, length, IfOk, IfSome, unsigned_abs};
+ghost use Rattle.std.specs.Prelude.{◌≡◌, ◌+◌, ◌*◌, ◌≤◌, ◌^◌, ℤ, ◌≤ℤ◌, List, length, IfOk, IfSome, unsigned_abs};
 ghost use Rattle.fixed_num.specs.Sums.{total};
 ghost use Rattle.scenario_rows.specs.Changes.{changed_by};
 ghost use Rattle.scenario_rows.specs.Parts.{AreRowSums, part_in};
