@@ -3,3 +3,4 @@ pub mod KeyLemmas
 pub mod TrailLemmas
 pub mod ChangingLemmas
 pub mod RunLemmas
+pub mod AboveLemmas

@@ -309,10 +309,7 @@ impl<'a, R: Row> Board<'a, R> {
         ensures forward { steps.old ≤ steps.new }
     {
         self.instance().fits();
-        let violation = self.violations.after(change);
-        if limit.violation < violation {
-            return None;
-        }
+        let violation = self.violations.after_within(change, limit.violation)?;
         let score = self.score_below(change, score_limit(violation, limit), steps)?;
         Some(Key { violation, score })
     }
@@ -327,9 +324,11 @@ impl<'a, R: Row> Board<'a, R> {
         ensures forward { steps.old ≤ steps.new }
     {
         let key = self.key();
-        let violation = self.violations.after(change);
-        if violation != key.violation {
-            return violation < key.violation;
+        let Some(violation) = self.violations.after_within(change, key.violation) else {
+            return false;
+        };
+        if violation < key.violation {
+            return true;
         }
         self.score_below(change, key.score, steps).is_some()
     }

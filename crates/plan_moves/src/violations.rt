@@ -1,6 +1,6 @@
 //! The starts of a plan with what they violate: contracts see the instance and the starts.
 ghost use Rattle.std.specs.Prelude.{◌≡◌, ◌+◌, ◌*◌, ◌^◌, ◌<◌, ◌≤◌, pos, ◌+ℤ◌, unsigned_abs, length, map, Some, IfOk};
-ghost use Rattle.std.specs.Prelude.{IsSome, IsTrue, slice_index, slice_set, swap};
+ghost use Rattle.std.specs.Prelude.{◌<ℤ◌, ◌≤ℤ◌, IfSome, IfNone, IsSome, IsTrue, slice_index, slice_set, swap};
 ghost use Rattle.instance_model.specs.Tables.{is_allowed};
 ghost use Rattle.instance_model.specs.Plans.{AreAllowedStarts, start_of};
 ghost use Rattle.instance_model.specs.Keys.{violation_of};
@@ -10,7 +10,7 @@ ghost use Rattle.plan_moves.specs.Trails.{undone, step_back, NamesBelow};
 
 use crate::change::Change;
 use instance_model::Instance;
-use resource_bands::Loads;
+use resource_bands::{Loads, StartChange};
 use season_exclusion::Clashes;
 use std::alloc::{AllocError, Global};
 use std::marker::Model;
@@ -49,6 +49,13 @@ fn move_load(loads: &mut Loads, inst: &Instance, i: u32, s: u32)
 {
     loads.take_run(inst, i);
     loads.add_run(inst, i, s);
+}
+
+/// The start of intervention `i` is changed.
+fn start_change(i: u32, from: u32, to: u32) -> StartChange
+    ensures { result ≡ record { i = i; from = from; to = to } }
+{
+    StartChange { i, from, to }
 }
 
 /// The violation, in counts of 10^-12: a broken exclusion counts as much as a load that is 1 outside its limits.
@@ -171,9 +178,10 @@ impl<'a> Violations<'a> {
     }
 
     /// The violation after a change, which is made and taken back.
-    pub(crate) fn after(&mut self, change: Change) -> i128
+    fn after(&mut self, change: Change) -> i128
         requires { CanChange self.old.instance self.old.starts change }
         ensures value { result ≡ violation_of self.old.instance (map Some (after_change change self.old.starts)) }
+        ensures small { unsigned_abs result < 2 * 10 ^ 37 }
         ensures same { self.new ≡ self.old }
     {
         self.allowed();
@@ -181,5 +189,68 @@ impl<'a> Violations<'a> {
         let violation = self.violation();
         self.undo(back);
         violation
+    }
+
+    /// Whether one load alone makes the violation more than `limit` after intervention `i` has got start `s`. Where the
+    /// answer is no it may be more as well.
+    fn is_above_moved(&self, i: u32, s: u32, limit: i128) -> bool
+        requires number { i < length self.now.instance.names }
+        requires allowed { IsTrue (is_allowed self.now.instance i s) }
+        ensures { IsTrue result
+            → limit <ℤ violation_of self.now.instance (map Some (slice_set self.now.starts i s)) }
+    {
+        let one = start_change(i, self.start_of(i), s);
+        self.loads.is_above_after(self.inst, one, one, limit)
+    }
+
+    /// The same after the starts of two interventions, which may be one, are exchanged.
+    fn is_above_exchanged(&self, i: u32, j: u32, limit: i128) -> bool
+        requires first { i < length self.now.instance.names }
+        requires second { j < length self.now.instance.names }
+        requires first_allowed { IsTrue (is_allowed self.now.instance i (slice_index self.now.starts j)) }
+        requires second_allowed { IsTrue (is_allowed self.now.instance j (slice_index self.now.starts i)) }
+        ensures { IsTrue result → limit <ℤ violation_of self.now.instance (map Some (swap self.now.starts i j)) }
+    {
+        let first = self.start_of(i);
+        let second = self.start_of(j);
+        let one = start_change(i, first, second);
+        let other = start_change(j, second, first);
+        self.loads.is_above_after(self.inst, one, other, limit)
+    }
+
+    /// Whether one load alone makes the violation more than `limit` after a change. Where the answer is no it may be
+    /// more as well.
+    fn is_above(&self, change: Change, limit: i128) -> bool
+        requires { CanChange self.now.instance self.now.starts change }
+        ensures { IsTrue result
+            → limit <ℤ violation_of self.now.instance (map Some (after_change change self.now.starts)) }
+    {
+        match change {
+            Change::Move { i, s } => self.is_above_moved(i, s, limit),
+            Change::Swap { i, j } => self.is_above_exchanged(i, j, limit),
+        }
+    }
+
+    /// The violation after a change, where it is at most `limit`. The change is made and taken back, unless one load
+    /// alone tells that it is more.
+    pub(crate) fn after_within(&mut self, change: Change, limit: i128) -> Option<i128>
+        requires { CanChange self.old.instance self.old.starts change }
+        ensures value { IfSome result
+            (λ v. v ≡ violation_of self.old.instance (map Some (after_change change self.old.starts))) }
+        ensures within { IfSome result (λ v. v ≤ℤ limit) }
+        ensures small { IfSome result (λ v. unsigned_abs v < 2 * 10 ^ 37) }
+        ensures none { IfNone result
+            (limit <ℤ violation_of self.old.instance (map Some (after_change change self.old.starts))) }
+        ensures same { self.new ≡ self.old }
+    {
+        if self.is_above(change, limit) {
+            return None;
+        }
+        let violation = self.after(change);
+        if violation <= limit {
+            Some(violation)
+        } else {
+            None
+        }
     }
 }

@@ -1,3 +1,4 @@
 pub mod ChangeLemmas
 pub mod OverLemmas
 pub mod WalkLemmas
+pub mod AboveLemmas

@@ -23,7 +23,7 @@ use Rattle.resource_bands.specs.Gaps.{gap_at, row_gap, rows_gap, signed, start_b
 use Rattle.resource_bands.specs.Gaps.{AreRowsChanged}
 
 -- ---- loads and limits
-gap_at-load : (inst : Tables) (board : List (Option ℕ)) (c t : ℕ)
+pub gap_at-load : (inst : Tables) (board : List (Option ℕ)) (c t : ℕ)
     → gap_at inst c t (load_sum inst board c t) ≡ band_gap inst board c t
 unfolding gap_at band_gap
 gap_at-load inst board c t = refl

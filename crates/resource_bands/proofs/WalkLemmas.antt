@@ -1,11 +1,10 @@
 -- The workloads of one start, taken one after another, and how they change the loads of all resources.
-use Rattle.std.proofs.Common.{◌≡◌, ◌≢◌, ℕ, zero, suc, ◌+◌, ◌-◌, ◌*◌, ◌<◌, ◌≤◌, ◌⊎◌, inl, inr, refl, sym, ◌∙◌, ap, subst}
+use Rattle.std.proofs.Common.{◌≡◌, ◌≢◌, ℕ, zero, suc, ◌+◌, ◌-◌, ◌<◌, ◌≤◌, ◌⊎◌, inl, inr, refl, sym, ◌∙◌, ap, subst}
 use Rattle.std.proofs.Common.{arith, ℤ, pos, ◌+ℤ◌, Bool, true, false, eqb, ltb, List, [], length, get_or, set, Some}
 use Rattle.std.proofs.lemmas.Bool.Decides.{nat_tests}
 use Rattle.std.proofs.lemmas.List.{get_or-set_same, get_or-set_other, length-set, get_or_default}
 use Rattle.instance_model.specs.declared.parts.LoadCell.{LoadCell}
 use Rattle.instance_model.specs.Fitting.{CellBefore, HasKey, AreCells, IsFitting}
-use Rattle.instance_model.specs.Naturals.{count_sum}
 use Rattle.instance_model.specs.Tables.{Tables, in_run, load_of}
 use Rattle.instance_model.specs.Plans.{load_at}
 use Rattle.instance_model.proofs.EntryLemmas.{IsRunning-from, count_sum_more, count_sum_le}

@@ -5,6 +5,7 @@
 //! instance it was made. Periods and starts count from 1; interventions and resources count from 0.
 #![tactic(auto)]
 
+mod above;
 mod cells;
 mod change;
 mod limit;
@@ -12,4 +13,5 @@ mod loads;
 mod row;
 mod rows;
 
+pub use above::StartChange;
 pub use loads::Loads;

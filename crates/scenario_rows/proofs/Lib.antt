@@ -7,4 +7,4 @@ pub mod OverLemmas
 pub mod QuantileLemmas
 pub mod ShiftLemmas
 pub mod JudgeLemmas
-pub mod BoundLemmas
+pub mod WayLemmas

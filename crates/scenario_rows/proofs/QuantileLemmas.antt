@@ -1,13 +1,13 @@
 -- How a quantile rises with its sums, and what a period adds with it.
-use Rattle.std.proofs.Common.{◌≡◌, ℕ, zero, suc, ◌-◌, ◌*◌, ◌<◌, ◌≤◌, ◌^◌, refl, sym, arith, ℤ, pos, neg_ℤ, ◌+ℤ◌, ◌-ℤ◌}
+use Rattle.std.proofs.Common.{◌≡◌, ℕ, zero, suc, ◌-◌, ◌<◌, ◌≤◌, refl, sym, arith, ℤ, pos, ◌+ℤ◌, ◌-ℤ◌}
 use Rattle.std.proofs.Common.{◌*ℤ◌, ◌<ℤ◌, ◌≤ℤ◌, Bool, true, false, cond, List, [], ◌∷◌, ◌++◌, length, get_or, count_by}
-use Rattle.std.proofs.Common.{◌+◌, ◌∙◌, ap, int_lt, int_le, unsigned_abs, int_cmp, is_lt, IsPermutation}
+use Rattle.std.proofs.Common.{◌∙◌, subst, int_lt, int_le, int_cmp, is_lt, IsPermutation}
 use Rattle.std.specs.List.Sorted.{IsSplitAround}
 use Rattle.std.proofs.lemmas.Bool.{false≢true}
 use Rattle.std.specs.Int.{int_max}
 use Rattle.std.proofs.lemmas.Int.{by_lt_z}
 use Rattle.std.proofs.lemmas.List.Sums.{sum_by-cons, sum_by-append, count_by-le-length}
-use Rattle.std.proofs.lemmas.List.Elements.{All-contains, Contains-append_right}
+use Rattle.std.proofs.lemmas.List.Elements.{Contains-append_right}
 use borrow.Author.Differences.{at_most_in, le-true, true_is_lt, true_is_le, false_is_lt, lt_out, le_out}
 use Rattle.quantile_index.proofs.BagLemmas.{count_no, count_yes}
 use Rattle.fixed_num.specs.Floors.{floor_of}
@@ -18,7 +18,7 @@ use Rattle.fixed_num.proofs.RankLemmas.{IsMthSmallest-mth_smallest, IsMthSmalles
 use Rattle.fixed_num.proofs.SignedLemmas.{signed_arith}
 use Rattle.instance_model.specs.Plans.{IsSmallSum}
 use Rattle.instance_model.proofs.DeviationLemmas.{scale_mono}
-use Rattle.scenario_rows.specs.Parts.{AreRowSums, part_in}
+use Rattle.scenario_rows.specs.Parts.{part_in}
 use Rattle.scenario_rows.specs.Shifts.{AreBoundsOf}
 use Rattle.scenario_rows.proofs.PartLemmas.{part_in_is}
 
@@ -78,25 +78,26 @@ IsMthSmallest-from_split m xs front back q moved split one place =
       upto = omega (arith, upto, all_upto, self_upto, place, one);
     })
 
--- where each number rises by at least d, so does the m-th smallest
-pub mth_smallest-raised : (m : ℕ) (xs ys : List ℤ) (d : ℤ) → 1 ≤ m → m ≤ length xs → length ys ≡ length xs
-    → ((k : ℕ) → k < length xs → (get_or xs k (pos 0) +ℤ d) ≤ℤ get_or ys k (pos 0))
-    → (mth_smallest m xs +ℤ d) ≤ℤ mth_smallest m ys
-mth_smallest-raised m xs ys d one few each h =
+-- where each number whose old one was no smaller than the m-th smallest is at least r, so is the m-th smallest
+pub mth_smallest-least : (m : ℕ) (xs ys : List ℤ) (r : ℤ) → 1 ≤ m → m ≤ length xs → length ys ≡ length xs
+    → ((k : ℕ) → k < length ys → mth_smallest m xs ≤ℤ get_or xs k (pos 0) → r ≤ℤ get_or ys k (pos 0))
+    → r ≤ℤ mth_smallest m ys
+mth_smallest-least m xs ys r one few each h =
     let q = mth_smallest m xs in
-    let r = mth_smallest m ys in
+    let w = mth_smallest m ys in
     let hx = IsMthSmallest-mth_smallest m xs (omega (arith, one)) few in
     let hy = IsMthSmallest-mth_smallest m ys (omega (arith, one)) (omega (arith, few, each)) in
-    by_lt_z r (q +ℤ d)
-    (λ l. let c = count_moved (λ y. int_le y r) (λ x. int_lt x q) ys xs each (λ k b e.
+    by_lt_z w r
+    (λ l. let c = count_moved (λ y. int_le y w) (λ x. int_lt x q) ys xs each (λ k b e.
     sym (true_is_lt (get_or xs k (pos 0)) q (lt_out (get_or xs k (pos 0)) q
-    (below (get_or xs k (pos 0)) (get_or ys k (pos 0)) q r (h k b) l
-    (at_most_in (get_or ys k (pos 0)) r (le-true (get_or ys k (pos 0)) r e)))))) in
+    (by_lt_z (get_or xs k (pos 0)) q (λ s. s) (λ s. absurd (too_low (get_or ys k (pos 0)) l
+    (at_most_in (get_or ys k (pos 0)) w (le-true (get_or ys k (pos 0)) w e))
+    (h k (omega (arith, b, each)) s))))))) in
     absurd (omega (arith, c, hy.upto, hx.below)))
     (λ l. l)
   where
-    below : (x y q r : ℤ) → (x +ℤ d) ≤ℤ y → r <ℤ (q +ℤ d) → y ≤ℤ r → x <ℤ q
-    below x y q r a b c = omega (arith, signed_arith, a, b, c)
+    too_low : (y : ℤ) → mth_smallest m ys <ℤ r → y ≤ℤ mth_smallest m ys → r ≤ℤ y → ⊥
+    too_low y a b c = omega (arith, signed_arith, a, b, c)
 
 -- ---- what a greater quantile adds
 
@@ -128,29 +129,16 @@ pub part_in-least : (a rank : ℕ) (xs : List ℤ) (s q : ℤ) → 1 ≤ length 
 part_in-least a rank xs s q some b =
     rw (part_in_is a rank xs, b.total) (part_mono a (length xs) q (mth_smallest rank xs) (total xs) some b.quantile)
 
--- ---- a bound on a quantile, kept in range
+-- ---- a bound on a quantile
 
-pub small_quantile : (rank : ℕ) (xs : List ℤ) → 1 ≤ rank → rank ≤ length xs → AreRowSums xs
-    → IsSmallSum (mth_smallest rank xs)
-small_quantile rank xs one few row =
-    All-contains IsSmallSum xs (mth_smallest rank xs) row.small
-    (IsMthSmallest-mth_smallest rank xs (omega (arith, one)) few).member
-
-kept_below : (a r : ℤ) → a ≤ℤ r → unsigned_abs r ≤ 1024 * 10 ^ 20
-    → (int_max (neg_ℤ (pos (1024 * 10 ^ 20))) a ≤ℤ r)
-    × (unsigned_abs (int_max (neg_ℤ (pos (1024 * 10 ^ 20))) a) ≤ 1024 * 10 ^ 20)
-kept_below a r h k = (omega (arith, signed_arith, h, k), omega (arith, signed_arith, h, k))
-
-pub AreBoundsOf-raised : (rank : ℕ) (xs ys : List ℤ) (s q d t r : ℤ) → 1 ≤ rank → rank ≤ length xs
-    → length ys ≡ length xs → AreRowSums ys
-    → ((k : ℕ) → k < length xs → (get_or xs k (pos 0) +ℤ d) ≤ℤ get_or ys k (pos 0)) → AreBoundsOf rank xs s q
-    → t ≡ total ys → r ≡ int_max (neg_ℤ (pos (1024 * 10 ^ 20))) (q +ℤ d) → AreBoundsOf rank ys t r
-AreBoundsOf-raised rank xs ys s q d t r one few each row h b et er =
-    let m = mth_smallest-raised rank xs ys d one few each h in
-    let small = small_quantile rank ys one (omega (arith, few, each)) row in
-    let sum = shifted_bound q (mth_smallest rank xs) (mth_smallest rank ys) b.quantile m in
-    let k = kept_below (q +ℤ d) (mth_smallest rank ys) sum small.small in
-    record { total = et; quantile = rw er k.0; small = record { small = rw er k.1 } }
-  where
-    shifted_bound : (q x y : ℤ) → q ≤ℤ x → (x +ℤ d) ≤ℤ y → (q +ℤ d) ≤ℤ y
-    shifted_bound q x y a b = omega (arith, signed_arith, a, b)
+pub AreBoundsOf-least : (rank : ℕ) (xs ys : List ℤ) (s before q : ℤ) → 1 ≤ rank → rank ≤ length xs
+    → length ys ≡ length xs → s ≡ total ys → before ≡ mth_smallest rank xs
+    → ((k : ℕ) → k < length ys → before ≤ℤ get_or xs k (pos 0) → q ≤ℤ get_or ys k (pos 0)) → IsSmallSum q
+    → AreBoundsOf rank ys s q
+AreBoundsOf-least rank xs ys s before q one few each es eb h small =
+    record {
+      total = es;
+      quantile = mth_smallest-least rank xs ys q one few each
+          (λ k l above. h k l (subst (λ (x : ℤ). x ≤ℤ get_or xs k (pos 0)) (sym eb) above));
+      small = small;
+    }

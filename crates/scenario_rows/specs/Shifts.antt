@@ -45,15 +45,6 @@ pub record AreBoundsOf (rank : ℕ) (sums : List ℤ) (s q : ℤ) : Type 0 where
   pub quantile : q ≤ℤ mth_smallest rank sums
   pub small : IsSmallSum q
 
--- the same of sums that the runs that are left change to these
-pub record AreBoundsOnTheWay (inst : Tables) (t rank : ℕ) (left : List RunChange) (end : List ℤ) (s q : ℤ)
-    : Type 0 where
-  pub sums : List ℤ
-  pub can : CanShift inst t left sums
-  pub rank_to : rank ≤ length sums
-  pub ends : shifted_by inst t left sums ≡ end
-  pub bounds : AreBoundsOf rank sums s q
-
 -- a period after the changes
 abbrev pub shifted_period : Tables → ℕ → List RunChange → PeriodState → PeriodState
 shifted_period inst t runs p = record p { sums = shifted_by inst t runs p.sums }

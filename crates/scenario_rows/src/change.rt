@@ -1,5 +1,5 @@
 //! Runs that are put on board or taken off it, and the change of sums by their risks.
-ghost use Rattle.std.specs.Prelude.{◌≡◌, ◌^◌, ◌<◌, pos, unsigned_abs};
+ghost use Rattle.std.specs.Prelude.{◌≡◌, ◌^◌, ◌<◌, unsigned_abs};
 ghost use Rattle.instance_model.specs.Plans.{IsSmallSum};
 ghost use Rattle.scenario_rows.specs.RunChanges.{start_after};
 ghost use Rattle.scenario_rows.specs.Changes.{changed};
@@ -41,17 +41,6 @@ impl Change {
         match self {
             Change::Add => total.plus(risk_total),
             Change::Take => total.minus(risk_total),
-        }
-    }
-
-    /// By how much the change by a risk raises a sum.
-    pub(crate) fn rise(self, risk: Fixed) -> i128
-        ensures value { result ≡ changed self (pos 0) risk }
-        ensures small { unsigned_abs result < 10 ^ 20 }
-    {
-        match self {
-            Change::Add => risk.count(),
-            Change::Take => -risk.count(),
         }
     }
 

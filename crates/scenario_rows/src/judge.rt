@@ -1,5 +1,6 @@
 //! A change judged on scratch: the score after it, where that is below a limit.
-ghost use Rattle.std.specs.Prelude.{◌≡◌, ◌+◌, ◌-◌, ◌*◌, ◌≤◌, ◌^◌, ◌+ℤ◌, ◌<ℤ◌, ◌≤ℤ◌, length, IfSome, IfNone, unsigned_abs};
+ghost use Rattle.std.specs.Prelude.{◌≡◌, ◌+◌, ◌-◌, ◌*◌, ◌≤◌, ◌^◌, ◌+ℤ◌, ◌<ℤ◌, ◌≤ℤ◌, length, IfSome, IfNone};
+ghost use Rattle.std.specs.Prelude.{unsigned_abs};
 ghost use Rattle.scenario_rows.specs.Shifts.{CanJudge, rise_from};
 
 use crate::change::RunChange;

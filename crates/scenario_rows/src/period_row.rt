@@ -98,8 +98,7 @@ impl<R: Row> PeriodRow<R> {
         self.part = self.row.part(self.alpha, self.rank, steps);
     }
 
-    /// At most what period `t`, which this is, adds to the score after the changes by the runs. No sum is read but the
-    /// quantile.
+    /// At most what period `t`, which this is, adds to the score after the changes by the runs: nothing is ranked.
     pub(crate) fn least_part_after<L: Ledger>(
         &self,
         inst: &Instance,
@@ -116,7 +115,8 @@ impl<R: Row> PeriodRow<R> {
             .least_part_after(inst, runs, t, self.alpha, self.rank, steps)
     }
 
-    /// What period `t`, which this is, adds to the score after the changes by the runs. The sums are changed on scratch.
+    /// What period `t`, which this is, adds to the score after the changes by the runs. The sums are changed on
+    /// scratch.
     pub(crate) fn part_after<L: Ledger>(
         &self,
         inst: &Instance,

@@ -1,13 +1,13 @@
 //! A row of scenario sums with their total, which is kept as they change: contracts see the sums.
-ghost use Rattle.std.specs.Prelude.{◌≡◌, ℕ, ◌+◌, ◌*◌, ◌≤◌, ◌^◌, ℤ, ◌≤ℤ◌, List, length, IfOk, IfSome, unsigned_abs};
+ghost use Rattle.std.specs.Prelude.{◌≡◌, ◌+◌, ◌*◌, ◌≤◌, ◌^◌, ℤ, ◌≤ℤ◌, List, length, IfOk, IfSome, unsigned_abs};
 ghost use Rattle.fixed_num.specs.Sums.{total};
 ghost use Rattle.scenario_rows.specs.Changes.{changed_by};
 ghost use Rattle.scenario_rows.specs.Parts.{AreRowSums, part_in};
-ghost use Rattle.scenario_rows.specs.Shifts.{CanShift, shifted_by, AreBoundsOf, AreBoundsOnTheWay};
+ghost use Rattle.scenario_rows.specs.Shifts.{CanShift, shifted_by};
 
 use crate::change::{Change, RunChange};
 use crate::part::part;
-use crate::quantile::{least_rise, raised, sum_at_rank};
+use crate::quantile::{least_of_high, sum_at_rank};
 use crate::shift::{copy_sums, risk_total, shift, shift_by_runs};
 use crate::touched::is_running;
 use fixed_num::{Amount, Fixed, Steps, Sum};
@@ -97,35 +97,30 @@ impl<R: Row> SumRow<R> {
         part(alpha, self.row.len(), quantile, self.total.number())
     }
 
-    /// The total of the sums of period `t` after the changes by the runs, and at most their quantile: from the risks
-    /// alone.
-    fn bounds_after<L: Ledger>(
+    /// The total of the sums of period `t` after the changes by the runs, from that of their risks.
+    fn total_after<L: Ledger>(
         &self,
         inst: &Instance,
         runs: &[RunChange],
         t: u32,
-        rank: u32,
         steps: &mut Steps<L>,
-    ) -> (Amount, i128)
-        requires can { CanShift inst.now t runs.now self.now }
-        requires from { 1 ≤ rank }
-        requires to { rank ≤ length self.now }
-        ensures bounds { AreBoundsOf rank (shifted_by inst.now t runs.now self.now) result.0 result.1 }
+    ) -> Amount
+        requires { CanShift inst.now t runs.now self.now }
+        ensures value { result ≡ total (shifted_by inst.now t runs.now self.now) }
         ensures forward { steps.old ≤ steps.new }
     {
         let mut total = self.total;
-        let mut quantile = self.row.kth(rank, steps).value(steps);
         for one in runs {
             if is_running(inst, *one, t) {
                 let risks = inst.risks(one.i, one.s, t, steps);
                 total = one.change.total_after(total, risk_total(risks));
-                quantile = raised(quantile, least_rise(risks, one.change));
             }
         }
-        (total, quantile)
+        total
     }
 
-    /// At most what the sums of period `t` add to the score after the changes by the runs.
+    /// At most what the sums of period `t` add to the score after the changes by the runs: only the sums that were high
+    /// before are changed, and nothing is ranked.
     pub(crate) fn least_part_after<L: Ledger>(
         &self,
         inst: &Instance,
@@ -143,7 +138,9 @@ impl<R: Row> SumRow<R> {
         ensures small { unsigned_abs result ≤ 3 * 1024 * 1024 * 10 ^ 26 }
         ensures forward { steps.old ≤ steps.new }
     {
-        let (total, quantile) = self.bounds_after(inst, runs, t, rank, steps);
+        let total = self.total_after(inst, runs, t, steps);
+        let before = self.row.kth(rank, steps).value(steps);
+        let quantile = least_of_high(&self.row, inst, runs, t, before, steps);
         part(alpha, self.row.len(), quantile, total.number())
     }
 

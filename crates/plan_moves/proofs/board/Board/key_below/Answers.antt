@@ -14,23 +14,23 @@ pub returns-in_err-score-clause-none : goal.returns-in_err-score-clause-none
 returns-in_err-score-clause-none g c =
     let now = c.args.self.now in
     let score = score_of now.instance (map Some (after_change c.args.change now.starts)) in
-    let same = c.after-violation.ensures.same ∙ c.self.view_is in
+    let same = c.in_ok-violation.ensures.same ∙ c.self.view_is in
     let small = score_of_small now.instance (map Some (after_change c.args.change now.starts))
     (subst IsFitting c.instance.ensures c.fits.ensures) in
-    let violation = limit_back c.after-violation.result (record { sfits = c.after-violation.type_inv })
-    ∙ c.after-violation.ensures.value
+    let violation = back_from_abs c.in_ok-violation.violation (omega (arith, c.in_ok-violation.ensures.small))
+    ∙ c.in_ok-violation.ensures.value
     ∙ ap (λ (b : Board). violation_of b.instance (map Some (after_change c.args.change b.starts))) c.self.view_is in
     let above = subst (λ (b : Board). by_bits c.score_limit.result
     ≤ℤ score_of b.instance (map Some (after_change c.args.change b.starts))) same c.in_err-score.ensures.none in
     let limit = subst (λ (l : ℤ). l ≤ℤ score)
     (limit_back c.score_limit.result (record { sfits = c.score_limit.type_inv })) above in
-    none_of c.from_residual.result _ (subst (λ (v : ℤ). ¬ KeyBelow (record { violation = v; score = score }) c.args.limit)
+    none_of c.from_residual-in_err-score.result _ (subst (λ (v : ℤ). ¬ KeyBelow (record { violation = v; score = score }) c.args.limit)
     violation (c.score_limit.ensures.above score small limit))
 
 pub returns-clause-below : goal.returns-clause-below
 returns-clause-below g c =
     let now = c.args.self.now in
-    let same = c.after-violation.ensures.same ∙ c.self.view_is in
+    let same = c.in_ok-violation.ensures.same ∙ c.self.view_is in
     let value = c.in_ok-score.ensures.value
     ∙ ap (λ (b : Board). score_of b.instance (map Some (after_change c.args.change b.starts))) same in
     let small : unsigned_abs c.in_ok-score.score < 10 ^ 33 =
@@ -39,6 +39,6 @@ returns-clause-below g c =
     let below = subst (λ (l : ℤ). c.in_ok-score.score <ℤ l)
     (limit_back c.score_limit.result (record { sfits = c.score_limit.type_inv })) c.in_ok-score.ensures.below in
     subst
-    (λ (x : ℤ). KeyBelow (record { violation = by_bits c.after-violation.result; score = x }) c.args.limit)
+    (λ (x : ℤ). KeyBelow (record { violation = by_bits c.in_ok-violation.violation; score = x }) c.args.limit)
     (sym (back_from_abs c.in_ok-score.score (omega (arith, small))))
     (c.score_limit.ensures.below c.in_ok-score.score below)
