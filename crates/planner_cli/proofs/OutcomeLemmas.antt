@@ -1,5 +1,5 @@
 -- What a run of the words promises, from what a run of their command does.
-use Rattle.std.proofs.Common.{◌≡◌, ℕ, List, Option, Some, None, refl, sym, ◌∙◌, ap, subst}
+use Rattle.std.proofs.Common.{◌≡◌, ℕ, List, Some, None, refl, sym, ◌∙◌, ap, subst}
 use Rattle.plan_desk.specs.Desk.{Shown}
 use Rattle.plan_desk.specs.Contents.{Says, KeepsFiles}
 use Rattle.instance_model.specs.Limits.{standard_limits}

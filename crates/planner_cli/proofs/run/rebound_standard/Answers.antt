@@ -13,6 +13,6 @@ returns g c =
     let old = g.D.Desk.shows c.args.desk.now in
     let new = g.D.Desk.shows c.rebound_within.new.desk in
     let words = map string_bytes c.args.words.now in
-    outcome_rebounds words old new c.rebound_within.result c.args.requires
+    outcome_rebounds words old new c.rebound_within.result c.requires
     (subst (λ (l : Limits). (source : Source) (cert out : List ℕ) → Asks words (rebound source cert out)
     → RunsRebound l source cert out old new c.rebound_within.result) c.standard-limits.ensures c.rebound_within.ensures)

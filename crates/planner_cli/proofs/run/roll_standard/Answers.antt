@@ -1,5 +1,5 @@
 -- The limits are the standard ones.
-use Rattle.std.proofs.Common.{ℕ, List, map, string_bytes, subst}
+use Rattle.std.proofs.Common.{ℕ, map, string_bytes, subst}
 use Rattle.instance_model.specs.declared.limits.Limits.{Limits}
 use Rattle.command_roll.specs.Rolling.{RollFiles, RunsRoll}
 use Rattle.planner_cli.specs.Words.{roll}
@@ -12,6 +12,6 @@ returns g c =
     let old = g.D.Desk.shows c.args.desk.now in
     let new = g.D.Desk.shows c.roll_within.new.desk in
     let words = map string_bytes c.args.words.now in
-    outcome_rolls words old new c.roll_within.result c.args.requires
+    outcome_rolls words old new c.roll_within.result c.requires
     (subst (λ (l : Limits). (files : RollFiles) (period : ℕ) → Asks words (roll files period)
     → RunsRoll l files period old new c.roll_within.result) c.standard-limits.ensures c.roll_within.ensures)
