@@ -145,8 +145,8 @@ pub fn is_due(rt: &impl Abort, audit: Audit, due: Audit) {
 fn a_deep_tree_is_audited_as_its_boxes_made_afresh(rt: HostRuntime) -> Result<(), Fail> {
     let whole = instance_text(rt.alloc())?;
     let shares = shares(rt.alloc())?;
-    for k in 0..26i128 {
-        let bound = (209 + 40 * k).saturating_mul(ONE);
+    for k in 0..26u64 {
+        let bound = i128::from(209 + 40 * k).saturating_mul(ONE);
         is_due(
             &rt,
             audit_bound(rt.alloc(), whole.as_str(), bound)?,
