@@ -16,3 +16,4 @@ pub mod EncloseLemmas
 pub mod ScoreLemmas
 pub mod ScoreSizeLemmas
 pub mod SmallTables
+pub mod RiskListLemmas

@@ -10,3 +10,4 @@ pub mod Values
 pub mod Rules
 pub mod Keys
 pub mod Exact
+pub mod RiskLists

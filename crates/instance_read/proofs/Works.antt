@@ -15,10 +15,11 @@ use Rattle.instance_shape.proofs.Clear.{IsClear}
 use Rattle.shape_walk.specs.declared.taken.Read.TheVariants.{Whole, Nothing}
 use Rattle.shape_walk.specs.Kept.{keep_value}
 use Rattle.shape_walk.specs.Reads.{read_of}
-use Rattle.instance_rows.specs.FileRows.{LoadRow, WorkloadRow, RiskRow, WorkRow, load_row, load_rows, workload_row}
+use Rattle.instance_rows.specs.FileRows.{LoadRow, WorkloadRow, WorkRow, load_row, load_rows, workload_row}
+use Rattle.instance_model.specs.RiskLists.{RiskRow}
 use Rattle.instance_rows.specs.FileRows.{risk_row, risk_rows, work_row, each_value}
 use Rattle.instance_rows.specs.RowFaults.{no_work}
-use Rattle.instance_rows.specs.RiskLists.{longer, add_to_last}
+use Rattle.instance_model.specs.RiskLists.{longer, add_to_last}
 use Rattle.instance_read.specs.Keeping.{with_whole, Works, no_works, no_workload, add_load, add_risk, open_risks}
 use Rattle.instance_read.specs.Keeping.{keep_works}
 use Rattle.instance_read.proofs.Branches.{is_beside, beside_under, beside_element}

@@ -7,7 +7,7 @@ use Rattle.instance_shape.specs.declared.spot.Spot.{Spot}
 use Rattle.instance_shape.specs.declared.spot.Spot.TheVariants as spot
 use Rattle.instance_rows.specs.FileRows.{BandRow, WorkloadRow, WorkRow, FileRows}
 use Rattle.instance_rows.specs.RowFaults.{no_band, no_work}
-use Rattle.instance_rows.specs.RiskLists.{add_to_last}
+use Rattle.instance_model.specs.RiskLists.{add_to_last}
 use Rattle.shape_walk.specs.declared.taken.Read.{Read}
 use Rattle.shape_walk.specs.declared.taken.Read.TheVariants.{Count, Whole, Millionths}
 use Rattle.shape_walk.specs.Reads.{read_of}

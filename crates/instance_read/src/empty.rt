@@ -6,7 +6,8 @@ ghost use Rattle.instance_rows.specs.Views.{band_view, workload_view, work_view,
 ghost use Rattle.instance_read.specs.Keeping as spec;
 
 use indexmap::IndexSet;
-use instance_rows::{Bands, FileRows, RiskLists, Work, Workload};
+use instance_model::RiskLists;
+use instance_rows::{Bands, FileRows, Work, Workload};
 use std::alloc::Global;
 
 /// A resource without limits.

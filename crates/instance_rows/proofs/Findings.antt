@@ -16,7 +16,8 @@ use Rattle.instance_shape.specs.Shape.{kind_of, under}
 use Rattle.instance_shape.specs.LookUp.{Entry, entries, elements, first_value, at_key, at_number, number_in, known}
 use Rattle.instance_shape.specs.LookUp.{count_at, workload}
 use Rattle.instance_shape.specs.FileTables.{some_differs}
-use Rattle.instance_rows.specs.FileRows.{RiskRow, LoadRow, risk_rows, load_rows, workload_row}
+use Rattle.instance_rows.specs.FileRows.{LoadRow, risk_rows, load_rows, workload_row}
+use Rattle.instance_model.specs.RiskLists.{RiskRow}
 use Rattle.instance_rows.specs.RowFaults.{is_list_at}
 use Rattle.instance_rows.specs.RowTables.{is_load_at, loads_of, load_at}
 use Rattle.instance_shape.proofs.Clear.{IsClear}

@@ -7,7 +7,7 @@ use Rattle.std.specs.List.{position_from}
 use Rattle.std.specs.Option.{option_or}
 use Rattle.std.proofs.lemmas.Bool.Decides.{nat_tests}
 use Rattle.std.proofs.Math.Nat.{mul-le-mul_right}
-use Rattle.instance_rows.specs.FileRows.{RiskRow}
+use Rattle.instance_model.specs.RiskLists.{RiskRow}
 use Rattle.instance_rows.specs.RowFaults.{is_list_at}
 use Rattle.instance_rows.specs.Grid.{place_of, HasPlaces}
 

@@ -17,4 +17,3 @@ pub mod FaultLaw
 pub mod Same
 pub mod Findings
 pub mod NumberedKeys
-pub mod RiskListLemmas

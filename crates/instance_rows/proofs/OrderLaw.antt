@@ -10,7 +10,8 @@ use Rattle.instance_model.specs.Tables.{allowed_of}
 use Rattle.instance_shape.specs.FileTables.{lists_below}
 use Rattle.instance_shape.proofs.ListsBelow.{all_lists, all_cond}
 use Rattle.instance_rows.specs.declared.fill.WorkTables.{WorkTables}
-use Rattle.instance_rows.specs.FileRows.{RiskRow, WorkRow}
+use Rattle.instance_rows.specs.FileRows.{WorkRow}
+use Rattle.instance_model.specs.RiskLists.{RiskRow}
 use Rattle.instance_rows.specs.Filled.{no_list, IsReady, AreTablesOf}
 use Rattle.instance_rows.specs.Grid.{place_of, one_or_none, order_of}
 use Rattle.instance_rows.specs.RowFaults.{is_list_at, used_durations}

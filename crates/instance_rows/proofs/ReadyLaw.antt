@@ -6,7 +6,8 @@ use Rattle.std.proofs.lemmas.Bool.Decides.{nat_tests}
 use Rattle.std.proofs.lemmas.List.{get_or_default}
 use Rattle.instance_model.specs.Tables.{allowed_of}
 use Rattle.instance_shape.specs.CrossFaults.{CrossFault, unless, first_in}
-use Rattle.instance_rows.specs.FileRows.{RiskRow, WorkRow, FileRows}
+use Rattle.instance_rows.specs.FileRows.{WorkRow, FileRows}
+use Rattle.instance_model.specs.RiskLists.{RiskRow}
 use Rattle.instance_rows.specs.Filled.{IsReady}
 use Rattle.instance_rows.specs.Grid.{place_of}
 use Rattle.instance_rows.specs.RowFaults.{no_work, used_durations, is_list_at, list_fault, run_fault, runs_fault}

@@ -1,5 +1,5 @@
 -- Defines the rows of a file: what it has of an instance, in its own words and order, before anything is looked up.
-use Rattle.std.specs.Prelude.{ℕ, ℤ, Bool, List, map, flat_map}
+use Rattle.std.specs.Prelude.{ℕ, ℤ, List, map, flat_map}
 use Rattle.json_grammar.specs.Tree.{Tree}
 use Rattle.instance_shape.specs.declared.fault.Known.TheVariants as is
 use Rattle.instance_shape.specs.declared.spot.Spot.TheVariants as spot
@@ -7,6 +7,7 @@ use Rattle.instance_shape.specs.Keys.{number_of}
 use Rattle.instance_shape.specs.LookUp.{Entry, elements, entries, keys, known, whole_at, text_at, count_at, part_at}
 use Rattle.instance_shape.specs.LookUp.{periods, scenarios}
 use Rattle.instance_shape.specs.Shape.{placed}
+use Rattle.instance_model.specs.RiskLists.{RiskRow}
 use Rattle.instance_shape.specs.FileTables.{some_differs, rounded}
 
 -- the limits of a resource, in counts of 10^-12
@@ -24,13 +25,6 @@ pub record LoadRow : Type 0 where
 pub record WorkloadRow : Type 0 where
   pub resource : List ℕ
   pub loads : List LoadRow
-
--- one list of risks: those in a period, at a start, and whether one of them differs from its count
-pub record RiskRow : Type 0 where
-  pub period : ℕ
-  pub start : ℕ
-  pub values : List ℤ
-  pub soft : Bool
 
 -- an intervention, with all of its durations
 pub record WorkRow : Type 0 where

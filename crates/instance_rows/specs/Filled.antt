@@ -2,7 +2,8 @@
 use Rattle.std.specs.Prelude.{◌≡◌, ℕ, ◌+◌, ◌<◌, ◌≤◌, true, false, List, [], flat_map, map, length, slice_index, IsSome}
 use Rattle.instance_model.specs.Tables.{allowed_of}
 use Rattle.instance_rows.specs.declared.fill.WorkTables.{WorkTables}
-use Rattle.instance_rows.specs.FileRows.{RiskRow, WorkRow}
+use Rattle.instance_rows.specs.FileRows.{WorkRow}
+use Rattle.instance_model.specs.RiskLists.{RiskRow}
 use Rattle.instance_rows.specs.Grid.{place_of}
 use Rattle.instance_rows.specs.RowFaults.{used_durations}
 use Rattle.instance_rows.specs.RowTables.{each_run, risks_at, soft_at, cells_at}

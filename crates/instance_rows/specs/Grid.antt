@@ -3,7 +3,8 @@ use Rattle.std.specs.Prelude.{◌≡◌, ℕ, ◌+◌, ◌*◌, ◌<◌, ◌≤�
 use Rattle.std.specs.List.{position_from}
 use Rattle.instance_shape.specs.FileTables.{lists_below}
 use Rattle.instance_rows.specs.declared.grid.Grid.{Grid}
-use Rattle.instance_rows.specs.FileRows.{RiskRow, WorkRow}
+use Rattle.instance_rows.specs.FileRows.{WorkRow}
+use Rattle.instance_model.specs.RiskLists.{RiskRow}
 use Rattle.instance_rows.specs.RowFaults.{used_durations, is_list_at}
 use Rattle.instance_rows.specs.RowTables.{each_run}
 

@@ -3,7 +3,6 @@ pub mod Cells
 pub mod FileRows
 pub mod Filled
 pub mod Grid
-pub mod RiskLists
 pub mod RowFaults
 pub mod RowTables
 pub mod Sound

@@ -5,7 +5,8 @@ use Rattle.instance_model.specs.Rules.{first_of, or_else}
 use Rattle.instance_model.specs.Tables.{allowed_of}
 use Rattle.instance_shape.specs.CrossFaults.{CrossFault, scenario_list, band_length, bad_tmax, no_delta, unknown}
 use Rattle.instance_shape.specs.CrossFaults.{no_risk, scenario_count, unless, first_in, is_among}
-use Rattle.instance_rows.specs.FileRows.{BandRow, WorkloadRow, RiskRow, WorkRow, FileRows}
+use Rattle.instance_rows.specs.FileRows.{BandRow, WorkloadRow, WorkRow, FileRows}
+use Rattle.instance_model.specs.RiskLists.{RiskRow}
 
 abbrev pub no_band : BandRow
 no_band = record { most = []; least = [] }

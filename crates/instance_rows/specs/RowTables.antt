@@ -5,7 +5,8 @@ use Rattle.instance_model.specs.declared.parts.LoadCell.{LoadCell}
 use Rattle.instance_model.specs.declared.parts.Exclusion.{Exclusion}
 use Rattle.instance_model.specs.Tables.{Tables, allowed_of}
 use Rattle.instance_shape.specs.FileTables.{lists_below, number_among}
-use Rattle.instance_rows.specs.FileRows.{LoadRow, WorkloadRow, RiskRow, FileRows}
+use Rattle.instance_rows.specs.FileRows.{LoadRow, WorkloadRow, FileRows}
+use Rattle.instance_model.specs.RiskLists.{RiskRow}
 use Rattle.instance_rows.specs.RowFaults.{used_durations, is_list_at}
 
 -- something for each allowed start and period of its run, in this order

@@ -8,11 +8,10 @@ ghost use Rattle.instance_rows.specs.Grid.{order_of};
 ghost use Rattle.instance_rows.specs.Views.{work_view};
 
 use crate::cells::load_cells;
-use crate::risk_lists::RiskLists;
 use crate::rows::Work;
 use fixed_num::Fixed;
 use indexmap::IndexSet;
-use instance_model::LoadCell;
+use instance_model::{LoadCell, RiskLists};
 use std::alloc::{AllocError, Global};
 
 /// The tables of interventions.

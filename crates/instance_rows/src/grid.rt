@@ -2,10 +2,10 @@
 
 ghost use Rattle.std.specs.Prelude.{◌≡◌, ◌+◌, ◌-◌, ◌*◌, ◌<◌, ◌≤◌, List, None, Some, IfOk, IfSome, IfNone, is_none};
 ghost use Rattle.std.specs.Prelude.{if◌then◌else◌, slice_index_or, slice_set, vec_len};
-ghost use Rattle.instance_rows.specs.FileRows.{RiskRow};
+ghost use Rattle.instance_model.specs.RiskLists.{RiskRow};
 ghost use Rattle.instance_rows.specs.Grid.{IsGridOf, place_of};
 
-use crate::risk_lists::RiskLists;
+use instance_model::RiskLists;
 use std::alloc::{AllocError, Global};
 
 /// For each start, then period, the number of the first list there is.

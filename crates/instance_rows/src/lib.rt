@@ -11,7 +11,6 @@ mod grid;
 mod limits;
 mod names;
 mod order;
-mod risk_lists;
 mod rows;
 mod seasons;
 #[cfg(test)]
@@ -20,5 +19,4 @@ mod works;
 
 pub use assembly::assemble;
 pub use fault::{CrossFault, RowsFault};
-pub use risk_lists::{RiskList, RiskLists};
 pub use rows::{Bands, FileRows, Load, Work, Workload};

@@ -9,9 +9,8 @@ ghost use Rattle.instance_rows.specs.Views.{work_view};
 
 use crate::fault::{CrossFault, RowsFault};
 use crate::grid::Grid;
-use crate::risk_lists::RiskLists;
 use crate::rows::{FileRows, Work};
-use instance_model::is_allowed_in;
+use instance_model::{RiskLists, is_allowed_in};
 use std::alloc::Global;
 
 /// The lists of risks of an intervention, and what they have to be.

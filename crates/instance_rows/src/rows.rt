@@ -1,6 +1,6 @@
 //! The rows of a file: what a reader keeps of it, in the file's own words and order.
 
-use crate::risk_lists::RiskLists;
+use instance_model::RiskLists;
 use fixed_num::Fixed;
 use indexmap::IndexSet;
 

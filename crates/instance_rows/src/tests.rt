@@ -5,10 +5,10 @@ ghost use Rattle.instance_rows.specs.Sound.{AreLoadsApart, AreSound, AreWorkload
 ghost use Rattle.instance_rows.specs.Views.{load_view, rows_view, work_view, workload_view};
 
 use crate::assembly::parts;
-use crate::{Bands, FileRows, Load, RiskLists, RowsFault, Work, Workload};
+use crate::{Bands, FileRows, Load, RowsFault, Work, Workload};
 use fixed_num::Fixed;
 use indexmap::IndexSet;
-use instance_model::{LoadCell, Parts};
+use instance_model::{LoadCell, Parts, RiskLists};
 use std::alloc::{AllocError, Global};
 use std::process::Abort;
 use std::test::Fail;

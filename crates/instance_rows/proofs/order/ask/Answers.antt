@@ -3,8 +3,8 @@ use Rattle.std.proofs.Common.{arith}
 use Rattle.std.specs.Prelude.{slice_index}
 use Rattle.std.proofs.lemmas.Bool.Decides.{nat_tests}
 use Rattle.instance_shape.specs.CrossFaults.{no_risk, scenario_count, unless}
-use Rattle.instance_rows.specs.FileRows.{RiskRow}
-use Rattle.instance_rows.specs.RiskLists.{list_view}
+use Rattle.instance_model.specs.RiskLists.{RiskRow}
+use Rattle.instance_model.specs.RiskLists.{list_view}
 use Rattle.instance_rows.specs.RowFaults.{is_list_at, list_fault}
 use Rattle.instance_rows.proofs.Places.{place_none, place_some, StandsAt}
 use Rattle.instance_rows.proofs.order.ask.Goals as goal

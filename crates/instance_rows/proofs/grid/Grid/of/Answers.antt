@@ -1,9 +1,9 @@
 use Rattle.std.proofs.Common.{◌≡◌, ℕ, ◌<◌, ◌*◌, List, [], ◌∷◌, ◌++◌, Vec, Global, Option, length, take, sym, ◌∙◌, ap}
 use Rattle.std.proofs.Common.{subst, arith}
 use Rattle.std.proofs.lemmas.List.{length-take-le}
-use Rattle.instance_rows.specs.FileRows.{RiskRow}
+use Rattle.instance_model.specs.RiskLists.{RiskRow}
 use Rattle.instance_rows.specs.Grid.{HasPlaces}
-use Rattle.instance_rows.specs.RiskLists.{list_view}
+use Rattle.instance_model.specs.RiskLists.{list_view}
 use Rattle.instance_rows.proofs.GridLemmas.{grid_in, grid_out, length-filled}
 use Rattle.instance_rows.proofs.Turns.{taken_more}
 use Rattle.instance_rows.proofs.grid.Grid.of.Goals as goal

@@ -2,9 +2,9 @@
 
 ghost use Rattle.std.specs.Prelude.{◌≡◌, ◌==◌, ◌<◌, ◌≤◌, ◌+◌, [], ◌∷◌, ◌++◌, false, drop, length, slice_index_or, OnOk};
 ghost use Rattle.std.specs.Prelude.{OnErr};
-ghost use Rattle.instance_rows.specs.FileRows.{RiskRow};
+ghost use Rattle.instance_model.specs.RiskLists.{RiskRow};
 ghost use Rattle.std.specs.List.{slice_range};
-ghost use Rattle.instance_rows.specs.RiskLists.{add_to_last, end_before, last_soft, list_view};
+ghost use Rattle.instance_model.specs.RiskLists.{add_to_last, end_before, last_soft, list_view};
 
 use fixed_num::Fixed;
 use std::alloc::{AllocError, Global};
@@ -39,8 +39,8 @@ pub struct RiskLists {
 
 impl Model for RiskLists {
     ghost use Rattle.std.specs.Prelude.{List, length};
-    ghost use Rattle.instance_rows.specs.FileRows.{RiskRow};
-    ghost use Rattle.instance_rows.specs.RiskLists.{lists_of, AreHeads};
+    ghost use Rattle.instance_model.specs.RiskLists.{RiskRow};
+    ghost use Rattle.instance_model.specs.RiskLists.{lists_of, AreHeads};
 
     ghost Value = { List RiskRow };
 

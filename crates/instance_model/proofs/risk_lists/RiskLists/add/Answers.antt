@@ -1,9 +1,9 @@
 use Rattle.std.proofs.Common.{◌≡◌, ◌++◌, ◌∷◌, [], sym, ◌∙◌, ap, subst, length, arith, List, false, true, ℤ}
 use Rattle.std.proofs.Common.{length-append}
-use Rattle.instance_rows.specs.RiskLists.{lists_of, AreHeads, last_soft, add_to_last}
-use Rattle.instance_rows.specs.declared.risk_lists.RiskHead.{RiskHead}
-use Rattle.instance_rows.proofs.RiskListLemmas.{heads_longer, heads_soft, lists_longer, lists_soft}
-use Rattle.instance_rows.proofs.risk_lists.RiskLists.add.Goals as goal
+use Rattle.instance_model.specs.RiskLists.{lists_of, AreHeads, last_soft, add_to_last}
+use Rattle.instance_model.specs.declared.risk_lists.RiskHead.{RiskHead}
+use Rattle.instance_model.proofs.RiskListLemmas.{heads_longer, heads_soft, lists_longer, lists_soft}
+use Rattle.instance_model.proofs.risk_lists.RiskLists.add.Goals as goal
 
 -- heads over one number more
 one_more : (hs : List RiskHead) (xs ys : List ℤ) (x : ℤ) → ys ≡ xs ++ x ∷ [] → AreHeads hs (length xs)

@@ -1,9 +1,15 @@
 -- Defines the lists of risks that heads and the numbers behind them stand for.
 use Rattle.std.specs.Prelude.{ℕ, ◌≤◌, ℤ, Bool, true, ◌||◌, List, [], ◌∷◌, ◌++◌, length}
 use Rattle.std.specs.List.{slice_range}
-use Rattle.instance_rows.specs.declared.risk_lists.RiskHead.{RiskHead}
-use Rattle.instance_rows.specs.declared.risk_lists.RiskList.{RiskList}
-use Rattle.instance_rows.specs.FileRows.{RiskRow}
+use Rattle.instance_model.specs.declared.risk_lists.RiskHead.{RiskHead}
+use Rattle.instance_model.specs.declared.risk_lists.RiskList.{RiskList}
+
+-- one list of risks: those in a period, at a start, and whether one of them differs from its count
+pub record RiskRow : Type 0 where
+  pub period : ℕ
+  pub start : ℕ
+  pub values : List ℤ
+  pub soft : Bool
 
 -- where the numbers of a list end: where those of the next one begin, or behind the last number
 abbrev pub end_before : List RiskHead → ℕ → ℕ

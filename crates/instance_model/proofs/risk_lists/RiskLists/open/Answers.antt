@@ -1,9 +1,9 @@
 use Rattle.std.proofs.Common.{◌++◌, ◌∷◌, [], sym, ◌∙◌, ap, subst, length, arith, List, false}
-use Rattle.instance_rows.specs.FileRows.{RiskRow}
-use Rattle.instance_rows.specs.RiskLists.{lists_of, AreHeads}
-use Rattle.instance_rows.specs.declared.risk_lists.RiskHead.{RiskHead}
-use Rattle.instance_rows.proofs.RiskListLemmas.{heads_open, lists_open}
-use Rattle.instance_rows.proofs.risk_lists.RiskLists.open.Goals as goal
+use Rattle.instance_model.specs.RiskLists.{RiskRow}
+use Rattle.instance_model.specs.RiskLists.{lists_of, AreHeads}
+use Rattle.instance_model.specs.declared.risk_lists.RiskHead.{RiskHead}
+use Rattle.instance_model.proofs.RiskListLemmas.{heads_open, lists_open}
+use Rattle.instance_model.proofs.risk_lists.RiskLists.open.Goals as goal
 
 pub invariant_of-self-2 : goal.invariant_of-self-2
 invariant_of-self-2 c =

@@ -1,6 +1,6 @@
 use Rattle.std.proofs.Common.{◌≡◌, ◌==◌, ◌∙◌, ap, length, arith}
-use Rattle.instance_rows.proofs.RiskListLemmas.{length-lists_of}
-use Rattle.instance_rows.proofs.risk_lists.RiskLists.is_empty.Goals as goal
+use Rattle.instance_model.proofs.RiskListLemmas.{length-lists_of}
+use Rattle.instance_model.proofs.risk_lists.RiskLists.is_empty.Goals as goal
 
 pub returns : goal.returns
 returns c =

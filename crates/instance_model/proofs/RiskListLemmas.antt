@@ -4,9 +4,9 @@ use Rattle.std.proofs.Common.{get_or, take, drop, set, refl, sym, ◌∙◌, ap,
 use Rattle.std.proofs.lemmas.List.{take-append-le, drop-append-le}
 use Rattle.std.proofs.lemmas.List.{take_all}
 use Rattle.std.specs.List.{slice_range}
-use Rattle.instance_rows.specs.declared.risk_lists.RiskHead.{RiskHead}
-use Rattle.instance_rows.specs.FileRows.{RiskRow}
-use Rattle.instance_rows.specs.RiskLists.{end_before, list_of, lists_of, AreHeads, add_to_last, last_soft}
+use Rattle.instance_model.specs.declared.risk_lists.RiskHead.{RiskHead}
+use Rattle.instance_model.specs.RiskLists.{RiskRow}
+use Rattle.instance_model.specs.RiskLists.{end_before, list_of, lists_of, AreHeads, add_to_last, last_soft}
 
 pub length-lists_of : (hs : List RiskHead) (xs : List ℤ) → length (lists_of hs xs) ≡ length hs
 length-lists_of [] xs = refl

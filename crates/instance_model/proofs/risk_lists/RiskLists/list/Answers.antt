@@ -1,10 +1,10 @@
 use Rattle.std.proofs.Common.{◌≡◌, ◌+◌, ◌<◌, ℕ, ℤ, suc, List, sym, ◌∙◌, ap, length, arith, add-one, get_or, drop}
 use Rattle.std.specs.List.{slice_range}
-use Rattle.instance_rows.specs.FileRows.{RiskRow}
-use Rattle.instance_rows.specs.RiskLists.{end_before, list_of}
-use Rattle.instance_rows.specs.declared.risk_lists.RiskHead.{RiskHead}
-use Rattle.instance_rows.proofs.RiskListLemmas.{length-lists_of, list_at, IsWithin, list_within}
-use Rattle.instance_rows.proofs.risk_lists.RiskLists.list.Goals as goal
+use Rattle.instance_model.specs.RiskLists.{RiskRow}
+use Rattle.instance_model.specs.RiskLists.{end_before, list_of}
+use Rattle.instance_model.specs.declared.risk_lists.RiskHead.{RiskHead}
+use Rattle.instance_model.proofs.RiskListLemmas.{length-lists_of, list_at, IsWithin, list_within}
+use Rattle.instance_model.proofs.risk_lists.RiskLists.list.Goals as goal
 
 pub index-head-requires : goal.index-head-requires
 index-head-requires c = omega
