@@ -11,3 +11,4 @@ pub mod Rules
 pub mod Keys
 pub mod Exact
 pub mod RiskLists
+pub mod RiskNumbers

@@ -5,6 +5,7 @@ ghost use Rattle.std.specs.Prelude.{slice_index, slice_index_or, slice_get, None
 ghost use Rattle.std.specs.Prelude.{unsigned_abs};
 ghost use Rattle.fixed_num.specs.Sums.{list_of};
 ghost use Rattle.instance_model.specs.Fitting.{IsFitting, AreCells};
+ghost use Rattle.instance_model.specs.RiskNumbers.{numbers_of};
 ghost use Rattle.instance_model.specs.View.{tables_of};
 ghost use Rattle.instance_model.specs.Tables.{scenarios_of, tmax, delta_of, is_allowed, in_run, risk_of, soft_of};
 ghost use Rattle.instance_model.specs.Tables.{load_of, rank_of, upper_of, lower_of, in_season_of, exclusion_of};
@@ -12,6 +13,7 @@ ghost use Rattle.instance_model.specs.Tables.{load_of, rank_of, upper_of, lower_
 use crate::cells::find_cell;
 use crate::offsets::{Offsets, is_allowed_in, numbers_to, start_count, sums_before};
 use crate::parts::{Exclusion, LoadCell, Parts};
+use crate::risk_numbers::RiskNumbers;
 use fixed_num::{Fixed, Steps};
 use std::alloc::{AllocError, Global};
 use std::marker::Model;
@@ -326,20 +328,21 @@ impl Instance {
     }
 
     /// The risks of intervention `i` at start `s` in period `t`, by scenario. Counts as one step for each.
-    pub fn risks<L: Ledger>(&self, i: u32, s: u32, t: u32, steps: &mut Steps<L>) -> &[Fixed]
+    pub fn risks<L: Ledger>(&self, i: u32, s: u32, t: u32, steps: &mut Steps<L>) -> RiskNumbers<'_>
         requires number { i < length self.now.names }
         requires allowed { IsTrue (is_allowed self.now i s) }
         requires running { IsTrue (in_run self.now i s t) }
         requires from { 1 ≤ t }
         requires to { t ≤ self.now.periods }
-        ensures each { length result.now ≡ scenarios_of self.now t }
-        ensures value { result.now ≡ list_of (scenarios_of self.now t) (λ k. risk_of self.now i s t (k + 1)) }
+        ensures each { length (numbers_of result) ≡ scenarios_of self.now t }
+        ensures value { numbers_of result
+            ≡ list_of (scenarios_of self.now t) (λ k. risk_of self.now i s t (k + 1)) }
         ensures cost { steps.new ≡ steps.old + scenarios_of self.now t }
     {
         let count = self.scenarios(t);
         count_steps(count, steps);
         let place = self.risks.place(i, s, t);
-        &self.parts.risks[place..place + count as usize]
+        RiskNumbers::Wide(&self.parts.risks[place..place + count as usize])
     }
 
     /// Whether one of the risk numbers of intervention `i` at start `s` in period `t` was changed by rounding.

@@ -32,8 +32,8 @@ impl Instance {
     {
         self.fits();
         let risks = self.risks(i, s, t, steps);
-        for (k, risk) in risks.iter().enumerate() {
-            sums[k] = sums[k].plus(*risk);
+        for k in 0..risks.len() {
+            sums[k] = sums[k].plus(risks.at(k));
         }
     }
 }

@@ -1,4 +1,4 @@
-use Rattle.std.proofs.Common.{◌≡◌, ◌+◌, ◌-◌, ◌<◌, ◌≤◌, ◌∙◌, ap, arith, length}
+use Rattle.std.proofs.Common.{◌+◌, ◌∙◌, ap, arith, length}
 use Rattle.fixed_num.proofs.SumLemmas.{length-list_of}
 use Rattle.instance_model.specs.Tables.{scenarios_of, risk_of}
 use Rattle.instance_model.proofs.IndexLemmas.{risk_facts}
