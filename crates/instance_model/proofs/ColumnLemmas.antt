@@ -1,6 +1,6 @@
 -- Columns and rows of offsets.
 use Rattle.std.proofs.Common.{◌≡◌, ℕ, zero, suc, ◌+◌, ◌-◌, ◌<◌, ◌≤◌, refl, sym, ◌∙◌, ap, subst, arith, List, [], ◌∷◌}
-use Rattle.std.proofs.Common.{◌++◌, length, get_or, Bool, true, false, Vec, below_more, ℤ, pos}
+use Rattle.std.proofs.Common.{◌++◌, length, get_or, true, Vec, below_more, ℤ, pos}
 use Rattle.std.proofs.Common.{take, drop}
 use Rattle.std.proofs.lemmas.Grind.{common_steps}
 use Rattle.std.proofs.lemmas.List.{length-take, length-drop, get_or-take, get_or-drop}
@@ -9,13 +9,15 @@ use Rattle.fixed_num.proofs.SumLemmas.{list_of-from}
 use Rattle.std.specs.declared.alloc.Global.{Global}
 use Rattle.instance_model.specs.declared.parts.Parts.{Parts}
 use Rattle.instance_model.specs.declared.offsets.Offsets.{Offsets}
-use Rattle.instance_model.specs.Tables.{Tables, scenarios_of, tmax, delta_of, is_allowed, in_run, entries_at}
-use Rattle.instance_model.specs.Tables.{entry_place, scenarios_before, periods_before, risk_of, risk_place, soft_of}
+use Rattle.instance_model.specs.Tables.{Tables, scenarios_of, tmax, delta_of, is_allowed, in_run, entries_at, entries_of}
+use Rattle.instance_model.specs.Tables.{entries_before, entry_place, scenarios_before, periods_before, risk_of, risk_place}
+use Rattle.instance_model.specs.Naturals.{count_sum}
+use Rattle.instance_model.specs.RunRisks.{list_place}
 use Rattle.instance_model.specs.Fitting.{IsFitting}
 use Rattle.instance_model.specs.View.{tables_of, rows_of, column_at, IsColumnOf, AreRowPlaces, AreOffsets, AreSums}
 use Rattle.instance_model.proofs.EntryLemmas.{IsRunning, IsRunning-from, entries_at-allowed, entry_place_same}
-use Rattle.instance_model.proofs.EntryLemmas.{take_sum_mono, take_sum_small}
-use Rattle.instance_model.proofs.FitLemmas.{risk_place_below, soft_place_below}
+use Rattle.instance_model.proofs.EntryLemmas.{take_sum_mono, take_sum_small, count_sum-zero, count_sum_same}
+use Rattle.instance_model.proofs.EntryLemmas.{entries_at_same}
 
 -- how many entries a start has, by a column
 pub entries_at_is : (inst : Tables) (column : List ℕ) (i s : ℕ) → is_allowed inst i s ≡ true
@@ -84,7 +86,7 @@ pub row_read : (rows : List (Vec ℕ Global)) (i : ℕ) (v : Vec ℕ Global) →
 row_read rows i v h e = grind (arith, common_steps)
 
 -- what the place of a period of a run asks of the offsets, and what it is
-pub record PlaceFacts (p : Parts) (o : Offsets) (before : ℕ → ℕ) (i s t : ℕ) : Type 0 where
+pub record PlaceFacts (inst : Tables) (o : Offsets) (before : ℕ → ℕ) (i s t : ℕ) : Type 0 where
   pub number : i < length o.places.items
   pub start : 1 ≤ s
   pub among : s ≤ length (get_or (rows_of o.places.items) i [])
@@ -92,7 +94,7 @@ pub record PlaceFacts (p : Parts) (o : Offsets) (before : ℕ → ℕ) (i s t : 
   pub ends : t ≤ length o.before.items
   pub rises : get_or o.before.items (s - 1) 0 ≤ get_or o.before.items (t - 1) 0
   pub place : get_or (get_or (rows_of o.places.items) i []) (s - 1) 0 + (get_or o.before.items (t - 1) 0
-      - get_or o.before.items (s - 1) 0) ≡ entry_place (tables_of p) before i s t
+      - get_or o.before.items (s - 1) 0) ≡ entry_place inst before i s t
 
 place_is : (inst : Tables) (column row : List ℕ) (i s t : ℕ) → AreRowPlaces inst (column_at column) i row → 1 ≤ s
     → s ≤ tmax inst i → get_or row (s - 1) 0 + (get_or column (t - 1) 0 - get_or column (s - 1) 0)
@@ -105,7 +107,7 @@ place_is inst column row i s t w one among =
 
 PlaceFacts-own : (p : Parts) (o : Offsets) (before : ℕ → ℕ) (i s t : ℕ) → IsFitting (tables_of p)
     → AreOffsets (tables_of p) o → IsColumnOf p.periods before o.before.items → i < length (tables_of p).names
-    → IsRunning (tables_of p) i s t → PlaceFacts p o before i s t
+    → IsRunning (tables_of p) i s t → PlaceFacts (tables_of p) o before i s t
 PlaceFacts-own p o before i s t f a c h r =
     let number : i < length (tables_of p).delta = omega (arith, h, f.delta_each) in
     let w = a.rows i number in
@@ -124,71 +126,87 @@ PlaceFacts-own p o before i s t f a c h r =
 
 pub PlaceFacts-from : (p : Parts) (inst : Tables) (o : Offsets) (before : ℕ → ℕ) (i s t : ℕ) → tables_of p ≡ inst
     → IsFitting (tables_of p) → AreOffsets (tables_of p) o → IsColumnOf p.periods before o.before.items
-    → i < length inst.names → is_allowed inst i s ≡ true → in_run inst i s t ≡ true → PlaceFacts p o before i s t
+    → i < length inst.names → is_allowed inst i s ≡ true → in_run inst i s t ≡ true → PlaceFacts inst o before i s t
 PlaceFacts-from p inst o before i s t e f a c =
     subst (λ (x : Tables). i < length x.names → is_allowed x i s ≡ true → in_run x i s t ≡ true
-    → PlaceFacts p o before i s t) e
+    → PlaceFacts x o before i s t) e
     (λ h al ru. PlaceFacts-own p o before i s t f a c h (IsRunning-from (tables_of p) i s t al ru))
 
--- the place of a risk is within the list
-pub risk_within : (p : Parts) (inst : Tables) (i s t k : ℕ) → tables_of p ≡ inst → IsFitting (tables_of p)
-    → i < length inst.names → is_allowed inst i s ≡ true → in_run inst i s t ≡ true → 1 ≤ k → k ≤ scenarios_of inst t
-    → entry_place (tables_of p) (scenarios_before (tables_of p)) i s t + (k - 1) < length p.risks.items
-unfolding risk_place
-risk_within p inst i s t k e f =
-    subst (λ (x : Tables). i < length x.names → is_allowed x i s ≡ true → in_run x i s t ≡ true → 1 ≤ k
-    → k ≤ scenarios_of x t → entry_place (tables_of p) (scenarios_before (tables_of p)) i s t + (k - 1)
-    < length p.risks.items) e
-    (λ h al ru one few. risk_place_below (tables_of p) i s t k f h al
-    (IsRunning-from (tables_of p) i s t al ru) one few)
+-- among the lists of an intervention
+lists_before : (inst : Tables) (column row : List ℕ) (i k : ℕ) → AreRowPlaces inst (column_at column) i row
+    → k < tmax inst i → get_or row k 0 ≡ count_sum i (entries_of inst (column_at column))
+    + count_sum k (λ j. entries_at inst (column_at column) i (j + 1))
+unfolding entries_before
+lists_before inst column row i k w h =
+    let e : k + 1 - 1 ≡ k = omega arith in
+    w.places k h ∙ ap (λ (n : ℕ). count_sum i (entries_of inst (column_at column))
+    + count_sum n (λ j. entries_at inst (column_at column) i (j + 1))) e
 
-pub soft_within : (p : Parts) (inst : Tables) (i s t : ℕ) → tables_of p ≡ inst → IsFitting (tables_of p)
+list_place_own : (p : Parts) (o : Offsets) (i s t : ℕ) → IsFitting (tables_of p) → AreOffsets (tables_of p) o
+    → IsColumnOf p.periods periods_before o.before.items → i < length (tables_of p).names
+    → IsRunning (tables_of p) i s t
+    → (get_or (get_or (rows_of o.places.items) i []) 0 0 ≤ get_or (get_or (rows_of o.places.items) i []) (s - 1) 0)
+    × (get_or (get_or (rows_of o.places.items) i []) (s - 1) 0 + (get_or o.before.items (t - 1) 0
+    - get_or o.before.items (s - 1) 0) - get_or (get_or (rows_of o.places.items) i []) 0 0
+    ≡ list_place (tables_of p) i s t)
+unfolding list_place periods_before
+list_place_own p o i s t f a c h r =
+    let inst = tables_of p in
+    let column = o.before.items in
+    let row = get_or (rows_of o.places.items) i [] in
+    let w = a.rows i (omega (arith, h, f.delta_each)) in
+    let here = lists_before inst column row i (s - 1) w (omega (arith, r.start, r.among)) in
+    let first = lists_before inst column row i 0 w (omega (arith, r.start, r.among)) in
+    let none = count_sum-zero (λ j. entries_at inst (column_at column) i (j + 1)) in
+    let same = count_sum_same (s - 1) (λ j. entries_at inst (column_at column) i (j + 1))
+    (λ j. entries_at inst periods_before i (j + 1))
+    (λ j l. entries_at_same inst (column_at column) periods_before i (j + 1) c.values) in
+    let last : t ≤ p.periods = omega (arith, r.to, r.ends) in
+    let from = c.values s r.start (omega (arith, r.from, last)) in
+    let to = c.values t (omega (arith, r.start, r.from)) (omega (arith, last)) in
+    (omega (arith, here, first, none), omega (arith, here, first, none, same, from, to, r.start, r.from))
+
+pub list_place_from : (p : Parts) (inst : Tables) (o : Offsets) (i s t : ℕ) → tables_of p ≡ inst
+    → IsFitting (tables_of p) → AreOffsets (tables_of p) o → IsColumnOf p.periods periods_before o.before.items
     → i < length inst.names → is_allowed inst i s ≡ true → in_run inst i s t ≡ true
-    → entry_place (tables_of p) periods_before i s t < length p.soft.items
-soft_within p inst i s t e f =
+    → (get_or (get_or (rows_of o.places.items) i []) 0 0 ≤ get_or (get_or (rows_of o.places.items) i []) (s - 1) 0)
+    × (get_or (get_or (rows_of o.places.items) i []) (s - 1) 0 + (get_or o.before.items (t - 1) 0
+    - get_or o.before.items (s - 1) 0) - get_or (get_or (rows_of o.places.items) i []) 0 0 ≡ list_place inst i s t)
+list_place_from p inst o i s t e f a c =
     subst (λ (x : Tables). i < length x.names → is_allowed x i s ≡ true → in_run x i s t ≡ true
-    → entry_place (tables_of p) periods_before i s t < length p.soft.items) e
-    (λ h al ru. soft_place_below (tables_of p) i s t f h al (IsRunning-from (tables_of p) i s t al ru))
-
-get_or_default : {X : Type 0} (xs : List X) (i : ℕ) (d e : X) → i < length xs → get_or xs i d ≡ get_or xs i e
-get_or_default [] i d e h = absurd (omega (arith, h))
-get_or_default (x ∷ xs) zero d e h = refl
-get_or_default (x ∷ xs) (suc i) d e h = get_or_default xs i d e (omega (arith, h))
-
-pub risk_read : (p : Parts) (inst : Tables) (i s t k n : ℕ) (v : ℤ) → tables_of p ≡ inst
-    → n ≡ entry_place (tables_of p) (scenarios_before (tables_of p)) i s t + (k - 1) → n < length p.risks.items
-    → v ≡ get_or p.risks.items n v → v ≡ risk_of inst i s t k
-unfolding risk_of risk_place
-risk_read p inst i s t k n v e m h r = subst
-    (λ (x : Tables). v ≡ get_or x.risks (entry_place x (scenarios_before x) i s t + (k - 1)) (pos 0)) e
-    (r ∙ get_or_default p.risks.items n v (pos 0) h ∙ ap (λ j. get_or p.risks.items j (pos 0)) m)
+    → (get_or (get_or (rows_of o.places.items) i []) 0 0 ≤ get_or (get_or (rows_of o.places.items) i []) (s - 1) 0)
+    × (get_or (get_or (rows_of o.places.items) i []) (s - 1) 0 + (get_or o.before.items (t - 1) 0
+    - get_or o.before.items (s - 1) 0) - get_or (get_or (rows_of o.places.items) i []) 0 0 ≡ list_place x i s t)) e
+    (λ h al ru. list_place_own p o i s t f a c h (IsRunning-from (tables_of p) i s t al ru))
 
 -- the risks of a period, one behind the other
-pub risks_read : (p : Parts) (inst : Tables) (i s t place n : ℕ) (risks : List ℤ) → tables_of p ≡ inst
-    → risks ≡ p.risks.items → place ≡ entry_place (tables_of p) (scenarios_before (tables_of p)) i s t
-    → place + n ≤ length p.risks.items → n ≡ scenarios_of inst t
-    → take (place + n - place) (drop place risks) ≡ list_of (scenarios_of inst t) (λ k. risk_of inst i s t (k + 1))
+pub risks_read : (inst : Tables) (i s t place : ℕ) (risks : List ℤ)
+    → place ≡ entry_place inst (scenarios_before inst) i s t → place + scenarios_of inst t ≤ length inst.risks
+    → risks ≡ inst.risks → take (place + scenarios_of inst t - place) (drop place risks)
+    ≡ list_of (scenarios_of inst t) (λ k. risk_of inst i s t (k + 1))
 unfolding risk_of risk_place
-risks_read p inst i s t place n risks e same m room count =
+risks_read inst i s t place risks m room same =
+    let n = scenarios_of inst t in
     let back : place + n - place ≡ n = omega arith in
     let each : length (take n (drop place risks)) ≡ n =
     omega (arith, length-take n (drop place risks), length-drop place risks, ap length same, room) in
     ap (λ (j : ℕ). take j (drop place risks)) back
-    ∙ list_of-from (scenarios_of inst t) (λ k. risk_of inst i s t (k + 1))
-    (take n (drop place risks)) (each ∙ count) (λ k l.
-    let low : k < n = omega (arith, l, count) in
+    ∙ list_of-from n (λ k. risk_of inst i s t (k + 1)) (take n (drop place risks)) each (λ k l.
     let next : k ≡ k + 1 - 1 = omega arith in
-    get_or-take n (drop place risks) k (pos 0) low
+    get_or-take n (drop place risks) k (pos 0) l
     ∙ get_or-drop place risks k (pos 0)
     ∙ ap (λ (xs : List ℤ). get_or xs (place + k) (pos 0)) same
-    ∙ ap (λ (j : ℕ). get_or p.risks.items (place + j) (pos 0)) next
-    ∙ ap (λ (j : ℕ). get_or p.risks.items (j + (k + 1 - 1)) (pos 0)) m
-    ∙ ap (λ (x : Tables). get_or x.risks (entry_place x (scenarios_before x) i s t + (k + 1 - 1)) (pos 0)) e)
+    ∙ ap (λ (j : ℕ). get_or inst.risks (place + j) (pos 0)) next
+    ∙ ap (λ (j : ℕ). get_or inst.risks (j + (k + 1 - 1)) (pos 0)) m)
 
-pub soft_read : (p : Parts) (inst : Tables) (i s t n : ℕ) (v : Bool) → tables_of p ≡ inst
-    → n ≡ entry_place (tables_of p) periods_before i s t → n < length p.soft.items → v ≡ get_or p.soft.items n v
-    → v ≡ soft_of inst i s t
-unfolding soft_of
-soft_read p inst i s t n v e m h r = subst
-    (λ (x : Tables). v ≡ get_or x.soft (entry_place x periods_before i s t) false) e
-    (r ∙ get_or_default p.soft.items n v false h ∙ ap (λ j. get_or p.soft.items j false) m)
+-- the risks of a period, in a list of their own
+pub list_read : (inst : Tables) (i s t : ℕ) (risks : List ℤ) → length risks ≡ scenarios_of inst t
+    → ((k : ℕ) → k < scenarios_of inst t
+    → get_or inst.risks (entry_place inst (scenarios_before inst) i s t + k) (pos 0) ≡ get_or risks k (pos 0))
+    → risks ≡ list_of (scenarios_of inst t) (λ k. risk_of inst i s t (k + 1))
+unfolding risk_of risk_place
+list_read inst i s t risks each h =
+    list_of-from (scenarios_of inst t) (λ k. risk_of inst i s t (k + 1)) risks each (λ k l.
+    let next : k ≡ k + 1 - 1 = omega arith in
+    sym (h k l)
+    ∙ ap (λ (j : ℕ). get_or inst.risks (entry_place inst (scenarios_before inst) i s t + j) (pos 0)) next)

@@ -12,3 +12,4 @@ pub mod Keys
 pub mod Exact
 pub mod RiskLists
 pub mod RiskNumbers
+pub mod RunRisks

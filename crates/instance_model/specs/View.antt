@@ -4,6 +4,7 @@ use Rattle.std.specs.Prelude.{[], Vec, sum, take}
 use Rattle.std.specs.declared.alloc.Global.{Global}
 use Rattle.instance_model.specs.declared.parts.Parts.{Parts}
 use Rattle.instance_model.specs.declared.offsets.Offsets.{Offsets}
+use Rattle.instance_model.specs.RunRisks.{risks_of, softs_of}
 use Rattle.instance_model.specs.Tables.{Tables, tmax, entries_before}
 
 -- the parts as tables
@@ -24,8 +25,8 @@ tables_of p =
       exclusion_names = map string_bytes p.exclusions.keys;
       excluded = p.excluded.items;
       loads = map (λ v. v.items) p.loads.items;
-      risks = p.risks.items;
-      soft = p.soft.items;
+      risks = risks_of p.risks;
+      soft = softs_of p.risks;
       rounded = p.rounded;
     }
 

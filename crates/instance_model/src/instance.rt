@@ -6,14 +6,17 @@ ghost use Rattle.std.specs.Prelude.{unsigned_abs};
 ghost use Rattle.fixed_num.specs.Sums.{list_of};
 ghost use Rattle.instance_model.specs.Fitting.{IsFitting, AreCells};
 ghost use Rattle.instance_model.specs.RiskNumbers.{numbers_of};
+ghost use Rattle.instance_model.specs.RunRisks.{SuitRuns, list_place};
 ghost use Rattle.instance_model.specs.View.{tables_of};
 ghost use Rattle.instance_model.specs.Tables.{scenarios_of, tmax, delta_of, is_allowed, in_run, risk_of, soft_of};
+ghost use Rattle.instance_model.specs.Tables.{entry_place, scenarios_before, periods_before};
 ghost use Rattle.instance_model.specs.Tables.{load_of, rank_of, upper_of, lower_of, in_season_of, exclusion_of};
 
 use crate::cells::find_cell;
 use crate::offsets::{Offsets, is_allowed_in, numbers_to, start_count, sums_before};
 use crate::parts::{Exclusion, LoadCell, Parts};
 use crate::risk_numbers::RiskNumbers;
+use crate::run_risks::{RunRisks, part};
 use fixed_num::{Fixed, Steps};
 use std::alloc::{AllocError, Global};
 use std::marker::Model;
@@ -51,7 +54,8 @@ fn count_steps<L: Ledger>(count: u32, steps: &mut Steps<L>)
 impl Instance {
     /// The instance of these tables. Takes memory for the places of the risks and of the soft flags.
     pub fn from_parts(alloc: Global, parts: Parts) -> Result<Instance, AllocError>
-        requires { IsFitting (tables_of parts) }
+        requires fits { IsFitting (tables_of parts) }
+        requires runs { SuitRuns (tables_of parts) parts.risks }
         ensures { IfOk result (λ inst. inst ≡ tables_of parts) }
     {
         let scenarios_before = sums_before(alloc, parts.scenarios.as_slice())?;
@@ -323,8 +327,7 @@ impl Instance {
         ensures cost { steps.new ≡ steps.old + 1 }
     {
         steps.tick();
-        let place = self.risks.place(i, s, t) + (k as usize - 1);
-        self.parts.risks[place]
+        self.risks_in(i, s, t).at(k as usize - 1)
     }
 
     /// The risks of intervention `i` at start `s` in period `t`, by scenario. Counts as one step for each.
@@ -339,10 +342,59 @@ impl Instance {
             ≡ list_of (scenarios_of self.now t) (λ k. risk_of self.now i s t (k + 1)) }
         ensures cost { steps.new ≡ steps.old + scenarios_of self.now t }
     {
-        let count = self.scenarios(t);
-        count_steps(count, steps);
-        let place = self.risks.place(i, s, t);
-        RiskNumbers::Wide(&self.parts.risks[place..place + count as usize])
+        count_steps(self.scenarios(t), steps);
+        self.risks_in(i, s, t)
+    }
+
+    /// The same, without a step.
+    fn risks_in(&self, i: u32, s: u32, t: u32) -> RiskNumbers<'_>
+        requires number { i < length self.now.names }
+        requires allowed { IsTrue (is_allowed self.now i s) }
+        requires running { IsTrue (in_run self.now i s t) }
+        ensures each { length (numbers_of result) ≡ scenarios_of self.now t }
+        ensures value { numbers_of result
+            ≡ list_of (scenarios_of self.now t) (λ k. risk_of self.now i s t (k + 1)) }
+    {
+        match &self.parts.risks {
+            RunRisks::InOrder { numbers, .. } => {
+                let from = self.risk_place(i, s, t);
+                part(numbers.as_slice(), from, from + self.scenarios(t) as usize)
+            }
+            RunRisks::AsRead(works) => works[i as usize].numbers(self.list_place(i, s, t)),
+        }
+    }
+
+    /// Where the risks of intervention `i` at start `s` in period `t` stand in the table of risks.
+    fn risk_place(&self, i: u32, s: u32, t: u32) -> usize
+        requires number { i < length self.now.names }
+        requires allowed { IsTrue (is_allowed self.now i s) }
+        requires running { IsTrue (in_run self.now i s t) }
+        ensures place { result ≡ entry_place self.now (scenarios_before self.now) i s t }
+        ensures within { result + scenarios_of self.now t ≤ length self.now.risks }
+        ensures small { result + scenarios_of self.now t < 2 ^ 63 }
+    {
+        self.risks.place(i, s, t)
+    }
+
+    /// The place of the same in the table of soft flags.
+    fn flag_place(&self, i: u32, s: u32, t: u32) -> usize
+        requires number { i < length self.now.names }
+        requires allowed { IsTrue (is_allowed self.now i s) }
+        requires running { IsTrue (in_run self.now i s t) }
+        ensures place { result ≡ entry_place self.now periods_before i s t }
+        ensures within { result < length self.now.soft }
+    {
+        self.soft.place(i, s, t)
+    }
+
+    /// The place of the same among the lists of intervention `i`.
+    fn list_place(&self, i: u32, s: u32, t: u32) -> usize
+        requires number { i < length self.now.names }
+        requires allowed { IsTrue (is_allowed self.now i s) }
+        requires running { IsTrue (in_run self.now i s t) }
+        ensures { result ≡ list_place self.now i s t }
+    {
+        self.soft.place_within(i, s, t)
     }
 
     /// Whether one of the risk numbers of intervention `i` at start `s` in period `t` was changed by rounding.
@@ -352,6 +404,9 @@ impl Instance {
         requires running { IsTrue (in_run self.now i s t) }
         ensures { result ≡ soft_of self.now i s t }
     {
-        self.parts.soft[self.soft.place(i, s, t)]
+        match &self.parts.risks {
+            RunRisks::InOrder { soft, .. } => soft[self.flag_place(i, s, t)],
+            RunRisks::AsRead(works) => works[i as usize].soft(self.list_place(i, s, t)),
+        }
     }
 }

@@ -15,6 +15,7 @@ mod risk_lists;
 mod risk_numbers;
 mod risks;
 mod rule;
+mod run_risks;
 mod starts;
 mod weighing;
 
@@ -26,5 +27,6 @@ pub use parts::{Exclusion, LoadCell, Parts};
 pub use risk_lists::{RiskList, RiskLists};
 pub use risk_numbers::RiskNumbers;
 pub use rule::Rule;
+pub use run_risks::{ReadRisks, RunRisks};
 pub use starts::{Starts, plan_of};
 pub use weighing::{excess_above, weighted};

@@ -175,4 +175,23 @@ impl Offsets {
         let row = self.places[i as usize].as_slice();
         row[s as usize - 1] + entries_between(self.before.as_slice(), s, t)
     }
+
+    /// The same place among the entries of intervention `i`.
+    pub fn place_within(&self, i: u32, s: u32, t: u32) -> usize
+        requires number { i < length self.now.places.items }
+        requires from { 1 ≤ s }
+        requires among { s ≤ length (slice_index_or (rows_of self.now.places.items) i []) }
+        requires order { s ≤ t }
+        requires ends { t ≤ length self.now.before.items }
+        requires rises { slice_index self.now.before.items (s - 1) ≤ slice_index self.now.before.items (t - 1) }
+        requires small { slice_index (slice_index_or (rows_of self.now.places.items) i []) (s - 1)
+            + (slice_index self.now.before.items (t - 1) - slice_index self.now.before.items (s - 1)) < 2 ^ 64 }
+        requires first { slice_index (slice_index_or (rows_of self.now.places.items) i []) 0
+            ≤ slice_index (slice_index_or (rows_of self.now.places.items) i []) (s - 1) }
+        ensures { result ≡ slice_index (slice_index_or (rows_of self.now.places.items) i []) (s - 1)
+            + (slice_index self.now.before.items (t - 1) - slice_index self.now.before.items (s - 1))
+            - slice_index (slice_index_or (rows_of self.now.places.items) i []) 0 }
+    {
+        self.place(i, s, t) - self.places[i as usize][0]
+    }
 }

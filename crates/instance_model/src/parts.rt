@@ -1,4 +1,5 @@
 //! The tables that an instance is made of, as plain data.
+use crate::run_risks::RunRisks;
 use fixed_num::Fixed;
 use indexmap::IndexSet;
 
@@ -43,10 +44,7 @@ pub struct Parts {
     pub excluded: Vec<Exclusion>,
     /// By intervention, strictly ascending by start, period, resource.
     pub loads: Vec<Vec<LoadCell>>,
-    /// By intervention, allowed start, period of the run, scenario.
-    pub risks: Vec<Fixed>,
-    /// By intervention, allowed start, period of the run: one of the risk numbers there was changed by rounding.
-    pub soft: Vec<bool>,
+    pub risks: RunRisks,
     /// How many numbers of the file were changed by rounding.
     pub rounded: u64,
 }
