@@ -23,7 +23,7 @@ periods_between : (a b : ℕ) → 1 ≤ a → periods_before (a + b) - periods_b
 unfolding periods_before
 periods_between a b h = omega arith
 
-periods_of_run : (inst : Tables) (i s : ℕ) → is_allowed inst i s ≡ true
+pub periods_of_run : (inst : Tables) (i s : ℕ) → is_allowed inst i s ≡ true
     → entries_at inst periods_before i s ≡ delta_of inst i s
 periods_of_run inst i s a =
     entries_at-allowed inst periods_before i s a

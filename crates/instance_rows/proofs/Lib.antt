@@ -1,6 +1,7 @@
 pub mod ReadyLaw
 pub mod SoundLaw
 pub mod OrderLaw
+pub mod RunsLaw
 pub mod CellTurns
 pub mod CellLaw
 pub mod CellMembers

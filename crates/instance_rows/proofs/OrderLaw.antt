@@ -5,14 +5,16 @@ use Rattle.std.specs.Prelude.{flat_map, slice_index, All, IsSome}
 use Rattle.std.proofs.lemmas.Grind.{flat_map-append}
 use Rattle.std.proofs.lemmas.List.{map-append}
 use Rattle.std.proofs.lemmas.List.Concat.{flat_map_single}
-use Rattle.std.proofs.lemmas.List.Elements.{All-nil, All-cons}
+use Rattle.std.proofs.lemmas.List.Elements.{All-nil, All-cons, All-head, All-tail}
 use Rattle.instance_model.specs.Tables.{allowed_of}
 use Rattle.instance_shape.specs.FileTables.{lists_below}
 use Rattle.instance_shape.proofs.ListsBelow.{all_lists, all_cond}
 use Rattle.instance_rows.specs.declared.fill.WorkTables.{WorkTables}
 use Rattle.instance_rows.specs.FileRows.{WorkRow}
 use Rattle.instance_model.specs.RiskLists.{RiskRow}
-use Rattle.instance_rows.specs.Filled.{no_list, IsReady, AreTablesOf}
+use Rattle.instance_rows.specs.Filled.{lists_taken, IsReady, AreTablesOf}
+use Rattle.instance_model.specs.RunRisks.{no_list, runs_of, flags_of}
+use Rattle.instance_model.specs.RunRisks as runs
 use Rattle.instance_rows.specs.Grid.{place_of, one_or_none, order_of}
 use Rattle.instance_rows.specs.RowFaults.{is_list_at, used_durations}
 use Rattle.instance_rows.specs.RowTables.{each_run, values_of, soft_of, risks_at, soft_at, cells_at}
@@ -101,25 +103,50 @@ order_below periods w =
     all_lists (λ k. k < length w.risks) (slice_index (used_durations w) k) _
     (λ j m. one_below w.risks (k + 1) (k + 1 + j) (place_of w.risks (k + 1) (k + 1 + j)) refl)))
 
+-- ---- the tables of what was taken
+
+-- the risks and the flags of the lists that were taken
+pub all_values : (periods : ℕ) (ws : List WorkRow) → flat_map runs.values_of (map (lists_taken periods) ws)
+    ≡ flat_map (λ w. each_run periods (used_durations w) (risks_at w.risks)) ws
+all_values periods [] = refl
+all_values periods (w ∷ ws) =
+    ap (λ q. q ++ flat_map runs.values_of (map (lists_taken periods) ws))
+    (joined_values w.risks (order_of periods w) ∙ values_taken periods w)
+    ∙ ap (λ q. each_run periods (used_durations w) (risks_at w.risks) ++ q) (all_values periods ws)
+  where
+    joined_values : (rs : List RiskRow) (ks : List ℕ) → runs.values_of (map (λ k. get_or rs k no_list) ks)
+        ≡ flat_map (λ k. (get_or rs k no_list).values) ks
+    joined_values rs [] = refl
+    joined_values rs (k ∷ ks) = ap (λ q. (get_or rs k no_list).values ++ q) (joined_values rs ks)
+
+pub all_flags : (periods : ℕ) (ws : List WorkRow) → All (λ w. IsReady periods w) ws
+    → flat_map flags_of (map (lists_taken periods) ws)
+    ≡ flat_map (λ w. each_run periods (used_durations w) (soft_at w.risks)) ws
+all_flags periods [] h = refl
+all_flags periods (w ∷ ws) h =
+    ap (λ q. q ++ flat_map flags_of (map (lists_taken periods) ws))
+    (joined_flags w.risks (order_of periods w)
+    ∙ soft_taken periods w (All-head (λ (w : WorkRow). IsReady periods w) w ws h))
+    ∙ ap (λ q. each_run periods (used_durations w) (soft_at w.risks) ++ q)
+    (all_flags periods ws (All-tail (λ (w : WorkRow). IsReady periods w) w ws h))
+  where
+    joined_flags : (rs : List RiskRow) (ks : List ℕ) → flags_of (map (λ k. get_or rs k no_list) ks)
+        ≡ map (λ k. (get_or rs k no_list).soft) ks
+    joined_flags rs [] = refl
+    joined_flags rs (k ∷ ks) = ap (λ q. (get_or rs k no_list).soft ∷ q) (joined_flags rs ks)
+
 -- ---- the tables after one intervention more
 
 pub tables_more : (periods : ℕ) (resources : List (List ℕ)) (works : List WorkRow) (w : WorkRow) (t u : WorkTables)
     → map (λ v. v.items) u.delta.items ≡ map (λ v. v.items) t.delta.items ++ used_durations w ∷ []
     → map (λ v. v.items) u.loads.items ≡ map (λ v. v.items) t.loads.items
     ++ each_run periods (used_durations w) (cells_at resources w.workloads) ∷ []
-    → u.risks.items ≡ t.risks.items ++ each_run periods (used_durations w) (risks_at w.risks)
-    → u.soft.items ≡ t.soft.items ++ each_run periods (used_durations w) (soft_at w.risks)
+    → map runs_of u.risks.items ≡ map runs_of t.risks.items ++ lists_taken periods w ∷ []
     → AreTablesOf periods resources works t → AreTablesOf periods resources (works ++ w ∷ []) u
-tables_more periods resources works w t u d l r s a = record {
+tables_more periods resources works w t u d l r a = record {
   delta = d ∙ ap (λ q. q ++ used_durations w ∷ []) a.delta ∙ sym (map-append used_durations works (w ∷ []));
   loads = l ∙ ap (λ q. q ++ each_run periods (used_durations w) (cells_at resources w.workloads) ∷ []) a.loads
       ∙ sym (map-append (λ w. each_run periods (used_durations w) (cells_at resources w.workloads)) works (w ∷ []));
-  risks = r ∙ ap (λ q. q ++ each_run periods (used_durations w) (risks_at w.risks)) a.risks
-      ∙ sym (flat_more (λ w. each_run periods (used_durations w) (risks_at w.risks)) works w);
-  soft = s ∙ ap (λ q. q ++ each_run periods (used_durations w) (soft_at w.risks)) a.soft
-      ∙ sym (flat_more (λ w. each_run periods (used_durations w) (soft_at w.risks)) works w);
+  risks = r ∙ ap (λ q. q ++ lists_taken periods w ∷ []) a.risks
+      ∙ sym (map-append (lists_taken periods) works (w ∷ []));
 }
-  where
-    flat_more : {B : Type 0} (g : WorkRow → List B) (ws : List WorkRow) (v : WorkRow)
-        → flat_map g (ws ++ v ∷ []) ≡ flat_map g ws ++ g v
-    flat_more g ws v = flat_map-append g ws (v ∷ []) ∙ ap (λ q. flat_map g ws ++ q) (append-nil (g v))

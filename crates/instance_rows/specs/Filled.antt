@@ -1,17 +1,18 @@
 -- Defines when an intervention has all that its tables need, and its tables.
-use Rattle.std.specs.Prelude.{◌≡◌, ℕ, ◌+◌, ◌<◌, ◌≤◌, true, false, List, [], flat_map, map, length, slice_index, IsSome}
+use Rattle.std.specs.Prelude.{◌≡◌, ℕ, ◌+◌, ◌<◌, ◌≤◌, true, List, map, length, slice_index, slice_index_or, IsSome}
+use Rattle.instance_model.specs.RiskLists.{RiskRow}
+use Rattle.instance_model.specs.RunRisks.{no_list, runs_of}
 use Rattle.instance_model.specs.Tables.{allowed_of}
 use Rattle.instance_rows.specs.declared.fill.WorkTables.{WorkTables}
 use Rattle.instance_rows.specs.FileRows.{WorkRow}
-use Rattle.instance_model.specs.RiskLists.{RiskRow}
-use Rattle.instance_rows.specs.Grid.{place_of}
+use Rattle.instance_rows.specs.Grid.{order_of, place_of}
 use Rattle.instance_rows.specs.RowFaults.{used_durations}
-use Rattle.instance_rows.specs.RowTables.{each_run, risks_at, soft_at, cells_at}
+use Rattle.instance_rows.specs.RowTables.{each_run, cells_at}
 use Rattle.instance_rows.specs.Sound.{AreWorkloadsApart}
 
--- no list of risks
-abbrev pub no_list : RiskRow
-no_list = record { period = 0; start = 0; values = []; soft = false }
+-- the lists of risks that the allowed runs of an intervention take, by start, then period
+abbrev pub lists_taken : ℕ → WorkRow → List RiskRow
+lists_taken periods w = map (λ k. slice_index_or w.risks k no_list) (order_of periods w)
 
 -- an intervention has no more starts than there are periods, a list of risks in each period of an allowed run, and
 -- workloads that are apart
@@ -26,5 +27,4 @@ pub record AreTablesOf (periods : ℕ) (resources : List (List ℕ)) (works : Li
   pub delta : map (λ v. v.items) t.delta.items ≡ map used_durations works
   pub loads : map (λ v. v.items) t.loads.items
       ≡ map (λ w. each_run periods (used_durations w) (cells_at resources w.workloads)) works
-  pub risks : t.risks.items ≡ flat_map (λ w. each_run periods (used_durations w) (risks_at w.risks)) works
-  pub soft : t.soft.items ≡ flat_map (λ w. each_run periods (used_durations w) (soft_at w.risks)) works
+  pub risks : map runs_of t.risks.items ≡ map (lists_taken periods) works

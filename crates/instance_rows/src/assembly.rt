@@ -3,6 +3,7 @@
 ghost use Rattle.std.specs.Prelude.{◌≡◌, None, IfOk, map, string_bytes};
 ghost use Rattle.json_grammar.specs.Tree as json;
 ghost use Rattle.instance_model.specs.declared.limits.Limits as limit;
+ghost use Rattle.instance_model.specs.RunRisks.{SuitRuns};
 ghost use Rattle.instance_model.specs.View.{tables_of};
 ghost use Rattle.instance_shape.specs.CrossFaults.{cross_fault};
 ghost use Rattle.instance_shape.specs.FileTables.{tables};
@@ -23,13 +24,13 @@ use crate::rows::FileRows;
 use crate::seasons::in_season;
 use crate::works::orders;
 use fixed_num::Fixed;
-use instance_model::{Exclusion, Instance, Parts};
+use instance_model::{Exclusion, Instance, Parts, RunRisks};
 use std::alloc::{AllocError, Global};
 
 /// The instance that the rows of a file define, or its first fault across the file. Each upper limit is raised and each
 /// lower limit lowered by the slack, from 0 to 10^9 counts of 10^-12. Takes time in proportion to the rows and to the
-/// starts and periods of the interventions, and memory beside the rows for the tables without the risks: the risks of
-/// an intervention are let go once they are in the table.
+/// starts and periods of the interventions, and memory beside the rows for the tables without the risks, which stay
+/// where they are.
 pub fn assemble(alloc: Global, rows: FileRows, slack: Fixed) -> Result<Instance, RowsFault>
     requires rows { (limits : limit.Limits) × ((root : json.Tree) × AreRowsOf limits root rows) }
     requires slack { IsSlack slack }
@@ -48,6 +49,7 @@ pub fn parts(alloc: Global, rows: FileRows, slack: Fixed) -> Result<Parts, RowsF
     requires { AreSound (rows_view rows) }
     ensures told { Tells (rows_fault (rows_view rows)) result }
     ensures tables { IfOk result (λ parts. tables_of parts ≡ rows_tables slack (rows_view rows)) }
+    ensures runs { IfOk result (λ parts. SuitRuns (tables_of parts) parts.risks) }
 {
     let checked = check(alloc, &rows)?;
     Ok(fill(alloc, rows, checked, slack)?)
@@ -87,20 +89,16 @@ fn fill(alloc: Global, rows: FileRows, checked: Checked, slack: Fixed) -> Result
         ≡ map (λ w. order_of rows.periods (work_view w)) rows.works.items }
     requires excluded { checked.excluded.items
         ≡ map (λ e. exclusion_of (rows_view rows) (map string_bytes e.items)) rows.exclusion_words.items }
-    ensures { IfOk result (λ parts. tables_of parts ≡ rows_tables slack (rows_view rows)) }
+    ensures tables { IfOk result (λ parts. tables_of parts ≡ rows_tables slack (rows_view rows)) }
+    ensures runs { IfOk result (λ parts. SuitRuns (tables_of parts) parts.risks) }
 {
     let upper = upper(alloc, rows.bands.as_slice(), slack)?;
     let lower = lower(alloc, rows.bands.as_slice(), slack)?;
     let in_season = in_season(alloc, rows.periods, rows.season_periods.as_slice())?;
     let works = rows.works;
     let resources = rows.resources;
-    let filled = work_tables(
-        alloc,
-        rows.periods,
-        &resources,
-        works,
-        checked.orders.as_slice(),
-    )?;
+    let mut orders = checked.orders;
+    let filled = work_tables(alloc, rows.periods, &resources, works, &mut orders)?;
     Ok(Parts {
         periods: rows.periods,
         alpha: rows.alpha,
@@ -116,8 +114,7 @@ fn fill(alloc: Global, rows: FileRows, checked: Checked, slack: Fixed) -> Result
         exclusions: rows.exclusions,
         excluded: checked.excluded,
         loads: filled.loads,
-        risks: filled.risks,
-        soft: filled.soft,
+        risks: RunRisks::AsRead(filled.risks),
         rounded: rows.rounded,
     })
 }
