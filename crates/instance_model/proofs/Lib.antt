@@ -17,3 +17,4 @@ pub mod ScoreLemmas
 pub mod ScoreSizeLemmas
 pub mod SmallTables
 pub mod RiskListLemmas
+pub mod RiskStorageLemmas
