@@ -18,3 +18,4 @@ pub mod ScoreSizeLemmas
 pub mod SmallTables
 pub mod RiskListLemmas
 pub mod RunLemmas
+pub mod RiskStorageLemmas

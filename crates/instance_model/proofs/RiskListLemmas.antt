@@ -1,12 +1,14 @@
 -- What becomes of lists of risks when a list is opened, and when the last one gains a number.
 use Rattle.std.proofs.Common.{◌≡◌, ℕ, zero, suc, ◌+◌, ◌-◌, ◌<◌, ◌≤◌, ℤ, Bool, true, false, List, [], ◌∷◌, ◌++◌, length}
 use Rattle.std.proofs.Common.{get_or, take, drop, set, refl, sym, ◌∙◌, ap, arith, length-drop, ◌||◌}
+use Rattle.std.proofs.Common.{append_assoc, length-append}
 use Rattle.std.proofs.lemmas.List.{take-append-le, drop-append-le}
-use Rattle.std.proofs.lemmas.List.{take_all}
+use Rattle.std.proofs.lemmas.List.{append-nil, take_all}
 use Rattle.std.specs.List.{slice_range}
 use Rattle.instance_model.specs.declared.risk_lists.RiskHead.{RiskHead}
 use Rattle.instance_model.specs.RiskLists.{RiskRow}
-use Rattle.instance_model.specs.RiskLists.{end_before, list_of, lists_of, AreHeads, add_to_last, last_soft}
+use Rattle.instance_model.specs.RiskLists.{end_before, list_of, lists_of, AreHeads, add_to_last, add_all_to_last}
+use Rattle.instance_model.specs.RiskLists.{last_first, last_soft}
 
 pub length-lists_of : (hs : List RiskHead) (xs : List ℤ) → length (lists_of hs xs) ≡ length hs
 length-lists_of [] xs = refl
@@ -64,7 +66,7 @@ before_new xs x a b h l =
     ∙ take-append-le (b - a) (drop a xs) (x ∷ []) (omega (arith, length-drop a xs))
 
 -- a part with all from a place on
-all_from : (xs : List ℤ) (a : ℕ) → slice_range xs a (length xs) ≡ drop a xs
+pub all_from : (xs : List ℤ) (a : ℕ) → slice_range xs a (length xs) ≡ drop a xs
 all_from xs a = take_all (length xs - a) (drop a xs) (omega (arith, length-drop a xs))
 
 with_new : (xs : List ℤ) (x : ℤ) (a : ℕ) → a ≤ length xs → slice_range (xs ++ x ∷ []) a (length (xs ++ x ∷ []))
@@ -97,7 +99,7 @@ lists_longer (h ∷ (g ∷ hs)) xs x a =
     r ∷ lists_of (g ∷ hs) (xs ++ x ∷ [])) (before_new xs x h.first g.first a.0 (first_low g hs (length xs) a.1))
     ∙ ap (λ q. list_of h (g ∷ hs) xs ∷ q) (lists_longer (g ∷ hs) xs x a.1)
 
-end_soft : (hs : List RiskHead) (n : ℕ) → end_before (last_soft hs) n ≡ end_before hs n
+pub end_soft : (hs : List RiskHead) (n : ℕ) → end_before (last_soft hs) n ≡ end_before hs n
 end_soft [] n = refl
 end_soft (h ∷ []) n = refl
 end_soft (h ∷ (g ∷ hs)) n = refl
@@ -128,6 +130,15 @@ lists_soft (h ∷ (g ∷ hs)) xs x a =
     (first_low g hs (length xs) a.1))
     ∙ ap (λ q. list_of h (g ∷ hs) xs ∷ q) (lists_soft (g ∷ hs) xs x a.1)
 
+pub lists_all : (hs : List RiskHead) (xs cs : List ℤ) → AreHeads hs (length xs)
+    → lists_of hs (xs ++ cs) ≡ add_all_to_last cs (lists_of hs xs)
+lists_all hs xs [] a = ap (lists_of hs) (append-nil xs)
+lists_all hs xs (c ∷ cs) a =
+    let longer : length xs ≤ length (xs ++ c ∷ []) = omega (arith, length-append xs (c ∷ [])) in
+    ap (lists_of hs) (sym (append_assoc xs (c ∷ []) cs))
+    ∙ lists_all hs (xs ++ c ∷ []) cs (heads_longer hs (length xs) (length (xs ++ c ∷ [])) longer a)
+    ∙ ap (add_all_to_last cs) (lists_longer hs xs c a)
+
 -- ---- one list
 
 pub list_at : (hs : List RiskHead) (xs : List ℤ) (k : ℕ) (h : RiskHead) (d : RiskRow) → k < length hs
@@ -153,7 +164,7 @@ pub record IsWithin (hs : List RiskHead) (k n : ℕ) (h : RiskHead) : Type 0 whe
   pub from : (get_or hs k h).first ≤ end_before (drop (suc k) hs) n
   pub to : end_before (drop (suc k) hs) n ≤ n
 
-end_within : (hs : List RiskHead) (n : ℕ) → AreHeads hs n → end_before hs n ≤ n
+pub end_within : (hs : List RiskHead) (n : ℕ) → AreHeads hs n → end_before hs n ≤ n
 end_within [] n a = omega arith
 end_within (h ∷ hs) n a = first_low h hs n a
 
@@ -173,3 +184,13 @@ last_soft-set (g ∷ []) zero h e i = ap (λ (k : RiskHead). let r : RiskHead =
 last_soft-set (g ∷ []) (suc n) h e i = absurd (omega arith)
 last_soft-set (g ∷ (k ∷ hs)) zero h e i = absurd (omega arith)
 last_soft-set (g ∷ (k ∷ hs)) (suc n) h e i = ap (λ q. g ∷ q) (last_soft-set (k ∷ hs) n h (omega arith) i)
+
+-- ---- where the last head begins
+
+pub last_first-at : (hs : List RiskHead) (n : ℕ) (h : RiskHead) (place : ℕ) → n + 1 ≡ length hs → h ≡ get_or hs n h
+    → h.first ≡ last_first hs place
+last_first-at [] n h place e i = absurd (omega arith)
+last_first-at (g ∷ []) zero h place e i = ap (λ (k : RiskHead). k.first) i
+last_first-at (g ∷ []) (suc n) h place e i = absurd (omega arith)
+last_first-at (g ∷ (k ∷ hs)) zero h place e i = absurd (omega arith)
+last_first-at (g ∷ (k ∷ hs)) (suc n) h place e i = last_first-at (k ∷ hs) n h place (omega arith) i

@@ -13,6 +13,7 @@ mod offsets;
 mod parts;
 mod risk_lists;
 mod risk_numbers;
+mod risk_storage;
 mod risks;
 mod rule;
 mod run_risks;

@@ -1,17 +1,19 @@
 //! The lists of risks of an intervention, in the order of the file.
 
-ghost use Rattle.std.specs.Prelude.{◌≡◌, ◌==◌, ◌<◌, ◌≤◌, ◌+◌, [], ◌∷◌, ◌++◌, false, drop, length, slice_index_or, OnOk};
+ghost use Rattle.std.specs.Prelude.{◌≡◌, ◌==◌, ◌<◌, ◌+◌, [], ◌∷◌, ◌++◌, false, drop, length, slice_index_or, OnOk};
 ghost use Rattle.std.specs.Prelude.{OnErr};
 ghost use Rattle.instance_model.specs.RiskLists.{RiskRow};
-ghost use Rattle.std.specs.List.{slice_range};
-ghost use Rattle.instance_model.specs.RiskLists.{add_to_last, end_before, last_soft, list_view};
+ghost use Rattle.instance_model.specs.RiskLists.{add_all_to_last, add_to_last, end_before, last_first, last_soft};
+ghost use Rattle.instance_model.specs.RiskLists.{list_view};
 
+use crate::risk_numbers::RiskNumbers;
+use crate::risk_storage::{add_counts, add_number, part};
 use fixed_num::Fixed;
 use std::alloc::{AllocError, Global};
 use std::marker::Model;
 
-/// The keys of a list, whether one of its numbers was rounded, and where its numbers begin. They end where those of the
-/// next list begin.
+/// The keys of a list, whether one of its numbers was rounded, and where its numbers begin: places count through, the
+/// wide numbers behind the narrow ones. They end where those of the next list begin.
 #[derive(Clone, Copy, Debug)]
 pub struct RiskHead {
     period: u32,
@@ -25,28 +27,30 @@ pub struct RiskHead {
 pub struct RiskList<'a> {
     pub period: u32,
     pub start: u32,
-    pub numbers: &'a [Fixed],
+    pub numbers: RiskNumbers<'a>,
     /// One of the numbers was changed by rounding.
     pub soft: bool,
 }
 
-/// Lists of risks. All their numbers stand in one list behind each other, so a number takes 16 bytes and no more.
+/// Lists of risks. All their numbers stand behind each other: a number takes 8 bytes, and from the first list on that
+/// has one which doesn't fit, 16. Each list stands whole among the narrow or the wide ones.
 #[derive(Drop)]
 pub struct RiskLists {
     heads: Vec<RiskHead>,
-    numbers: Vec<Fixed>,
+    narrow: Vec<i64>,
+    wide: Vec<Fixed>,
 }
 
 impl Model for RiskLists {
-    ghost use Rattle.std.specs.Prelude.{List, length};
+    ghost use Rattle.std.specs.Prelude.{List, ◌++◌};
     ghost use Rattle.instance_model.specs.RiskLists.{RiskRow};
-    ghost use Rattle.instance_model.specs.RiskLists.{lists_of, AreHeads};
+    ghost use Rattle.instance_model.specs.RiskLists.{lists_of, AreStored};
 
     ghost Value = { List RiskRow };
 
-    ghost view = { λ l. lists_of l.heads.items l.numbers.items };
+    ghost view = { λ l. lists_of l.heads.items (l.narrow.items ++ l.wide.items) };
 
-    ghost invariant = { λ l. AreHeads l.heads.items (length l.numbers.items) };
+    ghost invariant = { λ l. AreStored l.heads.items l.narrow.items l.wide.items };
 }
 
 impl RiskLists {
@@ -56,7 +60,8 @@ impl RiskLists {
     {
         RiskLists {
             heads: Vec::new(alloc),
-            numbers: Vec::new(alloc),
+            narrow: Vec::new(alloc),
+            wide: Vec::new(alloc),
         }
     }
 
@@ -70,7 +75,7 @@ impl RiskLists {
         } ∷ []) }
         ensures err { OnErr result (self.new ≡ self.old) }
     {
-        let first = self.numbers.len();
+        let first = self.narrow.len() + self.wide.len();
         self.heads.push(RiskHead {
             period,
             start,
@@ -85,11 +90,20 @@ impl RiskLists {
         ensures ok { OnOk result (self.new ≡ add_to_last number rounded self.old) }
         ensures err { OnErr result (self.new ≡ self.old) }
     {
-        self.numbers.push(number)?;
+        let first = first_of_last(&self.heads, self.narrow.len());
+        add_number(&mut self.narrow, &mut self.wide, first, number)?;
         if rounded {
             mark_last(&mut self.heads);
         }
         Ok(())
+    }
+
+    /// Adds numbers that reading has not changed to the last list.
+    pub fn add_all(&mut self, counts: &[i64]) -> Result<(), AllocError>
+        ensures ok { OnOk result (self.new ≡ add_all_to_last counts.now self.old) }
+        ensures err { OnErr result (self.new ≡ self.old) }
+    {
+        add_counts(&mut self.narrow, &mut self.wide, counts)
     }
 
     /// How many lists there are.
@@ -111,11 +125,11 @@ impl RiskLists {
         ensures { (d : RiskRow) → list_view result ≡ slice_index_or self.now k d }
     {
         let head = self.heads[k];
-        let end = end_of(&self.heads, k, self.numbers.len());
+        let end = end_of(&self.heads, k, self.narrow.len() + self.wide.len());
         RiskList {
             period: head.period,
             start: head.start,
-            numbers: part(&self.numbers, head.first, end),
+            numbers: part(&self.narrow, &self.wide, head.first, end),
             soft: head.soft,
         }
     }
@@ -132,13 +146,14 @@ fn end_of(heads: &[RiskHead], k: usize, count: usize) -> usize
     }
 }
 
-/// Some numbers from a place to another.
-fn part(numbers: &[Fixed], from: usize, to: usize) -> &[Fixed]
-    requires start { from ≤ to }
-    requires end { to ≤ length numbers.now }
-    ensures { result.now ≡ slice_range numbers.now from to }
+/// Where the last list begins, or `place` where there is none.
+fn first_of_last(heads: &[RiskHead], place: usize) -> usize
+    ensures { result ≡ last_first heads.now place }
 {
-    &numbers[from..to]
+    match heads.last() {
+        Some(head) => head.first,
+        None => place,
+    }
 }
 
 /// Marks the last list as soft.

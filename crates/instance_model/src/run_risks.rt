@@ -38,7 +38,7 @@ impl ReadRisks {
         requires { n < length (runs_of self.now) }
         ensures { numbers_of result ≡ (slice_index_or (runs_of self.now) n no_list).values }
     {
-        RiskNumbers::Wide(self.lists.list(self.order[n]).numbers)
+        self.lists.list(self.order[n]).numbers
     }
 
     /// Whether one of these risks was changed by rounding.

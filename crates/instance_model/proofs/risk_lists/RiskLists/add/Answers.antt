@@ -1,37 +1,59 @@
-use Rattle.std.proofs.Common.{◌≡◌, ◌++◌, ◌∷◌, [], sym, ◌∙◌, ap, subst, length, arith, List, false, true, ℤ}
+use Rattle.std.proofs.Common.{◌≡◌, ◌≤◌, ◌++◌, ◌∷◌, [], sym, ◌∙◌, ap, subst, length, arith, List, false, true}
 use Rattle.std.proofs.Common.{length-append}
-use Rattle.instance_model.specs.RiskLists.{lists_of, AreHeads, last_soft, add_to_last}
+use Rattle.instance_model.specs.RiskLists.{lists_of, AreStored, last_first, last_soft, add_to_last}
 use Rattle.instance_model.specs.declared.risk_lists.RiskHead.{RiskHead}
-use Rattle.instance_model.proofs.RiskListLemmas.{heads_longer, heads_soft, lists_longer, lists_soft}
+use Rattle.instance_model.proofs.RiskListLemmas.{lists_longer, lists_soft}
+use Rattle.instance_model.proofs.RiskStorageLemmas.{last_first_within, stored_more, stored_soft}
 use Rattle.instance_model.proofs.risk_lists.RiskLists.add.Goals as goal
 
--- heads over one number more
-one_more : (hs : List RiskHead) (xs ys : List ℤ) (x : ℤ) → ys ≡ xs ++ x ∷ [] → AreHeads hs (length xs)
-    → AreHeads hs (length ys)
-one_more hs xs ys x e a =
-    heads_longer hs (length xs) (length ys) (omega (arith, ap length e, length-append xs (x ∷ []))) a
+pub add_number-requires : goal.add_number-requires
+add_number-requires c = λ none.
+    let hs = c.self.inside.heads.items in
+    let xs = c.self.inside.narrow.items in let ys = c.self.inside.wide.items in
+    let first : c.first_of_last-first.result ≡ last_first hs c.len.result =
+    c.first_of_last-first.ensures ∙ ap (λ gs. last_first gs c.len.result) c.deref.ensures.value in
+    let within : last_first hs c.len.result ≤ length xs =
+    last_first_within hs (length (xs ++ ys)) c.len.result (length xs) c.self.invariant.ascend
+    (omega (arith, none, length-append xs ys)) (omega (arith, c.len.ensures)) in
+    omega (arith, first, within)
 
 pub invariant_of-self-then-rounded : goal.invariant_of-self-then-rounded
 invariant_of-self-then-rounded c =
-    subst (λ (hs : List RiskHead). AreHeads hs (length c.push.new.self.items)) (sym c.mark_last.ensures)
-    (heads_soft c.self.inside.heads.items _ (one_more c.self.inside.heads.items c.self.inside.numbers.items
-    c.push.new.self.items c.args.number c.in_ok-push.ensures.items c.self.invariant))
+    let hs = c.self.inside.heads.items in
+    let xs = c.self.inside.narrow.items in let ys = c.self.inside.wide.items in
+    let vs = c.add_number.new.narrow.items in let ws = c.add_number.new.wide.items in
+    let first : c.first_of_last-first.result ≡ last_first hs c.len.result =
+    c.first_of_last-first.ensures ∙ ap (λ gs. last_first gs c.len.result) c.deref.ensures.value in
+    let stored : AreStored hs vs ws =
+    stored_more hs xs ys vs ws (c.args.number ∷ []) c.first_of_last-first.result c.len.result first
+    c.in_ok-add_number.ensures.ok c.in_ok-add_number.ensures.seam c.self.invariant in
+    subst (λ (gs : List RiskHead). AreStored gs vs ws) (sym c.mark_last.ensures) (stored_soft hs vs ws stored)
 
 pub invariant_of-self-else-rounded : goal.invariant_of-self-else-rounded
-invariant_of-self-else-rounded c = one_more c.self.inside.heads.items c.self.inside.numbers.items c.push.new.self.items
-    c.args.number c.in_ok-push.ensures.items c.self.invariant
+invariant_of-self-else-rounded c =
+    let hs = c.self.inside.heads.items in
+    let xs = c.self.inside.narrow.items in let ys = c.self.inside.wide.items in
+    let vs = c.add_number.new.narrow.items in let ws = c.add_number.new.wide.items in
+    let first : c.first_of_last-first.result ≡ last_first hs c.len.result =
+    c.first_of_last-first.ensures ∙ ap (λ gs. last_first gs c.len.result) c.deref.ensures.value in
+    stored_more hs xs ys vs ws (c.args.number ∷ []) c.first_of_last-first.result c.len.result first
+    c.in_ok-add_number.ensures.ok c.in_ok-add_number.ensures.seam c.self.invariant
 
 pub returns-then-rounded-clause-ok : goal.returns-then-rounded-clause-ok
 returns-then-rounded-clause-ok c =
-    ap (λ hs. lists_of hs c.push.new.self.items) c.mark_last.ensures
-    ∙ ap (lists_of (last_soft c.self.inside.heads.items)) c.in_ok-push.ensures.items
-    ∙ lists_soft c.self.inside.heads.items c.self.inside.numbers.items c.args.number c.self.invariant
+    let hs = c.self.inside.heads.items in
+    let xs = c.self.inside.narrow.items in let ys = c.self.inside.wide.items in
+    ap (λ gs. lists_of gs (c.add_number.new.narrow.items ++ c.add_number.new.wide.items)) c.mark_last.ensures
+    ∙ ap (lists_of (last_soft hs)) c.in_ok-add_number.ensures.ok
+    ∙ lists_soft hs (xs ++ ys) c.args.number c.self.invariant.ascend
     ∙ ap (add_to_last c.args.number true) c.self.view_is
     ∙ ap (λ b. add_to_last c.args.number b c.args.self.now) (sym c.if-rounded.true)
 
 pub returns-else-rounded-clause-ok : goal.returns-else-rounded-clause-ok
 returns-else-rounded-clause-ok c =
-    ap (lists_of c.self.inside.heads.items) c.in_ok-push.ensures.items
-    ∙ lists_longer c.self.inside.heads.items c.self.inside.numbers.items c.args.number c.self.invariant
+    let hs = c.self.inside.heads.items in
+    let xs = c.self.inside.narrow.items in let ys = c.self.inside.wide.items in
+    ap (lists_of hs) c.in_ok-add_number.ensures.ok
+    ∙ lists_longer hs (xs ++ ys) c.args.number c.self.invariant.ascend
     ∙ ap (add_to_last c.args.number false) c.self.view_is
     ∙ ap (λ b. add_to_last c.args.number b c.args.self.now) (sym c.if-rounded.false)
