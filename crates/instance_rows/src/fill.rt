@@ -2,6 +2,7 @@
 
 ghost use Rattle.std.specs.Prelude.{◌≡◌, ◌≢◌, ℕ, ◌<◌, ◌≤◌, ◌∷◌, [], ◌++◌, List, All, AllPairs, IfOk, OnOk, flat_map};
 ghost use Rattle.std.specs.Prelude.{length, map, slice_index_or, string_bytes};
+ghost use Rattle.instance_model.specs.RiskNumbers.{numbers_of};
 ghost use Rattle.instance_rows.specs.FileRows.{WorkRow};
 ghost use Rattle.instance_rows.specs.Filled.{AreTablesOf, IsReady, no_list};
 ghost use Rattle.instance_rows.specs.Grid.{order_of};
@@ -11,7 +12,7 @@ use crate::cells::load_cells;
 use crate::rows::Work;
 use fixed_num::Fixed;
 use indexmap::IndexSet;
-use instance_model::{LoadCell, RiskLists};
+use instance_model::{LoadCell, RiskLists, RiskNumbers};
 use std::alloc::{AllocError, Global};
 
 /// The tables of interventions.
@@ -139,8 +140,18 @@ fn add_lists(
 {
     for k in order {
         let list = lists.list(*k);
-        risks.extend_from_slice(list.numbers)?;
+        add_numbers(RiskNumbers::Wide(list.numbers), risks)?;
         soft.push(list.soft)?;
+    }
+    Ok(())
+}
+
+/// Adds numbers.
+fn add_numbers(numbers: RiskNumbers<'_>, risks: &mut Vec<Fixed>) -> Result<(), AllocError>
+    ensures { OnOk result (risks.new.items ≡ risks.old.items ++ numbers_of numbers.entry) }
+{
+    for k in 0..numbers.len() {
+        risks.push(numbers.at(k))?;
     }
     Ok(())
 }

@@ -1,8 +1,8 @@
 //! The rows of a file: what a reader keeps of it, in the file's own words and order.
 
-use instance_model::RiskLists;
 use fixed_num::Fixed;
 use indexmap::IndexSet;
+use instance_model::RiskLists;
 
 /// The limits of a resource as the file has them, in counts of 10^-12.
 #[derive(Drop)]
