@@ -2,6 +2,7 @@
 ghost use Rattle.std.specs.Prelude.{◌≡◌, ◌+◌, ◌<◌, ◌≤◌, decimal, length, is_some, IsTrue};
 ghost use Rattle.fixed_num.specs.Sums.{list_of};
 ghost use Rattle.json_spelling.specs.Spelling.{spell};
+ghost use Rattle.instance_model.specs.RiskNumbers.{numbers_of};
 ghost use Rattle.instance_model.specs.Tables.{tmax, is_allowed, in_run, scenarios_of, risk_of};
 ghost use Rattle.instance_text.specs.Styles.{Style};
 ghost use Rattle.instance_text.specs.Written.{count_list, object_of, optional, numbered, risks_of, risk_value};
@@ -13,13 +14,13 @@ use crate::marks::{put_count, put_number_key};
 use crate::numerals::Numerals;
 use crate::sink::Sink;
 use crate::view::InstanceView;
-use fixed_num::{Fixed, Steps};
-use instance_model::Instance;
+use fixed_num::Steps;
+use instance_model::{Instance, RiskNumbers};
 use std::marker::Brand;
 use std::sync::ledger::{Blank, Ledger};
 
 // The risks of a start in a period, read on a new ledger.
-fn risks_on<L: Ledger>(inst: &Instance, i: u32, s: u32, t: u32, blank: Blank) -> &[Fixed]
+fn risks_on<L: Ledger>(inst: &Instance, i: u32, s: u32, t: u32, blank: Blank) -> RiskNumbers<'_>
     requires name { blank.name ≡ L.name }
     requires parts { blank.parts ≡ L.parts }
     requires some { 0 < blank.parts }
@@ -28,7 +29,7 @@ fn risks_on<L: Ledger>(inst: &Instance, i: u32, s: u32, t: u32, blank: Blank) ->
     requires running { IsTrue (in_run inst.now i s t) }
     requires from { 1 ≤ t }
     requires to { t ≤ inst.now.periods }
-    ensures { result.now ≡ list_of (scenarios_of inst.now t) (λ k. risk_of inst.now i s t (k + 1)) }
+    ensures { numbers_of result ≡ list_of (scenarios_of inst.now t) (λ k. risk_of inst.now i s t (k + 1)) }
 {
     let mut steps: Steps<L> = Steps::zero(blank);
     inst.risks(i, s, t, &mut steps)
@@ -144,28 +145,28 @@ fn put_start_risks<V: InstanceView, N: Numerals, S: Sink>(
 }
 
 // The risks of a start in a period of its run, by scenario.
-fn risks_of_run<V: InstanceView>(view: &V, i: u32, s: u32, t: u32) -> &[Fixed]
+fn risks_of_run<V: InstanceView>(view: &V, i: u32, s: u32, t: u32) -> RiskNumbers<'_>
     requires shown { IsViewOf (V.base view.now) (V.tables view.now) }
     requires number { i < length (V.base view.now).names }
     requires allowed { IsTrue (is_allowed (V.tables view.now) i s) }
     requires running { IsTrue (in_run (V.tables view.now) i s t) }
     requires from { 1 ≤ t }
     requires to { t ≤ (V.base view.now).periods }
-    ensures { result.now
+    ensures { numbers_of result
         ≡ list_of (scenarios_of (V.tables view.now) t) (λ k. risk_of (V.tables view.now) i s t (k + 1)) }
 {
     risks_on::<Brand>(view.instance(), i, s, t, Blank::new(1))
 }
 
-fn put_counts<N: Numerals, S: Sink>(counts: &[Fixed], sink: &mut S)
+fn put_counts<N: Numerals, S: Sink>(counts: RiskNumbers<'_>, sink: &mut S)
     requires ready { S.IsReady sink.old }
     ensures ready { S.IsReady sink.new }
-    ensures text { S.Takes (spell (count_list N.style counts.now)) sink.old sink.new }
+    ensures text { S.Takes (spell (count_list N.style (numbers_of counts.entry))) sink.old sink.new }
 {
     sink.put(b"[");
     let mut first = true;
-    for z in counts {
-        put_count::<N, _>(first, z.count(), sink);
+    for k in 0..counts.len() {
+        put_count::<N, _>(first, counts.at(k).count(), sink);
         first = false;
     }
     sink.put(b"]");

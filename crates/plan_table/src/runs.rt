@@ -2,13 +2,14 @@
 ghost use Rattle.std.specs.Prelude.{◌≡◌, ◌*◌, ◌<◌, ◌≤◌, ◌^◌, length, IfOk, IsTrue, unsigned_abs, slice_index, map, Some};
 ghost use Rattle.fixed_num.specs.Sums.{total};
 ghost use Rattle.instance_model.specs.Plans.{AreAllowedStarts, is_running};
+ghost use Rattle.instance_model.specs.RiskNumbers.{numbers_of};
 ghost use Rattle.instance_model.specs.Tables.{in_run, is_allowed};
 ghost use Rattle.plan_table.specs.Reports.{run_line_of, run_lines_of};
 
 use crate::lists::RunLines;
 use crate::report::RunLine;
-use fixed_num::{Fixed, Steps, ceil_div, floor_div};
-use instance_model::Instance;
+use fixed_num::{Steps, ceil_div, floor_div};
+use instance_model::{Instance, RiskNumbers};
 use plan_score::is_in_progress;
 use std::alloc::{AllocError, Global};
 use std::sync::ledger::Ledger;
@@ -24,14 +25,14 @@ pub(crate) fn is_running(inst: &Instance, starts: &[u32], i: u32, t: u32) -> boo
 }
 
 /// The sum of risks.
-fn total_risk(risks: &[Fixed]) -> i128
-    requires { length risks.now ≤ 1024 }
-    ensures value { result ≡ total risks.now }
+fn total_risk(risks: RiskNumbers<'_>) -> i128
+    requires { length (numbers_of risks) ≤ 1024 }
+    ensures value { result ≡ total (numbers_of risks.entry) }
     ensures small { unsigned_abs result ≤ 1024 * 10 ^ 20 }
 {
     let mut sum: i128 = 0;
-    for risk in risks {
-        sum += risk.count();
+    for k in 0..risks.len() {
+        sum += risks.at(k).count();
     }
     sum
 }

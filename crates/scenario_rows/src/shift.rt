@@ -1,14 +1,15 @@
 //! Scenario sums on scratch, changed by the risks of a run: contracts see lists by scenario.
 ghost use Rattle.std.specs.Prelude.{◌≡◌, ◌+◌, ◌*◌, ◌≤◌, ◌^◌, [], ◌∷◌, length, unsigned_abs};
 ghost use Rattle.fixed_num.specs.Sums.{total};
+ghost use Rattle.instance_model.specs.RiskNumbers.{numbers_of};
 ghost use Rattle.scenario_rows.specs.Changes.{changed_by};
 ghost use Rattle.scenario_rows.specs.Parts.{AreRowSums};
 ghost use Rattle.scenario_rows.specs.Shifts.{CanShift, shifted, shifted_by};
 
 use crate::change::{Change, RunChange};
 use crate::touched::is_running;
-use fixed_num::{Amount, Fixed, Steps, Sum};
-use instance_model::Instance;
+use fixed_num::{Amount, Steps, Sum};
+use instance_model::{Instance, RiskNumbers};
 use quantile_index::Row;
 use std::sync::ledger::Ledger;
 
@@ -23,13 +24,13 @@ pub(crate) fn copy_sums<R: Row>(row: &R, to: &mut [Sum])
 }
 
 /// Changes each sum by the risk of its scenario.
-pub(crate) fn shift(sums: &mut [Sum], risks: &[Fixed], change: Change)
-    requires each { length risks.now ≡ length sums.old }
-    requires small { AreRowSums (changed_by change risks.now sums.old) }
-    ensures { sums.new ≡ changed_by change risks.now sums.old }
+pub(crate) fn shift(sums: &mut [Sum], risks: RiskNumbers<'_>, change: Change)
+    requires each { length (numbers_of risks) ≡ length sums.old }
+    requires small { AreRowSums (changed_by change (numbers_of risks) sums.old) }
+    ensures { sums.new ≡ changed_by change (numbers_of risks.entry) sums.old }
 {
-    for (k, risk) in risks.iter().enumerate() {
-        sums[k] = change.sum_after(sums[k], *risk);
+    for k in 0..risks.len() {
+        sums[k] = change.sum_after(sums[k], risks.at(k));
     }
 }
 
@@ -68,14 +69,14 @@ pub(crate) fn shift_by_runs<L: Ledger>(
 }
 
 /// The total of some risks.
-pub(crate) fn risk_total(risks: &[Fixed]) -> Amount
-    requires { length risks.now ≤ 1024 }
-    ensures value { result ≡ total risks.now }
+pub(crate) fn risk_total(risks: RiskNumbers<'_>) -> Amount
+    requires { length (numbers_of risks) ≤ 1024 }
+    ensures value { result ≡ total (numbers_of risks.entry) }
     ensures small { unsigned_abs result ≤ 1024 * 10 ^ 20 }
 {
     let mut total = Amount::zero();
-    for risk in risks {
-        total = total.plus(Amount::of(risk.count()));
+    for k in 0..risks.len() {
+        total = total.plus(Amount::of(risks.at(k).count()));
     }
     total
 }

@@ -1,6 +1,7 @@
 //! A row of scenario sums with their total, which is kept as they change: contracts see the sums.
 ghost use Rattle.std.specs.Prelude.{◌≡◌, ◌+◌, ◌*◌, ◌≤◌, ◌^◌, ℤ, ◌≤ℤ◌, List, length, IfOk, IfSome, unsigned_abs};
 ghost use Rattle.fixed_num.specs.Sums.{total};
+ghost use Rattle.instance_model.specs.RiskNumbers.{numbers_of};
 ghost use Rattle.scenario_rows.specs.Changes.{changed_by};
 ghost use Rattle.scenario_rows.specs.Parts.{AreRowSums, part_in};
 ghost use Rattle.scenario_rows.specs.Shifts.{CanShift, shifted_by};
@@ -10,8 +11,8 @@ use crate::part::part;
 use crate::quantile::{least_of_high, sum_at_rank};
 use crate::shift::{copy_sums, risk_total, shift, shift_by_runs};
 use crate::touched::is_running;
-use fixed_num::{Amount, Fixed, Steps, Sum};
-use instance_model::Instance;
+use fixed_num::{Amount, Steps, Sum};
+use instance_model::{Instance, RiskNumbers};
 use quantile_index::Row;
 use std::alloc::{AllocError, Global};
 use std::marker::Model;
@@ -65,15 +66,15 @@ impl<R: Row> SumRow<R> {
     /// Changes each sum by the risk of its scenario. The new sums are made on scratch.
     pub(crate) fn change<L: Ledger>(
         &mut self,
-        risks: &[Fixed],
+        risks: RiskNumbers<'_>,
         change: Change,
         scratch: &mut [Sum],
         steps: &mut Steps<L>,
     )
-        requires each { length risks.now ≡ length self.old }
+        requires each { length (numbers_of risks) ≡ length self.old }
         requires room { length scratch.old ≡ length self.old }
-        requires small { AreRowSums (changed_by change risks.now self.old) }
-        ensures sums { self.new ≡ changed_by change risks.now self.old }
+        requires small { AreRowSums (changed_by change (numbers_of risks) self.old) }
+        ensures sums { self.new ≡ changed_by change (numbers_of risks.entry) self.old }
         ensures room { length scratch.new ≡ length scratch.old }
         ensures cost { IfSome R.most (λ most. steps.new ≤ steps.old + length self.old * most (length self.old)) }
         ensures forward { steps.old ≤ steps.new }

@@ -1,5 +1,6 @@
 use Rattle.std.proofs.Common.{◌≡◌, ◌∙◌, ◌+◌, sym, ap, subst, arith, ℕ, ℤ, List, length}
 use Rattle.fixed_num.proofs.SumLemmas.{length-list_of}
+use Rattle.instance_model.specs.RiskNumbers.{numbers_of}
 use Rattle.instance_model.specs.Tables.{scenarios_of, risk_of}
 use Rattle.scenario_rows.specs.RiskStates.{PeriodState}
 use Rattle.scenario_rows.specs.Changes.{CanChange, changed_period}
@@ -19,7 +20,7 @@ change-requires-clause-small g c =
     let can = subst (λ (p : PeriodState). CanChange c.args.inst.now c.args.change c.args.i c.args.s c.args.t p.sums)
     (sym c.self.view_is) c.requires.can in
     subst AreRowSums
-    (sym (changed_by-risks c.args.inst.now c.args.change c.args.i c.args.s c.args.t c.risks-risks.result.now
+    (sym (changed_by-risks c.args.inst.now c.args.change c.args.i c.args.s c.args.t (numbers_of c.risks-risks.result)
     c.self.inside.row c.risks-risks.ensures.value can.each)) can.row
 
 pub part-self-inside-requires-clause-to : goal.part-self-inside-requires-clause-to
@@ -29,7 +30,7 @@ part-self-inside-requires-clause-to g c =
       c.self.invariant.sound.rank_to,
       ap length c.change.ensures.sums,
       length-changed_by c.args.change
-          c.risks-risks.result.now c.self.inside.row,
+          (numbers_of c.risks-risks.result) c.self.inside.row,
     )
 
 pub invariant_of-self : goal.invariant_of-self
@@ -37,7 +38,7 @@ invariant_of-self g c =
     let can = subst (λ (p : PeriodState). CanChange c.args.inst.now c.args.change c.args.i c.args.s c.args.t p.sums)
     (sym c.self.view_is) c.requires.can in
     let e = c.change.ensures.sums ∙ changed_by-risks c.args.inst.now c.args.change c.args.i c.args.s c.args.t
-    c.risks-risks.result.now c.self.inside.row c.risks-risks.ensures.value can.each in
+    (numbers_of c.risks-risks.result) c.self.inside.row c.risks-risks.ensures.value can.each in
     record {
       sound = record {
         alpha = c.self.invariant.sound.alpha;
@@ -59,7 +60,7 @@ returns-clause-value g c =
     let can = subst (λ (p : PeriodState). CanChange c.args.inst.now c.args.change c.args.i c.args.s c.args.t p.sums)
     (sym c.self.view_is) c.requires.can in
     let e = c.change.ensures.sums ∙ changed_by-risks c.args.inst.now c.args.change c.args.i c.args.s c.args.t
-    c.risks-risks.result.now c.self.inside.row c.risks-risks.ensures.value can.each in
+    (numbers_of c.risks-risks.result) c.self.inside.row c.risks-risks.ensures.value can.each in
     ap (λ (xs : List ℤ). record { alpha = c.self.inside.alpha; rank = c.self.inside.rank; sums = xs }) e
     ∙ ap (λ (p : PeriodState). changed_period c.args.inst.now c.args.change c.args.i c.args.s c.args.t p) c.self.view_is
 

@@ -1,4 +1,5 @@
 use Rattle.std.proofs.Common.{◌≡◌, ◌∙◌, ◌+◌, sym, ap, subst, arith, ℤ, get_or, drop, true, false}
+use Rattle.instance_model.specs.RiskNumbers.{numbers_of}
 use Rattle.instance_model.specs.Tables.{in_run}
 use Rattle.scenario_rows.specs.Changes.{changed}
 use Rattle.scenario_rows.specs.declared.change.Change.TheVariants.{Add}
@@ -30,7 +31,7 @@ loop-one-preserved g c = elim c.if-is_running.branch [
       let sum = w.total-is ∙ w.total_after-total.ensures
       ∙ ap (changed (get_or runs k none).change c.loop-one.total) w.risk_total.ensures.value in
       record {
-        total = HasTotal-running inst c.args.t runs k none end w.risks-risks.result.now c.loop-one.total
+        total = HasTotal-running inst c.args.t runs k none end (numbers_of w.risks-risks.result) c.loop-one.total
             c.if-is_running.total (omega arith) c.loop-one.invariant.total running w.risks-risks.ensures.value
             w.risks-risks.ensures.each sum;
         forward = omega (arith, w.steps-is, w.risks-risks.ensures.cost, c.loop-one.invariant.forward);
