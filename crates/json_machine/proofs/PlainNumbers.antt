@@ -11,6 +11,9 @@ use Rattle.json_grammar.specs.Grammar.{IsDigit}
 use Rattle.json_grammar.specs.Token.{digit_count}
 use Rattle.json_laws.specs.Machine.{st, Phase, Mode, want, first, after, number, go, may_end, step, value_step}
 use Rattle.json_laws.specs.Machine.{after_step, phase_step, is_within_digits, is_digit, run, run_then}
+use Rattle.json_machine.specs.Machines.{mode_of}
+use Rattle.json_machine.specs.declared.machine.Mode as modes
+use Rattle.json_machine.specs.declared.machine.Mode.TheVariants.{Want, First}
 use Rattle.json_machine.specs.NumberRuns.{GoesOn, EndsNumber, BeginsNumber, TakesNumber}
 use Rattle.json_laws.proofs.Forward.{number_goes, AfterWhole, minus_digit, minus_zero, may_fraction, point_digit}
 use Rattle.json_laws.proofs.Forward.{number_stops}
@@ -173,3 +176,9 @@ number_taken k n levels mode next bs token to m begins within comma moves same =
       tells = rw comma tells;
       same_levels = refl;
     }
+
+-- the modes in which a value may come
+pub value_mode : (mode : modes.Mode) (at : ℕ) (token : List ℕ) → (mode ≡ Want) ⊎ (mode ≡ First)
+    → (mode_of mode at token ≡ want) ⊎ (mode_of mode at token ≡ first)
+value_mode mode at token (inl e) = inl (ap (λ (m : modes.Mode). mode_of m at token) e)
+value_mode mode at token (inr e) = inr (ap (λ (m : modes.Mode). mode_of m at token) e)
