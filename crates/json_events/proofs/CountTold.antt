@@ -1,39 +1,56 @@
 -- A number that is told by its count is the next event.
-use Rattle.std.specs.Prelude.{◌⊎◌, ℤ, IfSome}
+use Rattle.std.specs.Prelude.{◌⊎◌, ℤ, IfSome, Bool}
 use Rattle.std.specs.List.{prefix_len}
 use Rattle.std.specs.Option.{option_map, option_to_list}
 use Rattle.std.proofs.Common.{◌≡◌, ℕ, ◌+◌, ◌≤◌, List, [], ◌∷◌, ◌++◌, length, take, drop, Option, Some, None, false, inl}
-use Rattle.std.proofs.Common.{inr, refl, sym, ◌∙◌, ap, subst, arith}
+use Rattle.std.proofs.Common.{inr, refl, sym, ◌∙◌, ap, subst, append-nil, arith}
+use Rattle.std.proofs.lemmas.List.{drop-drop}
 use Rattle.std.proofs.lemmas.List.Sums.{prefix_len-le-length}
 use Rattle.json_events.specs.Counts.{IsNextCount}
+use Rattle.json_grammar.specs.Stream.{IsNextDue, IsNextOfEach}
 use Rattle.json_grammar.specs.Events.{event_view}
 use Rattle.decimal_numbers.specs.Exact.{fixed}
-use Rattle.json_laws.specs.Machine.{is_blank, run}
+use Rattle.json_laws.specs.Machine as machine
+use Rattle.json_laws.specs.Machine.{State, st, want, first, is_blank, run}
+use Rattle.json_laws.specs.Reads.{HasRead}
 use Rattle.json_machine.specs.Machines.{state_of, levels_of, mode_of, IsSound}
 use Rattle.json_machine.specs.NumberRuns.{TakesNumber}
 use Rattle.json_events.specs.PullViews.{PullView}
 use Rattle.json_events.specs.Pulls.{Stands, StandsForSome, MachineHolds, view_of}
 use Rattle.json_events.specs.Readings.{HasTold}
-use Rattle.json_events.specs.CountedNumbers.{TellsCount}
-use Rattle.json_events.specs.Steps.{IsIdle}
+use Rattle.json_events.specs.CountedNumbers.{TellsCount, IsCounted}
+use Rattle.json_events.specs.Steps.{IsNext, IsIdle}
 use Rattle.json_grammar.specs.Tree.{Event}
 use Rattle.json_events.specs.Unreads.{unread_of}
 use Rattle.json_machine.specs.declared.machine.Machine.{Machine}
-use Rattle.json_machine.specs.declared.machine.Mode.{Mode}
 use Rattle.json_machine.specs.declared.machine.Mode.TheVariants.{Want, First}
 use Rattle.json_events.specs.declared.pull.Pull.TheInside.{Inside}
 use Rattle.json_events.specs.declared.counted_number.CountedNumber.{CountedNumber}
 use Rattle.json_events.specs.declared.unread.Unread.{Unread}
 use Rattle.json_laws.proofs.Forward.{Waits, in_want, in_first}
-use Rattle.json_events.proofs.ReadingLemmas.{after_run, number_told}
-use Rattle.json_machine.proofs.Runs.{blanks_taken, still_sound}
+use Rattle.json_events.proofs.ReadingLemmas.{quiet_read, number_read, rest_behind}
+use Rattle.json_machine.proofs.PlainNumbers.{value_mode}
+use Rattle.json_machine.proofs.Runs.{blanks_taken}
 use Rattle.json_events.proofs.Standing.{behind, told_given, for_some_told}
 
-waits : (mode : Mode) (at : ℕ) (token : List ℕ) → (mode ≡ Want) ⊎ (mode ≡ First) → Waits (mode_of mode at token)
-waits mode at token (inl e) = subst (λ (m : Mode). Waits (mode_of m at token)) (sym e) in_want
-waits mode at token (inr e) = subst (λ (m : Mode). Waits (mode_of m at token)) (sym e) in_first
+pub waits : (mode : machine.Mode) → (mode ≡ want) ⊎ (mode ≡ first) → Waits mode
+waits mode (inl e) = subst Waits (sym e) in_want
+waits mode (inr e) = subst Waits (sym e) in_first
 
--- blanks, a number and the comma behind it
+-- blanks, a number and the comma behind it, from an offset on
+pub item_read : (stream rest : List ℕ) (at blanks size : ℕ) (levels : List Bool) (mode : machine.Mode) (t : State)
+    (event : Event) (told : List Event) → Waits mode → blanks ≡ prefix_len is_blank rest
+    → HasRead stream at (st levels mode) told → rest ≡ drop at stream
+    → TakesNumber (at + blanks) (st levels mode) (drop blanks rest) size event t
+    → HasRead stream (at + blanks + (size + 1)) t (told ++ event ∷ [])
+item_read stream rest at blanks size levels mode t event told w skip h r is =
+    let s = st levels mode in
+    let quiet : run at s (take blanks rest) ≡ Some (s, []) = rw skip (blanks_taken at levels rest w) in
+    let fits : blanks ≤ length rest = rw skip (prefix_len-le-length is_blank rest) in
+    number_read stream (drop blanks rest) (at + blanks) size s t event told
+    (quiet_read stream rest at blanks s s told h r fits quiet) (ap (drop blanks) r ∙ drop-drop blanks at stream) is
+
+-- the same of a machine and a buffer
 pub count_told : (m n : Machine) (u v w : Unread) (blanks size : ℕ) (rest : List ℕ) (count : ℤ)
     → (m.mode ≡ Want) ⊎ (m.mode ≡ First) → blanks ≡ prefix_len is_blank (unread_of u) → v.at ≡ u.at + blanks
     → unread_of v ≡ drop blanks (unread_of u) → rest ≡ drop blanks (unread_of u)
@@ -41,32 +58,44 @@ pub count_told : (m n : Machine) (u v w : Unread) (blanks size : ℕ) (rest : Li
     → fixed (take size rest) ≡ Some (count, false) → ((k i : ℕ) → IsSound k m → IsSound i n)
     → w.at ≡ v.at + (size + 1) → unread_of w ≡ drop (size + 1) (unread_of v) → TellsCount v.at count m u n w
 count_told m n u v w blanks size rest count mode skip a b same takes exact sound c d =
-    let here : unread_of v ≡ rest = b ∙ sym same in
-    let token = take size rest in
+    let event = Event.number v.at (take size rest) in
+    let there : TakesNumber (u.at + blanks) (state_of m) (drop blanks (unread_of u)) size event (state_of n) =
+    subst (λ (z : List ℕ). TakesNumber (u.at + blanks) (state_of m) z size event (state_of n)) same
+    (subst (λ (k : ℕ). TakesNumber k (state_of m) rest size event (state_of n)) a (takes v.at)) in
+    let end : u.at + blanks + (size + 1) ≡ w.at = omega arith in
     record {
-      token = token;
+      token = take size rest;
       exact = exact;
-      tells = λ stream told h.
-          let quiet : (k : ℕ) → run k (state_of m) (take blanks (unread_of u)) ≡ Some (state_of m, []) = λ k. rw skip
-          (blanks_taken k (levels_of m.levels.items) (unread_of u) (waits m.mode m.at m.token.items mode)) in
-          let fits : blanks ≤ length (unread_of u) = rw skip (prefix_len-le-length is_blank (unread_of u)) in
-          let still : (k : ℕ) → IsSound k m → IsSound (k + blanks) m =
-          λ k s. still_sound m.mode k (k + blanks) m.at m.token.items (omega arith) s in
-          let skipped = after_run m m u v blanks stream told h fits quiet still a b in
-          number_told m n v w size (Event.number v.at token) stream told skipped
-          (subst (λ (z : List ℕ). TakesNumber v.at (state_of m) z size (Event.number v.at token) (state_of n))
-          (sym here) (takes v.at)) (sound v.at w.at skipped.sound) c d;
+      tells = λ stream told h. record {
+        read = subst (λ z. HasRead stream z (state_of n) (told ++ event ∷ [])) end
+            (item_read stream (unread_of u) u.at blanks size (levels_of m.levels.items)
+            (mode_of m.mode m.at m.token.items) (state_of n) event told
+            (waits (mode_of m.mode m.at m.token.items) (value_mode m.mode m.at m.token.items mode)) skip h.read h.rest
+            there);
+        rest = rest_behind v w (size + 1) stream (rest_behind u v blanks stream h.rest a b) c d;
+        sound = sound u.at w.at h.sound;
+      };
     }
 
--- as long as it holds no event, the number is the only one that is told
-only : (p : Inside) (v : PullView) (m : Machine) (u : Unread) (at : ℕ) (count : ℤ) → IsIdle v → view_of p ≡ v
-    → (t : TellsCount at count p.machine p.unread m u) → (stream : List ℕ) (told : List Event)
-    → HasTold p.machine p.unread stream told
-    → HasTold m u stream (told ++ Event.number at t.token ∷ option_to_list (option_map event_view p.held))
-only p v m u at count idle s t stream told h =
+-- as long as it holds no event, the events that are told are the only ones
+pub only : (p : Inside) (v : PullView) (m : Machine) (u : Unread) (es : List Event) → IsIdle v → view_of p ≡ v
+    → ((stream : List ℕ) (told : List Event) → HasTold p.machine p.unread stream told → HasTold m u stream (told ++ es))
+    → (stream : List ℕ) (told : List Event) → HasTold p.machine p.unread stream told
+    → HasTold m u stream (told ++ (es ++ option_to_list (option_map event_view p.held)))
+only p v m u es idle s tells stream told h =
     let none : option_map event_view p.held ≡ None = ap (λ (z : PullView). z.held) s ∙ idle.none_held in
-    subst (λ z. HasTold m u stream (told ++ Event.number at t.token ∷ option_to_list z)) (sym none)
-    (t.tells stream told h)
+    subst (λ z. HasTold m u stream (told ++ (es ++ option_to_list z))) (sym none)
+    (subst (λ z. HasTold m u stream (told ++ z)) (sym (append-nil es)) (tells stream told h))
+
+-- the next event, where it is a number of that count
+pub next_count : (stream : List ℕ) (given : ℕ) (e : Event) (count : ℤ) → IsNext stream given e
+    → (is : IsCounted e count) → IsNextCount stream given is.at count
+next_count stream given e count next is = record {
+  token = is.token;
+  due = subst (IsNextDue stream false given) is.is_number (next.due false);
+  next = subst (IsNextOfEach stream given) is.is_number next.of_each;
+  exact = is.exact;
+}
 
 pub count_given : (p : Inside) (v : PullView) (m : Machine) (u : Unread) (r : Option CountedNumber) (stream : List ℕ)
     (given : ℕ) → IsIdle v → view_of p ≡ v → MachineHolds p.stage p.unread.at p.machine
@@ -75,9 +104,10 @@ pub count_given : (p : Inside) (v : PullView) (m : Machine) (u : Unread) (r : Op
     × Stands (view_of (behind p m u p.held p.stage)) stream (given + 1) false)
 count_given p v m u None stream given idle s i t h = tt
 count_given p v m u (Some n) stream given idle s i t h =
-    let a = told_given p m u p.held v (Event.number n.at t.token) stream given false idle s i
-    (only p v m u n.at n.count idle s t stream) h in
-    (record { token = t.token; due = a.0.due false; next = a.0.of_each; exact = t.exact }, a.1)
+    let e = Event.number n.at t.token in
+    let a = told_given p m u p.held v e stream given false idle s i (only p v m u (e ∷ []) idle s t.tells stream) h in
+    let is : IsCounted e n.count = record { at = n.at; token = t.token; is_number = refl; exact = t.exact } in
+    (next_count stream given e n.count a.0 is, a.1)
 
 pub count_for_some : (p : Inside) (v : PullView) (m : Machine) (u : Unread) (r : Option CountedNumber) → IsIdle v
     → view_of p ≡ v → IfSome r (λ (n : CountedNumber). TellsCount n.at n.count p.machine p.unread m u)
@@ -86,4 +116,5 @@ pub count_for_some : (p : Inside) (v : PullView) (m : Machine) (u : Unread) (r :
 count_for_some p v m u None idle s t e f h = subst (λ (z : Machine). StandsForSome (behind p z u p.held p.stage))
     (sym (e refl)) (subst (λ (z : Unread). StandsForSome (behind p p.machine z p.held p.stage)) (sym (f refl)) h)
 count_for_some p v m u (Some n) idle s t e f h =
-    for_some_told p m u p.held v (Event.number n.at t.token) idle s (only p v m u n.at n.count idle s t) h
+    let e = Event.number n.at t.token in
+    for_some_told p m u p.held v e idle s (only p v m u (e ∷ []) idle s t.tells) h

@@ -25,7 +25,7 @@ pub struct CountedNumber {
 #[derive(Clone, Copy, Drop)]
 pub(crate) struct CountedRun {
     pub length: usize,
-    pub count: Fixed,
+    pub size: u64,
 }
 
 /// How many digits are in front, and the number that they write behind another one.
@@ -38,7 +38,7 @@ struct DigitRun {
 /// The number in front that is told by its count, where a comma follows it.
 #[inline]
 pub(crate) fn counted_number(bytes: &[u8]) -> Option<CountedRun>
-    ensures { IfSome result (λ run. IsCountedRun bytes.now run.length run.count) }
+    ensures { IfSome result (λ run. IsCountedRun bytes.now run.length (pos run.size)) }
 {
     let whole = digits_behind(0, bytes, MOST_WHOLE);
     if whole.length == 0 || whole.length == bytes.len() {
@@ -50,7 +50,7 @@ pub(crate) fn counted_number(bytes: &[u8]) -> Option<CountedRun>
     match bytes[whole.length] {
         b',' => Some(CountedRun {
             length: whole.length,
-            count: count_of(whole.value * power_of_ten(PLACES)),
+            size: whole.value * power_of_ten(PLACES),
         }),
         b'.' => counted_fraction(bytes, whole),
         _ => None,
@@ -61,7 +61,7 @@ pub(crate) fn counted_number(bytes: &[u8]) -> Option<CountedRun>
 #[inline]
 fn counted_fraction(bytes: &[u8], whole: DigitRun) -> Option<CountedRun>
     requires { IsWhole bytes.now whole.length whole.value }
-    ensures { IfSome result (λ run. IsCountedRun bytes.now run.length run.count) }
+    ensures { IfSome result (λ run. IsCountedRun bytes.now run.length (pos run.size)) }
 {
     let fraction = digits_behind(whole.value, &bytes[whole.length + 1..], PLACES);
     let length = whole.length + 1 + fraction.length;
@@ -69,10 +69,7 @@ fn counted_fraction(bytes: &[u8], whole: DigitRun) -> Option<CountedRun>
         return None;
     }
     let size = fraction.value * power_of_ten(PLACES - fraction.length);
-    Some(CountedRun {
-        length,
-        count: count_of(size),
-    })
+    Some(CountedRun { length, size })
 }
 
 /// The digits in front, at most so many, behind those of a number.
@@ -91,8 +88,9 @@ fn digits_behind(front: u64, bytes: &[u8], most: usize) -> DigitRun
     DigitRun { length, value }
 }
 
+/// The count of that size.
 #[inline]
-fn count_of(size: u64) -> Fixed
+pub(crate) fn count_of(size: u64) -> Fixed
     ensures { result ≡ pos size }
 {
     match Fixed::from_count(size as i128) {

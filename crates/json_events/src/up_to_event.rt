@@ -1,7 +1,7 @@
 //! Reading a stream up to the next byte that tells something.
 
 ghost use Rattle.std.specs.Prelude.{◌≡◌, ℕ, ◌+◌, ◌<◌, ◌^◌, ◌≢◌, ◌⊎◌, List, slice_get, Some, IfSome, IsSome, Ok, None};
-ghost use Rattle.std.specs.Prelude.{false, length, take, option_map};
+ghost use Rattle.std.specs.Prelude.{false, length, take, option_map, pos, [], ◌≤◌};
 ghost use Rattle.json_grammar.specs.Tree as json;
 ghost use Rattle.json_laws.specs.Machine.{State};
 ghost use Rattle.json_machine.specs.Machines.{IsSound, state_of, answer_of};
@@ -9,10 +9,12 @@ ghost use Rattle.json_machine.specs.NumberRuns.{TakesNumber};
 ghost use Rattle.decimal_numbers.specs.Exact.{fixed};
 ghost use Rattle.json_events.specs.Unreads.{unread_of};
 ghost use Rattle.json_events.specs.Readings.{HasTold, ReadsOn, Shortens, IsTelling, told_events};
-ghost use Rattle.json_events.specs.CountedNumbers.{TellsCount};
+ghost use Rattle.json_events.specs.CountedNumbers.{TellsCount, TellsCounts};
 
-use crate::counted_number::{CountedNumber, CountedRun, counted_number};
+use crate::counted_number::{CountedNumber, CountedRun, count_of, counted_number};
+use crate::counted_numbers::{MOST_COUNTS, counted_numbers};
 use crate::unread::Unread;
+use arrayvec::ArrayVec;
 use json_machine::{Answer, MOST_LEVELS, Machine, Mode, RawEvent, TakenNumber, blank_count};
 use std::alloc::{AllocError, Global};
 
@@ -101,11 +103,14 @@ pub fn read_counted(machine: &mut Machine, unread: &mut Unread) -> Option<Counte
 {
     let bytes = unread.as_slice();
     let blanks = blank_count(bytes);
-    let CountedRun { length, count } = take_counted(machine, &bytes[blanks..])?;
+    let CountedRun { length, size } = take_counted(machine, &bytes[blanks..])?;
     unread.pass(blanks);
     let at = unread.at();
     unread.pass(length + 1);
-    Some(CountedNumber { at, count })
+    Some(CountedNumber {
+        at,
+        count: count_of(size),
+    })
 }
 
 /// Takes a number in front that is told by its count, and the comma behind it, where a value may come and the comma
@@ -116,7 +121,7 @@ fn take_counted(machine: &mut Machine, bytes: &[u8]) -> Option<CountedRun>
         TakesNumber k (state_of machine.old) bytes.now run.length (json.Event.number k (take run.length bytes.now))
         (state_of machine.new)) }
     ensures within { IfSome result (λ run. run.length < length bytes.now) }
-    ensures exact { IfSome result (λ run. fixed (take run.length bytes.now) ≡ Some (run.count, false)) }
+    ensures exact { IfSome result (λ run. fixed (take run.length bytes.now) ≡ Some (pos run.size, false)) }
     ensures sound { (k i : ℕ) → IsSound k machine.old → IsSome result → IsSound i machine.new }
     ensures waits { IsSome result → (machine.old.mode ≡ Mode.Want) ⊎ (machine.old.mode ≡ Mode.First) }
     ensures left { result ≡ None → machine.new ≡ machine.old }
@@ -126,6 +131,30 @@ fn take_counted(machine: &mut Machine, bytes: &[u8]) -> Option<CountedRun>
         return None;
     }
     Some(run)
+}
+
+/// Reads numbers of a list, at most so many, that are told by their counts, each with the blanks before it and the
+/// comma behind it.
+#[inline]
+pub fn read_counts(
+    machine: &mut Machine,
+    unread: &mut Unread,
+    most: usize,
+    counts: &mut ArrayVec<i64, MOST_COUNTS>,
+)
+    requires { counts.old.items ≡ [] }
+    ensures tells { TellsCounts counts.new.items machine.old unread.old machine.new unread.new }
+    ensures few { length counts.new.items ≤ most }
+{
+    if !machine.awaits_item() {
+        return;
+    }
+    let used = counted_numbers(unread.as_slice(), most, counts);
+    if counts.is_empty() {
+        return;
+    }
+    machine.pass_items();
+    unread.pass(used);
 }
 
 /// Reads one byte, the first of the buffer.

@@ -1,6 +1,6 @@
 use Rattle.std.proofs.Common.{rules, ◌≡◌, ◌∙◌, ◌+◌, ◌<◌, ◌≤◌, ℕ, List, length, take, drop, sym, ap, subst, arith}
 use Rattle.std.proofs.Common.{length-drop}
-use Rattle.std.specs.Prelude.{◌-◌}
+use Rattle.std.specs.Prelude.{◌-◌, ℤ, pos}
 use Rattle.std.specs.List.{prefix_len}
 use Rattle.std.proofs.lemmas.List.Sums.{prefix_len-le-length}
 use Rattle.json_laws.specs.Machine.{is_blank}
@@ -61,8 +61,9 @@ returns-clause-tells c =
     let blanks = c.blank_count-blanks.result in
     let run = c.in_ok-length.field-0 in
     let is = c.in_ok-length.ensures in
-    subst (λ (k : ℕ). TellsCount k run.count m u n w) (sym c.at-at.ensures)
-    (count_told m n u v w blanks run.length (take (length bs - blanks) (drop blanks bs)) run.count (search rules)
-    (search rules) c.pass.ensures.at c.pass.ensures.rest
+    let counted = count_told m n u v w blanks run.length (take (length bs - blanks) (drop blanks bs)) (pos run.size)
+    (search rules) (search rules) c.pass.ensures.at c.pass.ensures.rest
     (behind blanks bs ∙ ap (drop blanks) c.as_slice-bytes.ensures.same)
-    is.takes is.exact (λ k i s. is.sound k i s (search rules)) c.pass-2.ensures.at c.pass-2.ensures.rest)
+    is.takes is.exact (λ k i s. is.sound k i s (search rules)) c.pass-2.ensures.at c.pass-2.ensures.rest in
+    subst (λ (k : ℕ). TellsCount k c.count_of.result m u n w) (sym c.at-at.ensures)
+    (subst (λ (z : ℤ). TellsCount v.at z m u n w) (sym c.count_of.ensures) counted)
