@@ -34,6 +34,15 @@ pub record TakesNumber (k : ℕ) (old : State) (bytes : List ℕ) (count : ℕ) 
   pub tells : step (k + count) inside.levels inside.mode (get_or bytes count 0) ≡ Some (new, event ∷ [])
   pub same_levels : new.levels ≡ old.levels
 
+-- the first bytes, so many, are a number, behind which the byte behind them tells these events
+pub record TakesWithEnd (k : ℕ) (old : State) (bytes : List ℕ) (count : ℕ) (events : List json.Event)
+    (new : State) : Type 0 where
+  pub inside : State
+  pub runs : run k old (take count bytes) ≡ Some (inside, [])
+  pub within : count < length bytes
+  pub tells : step (k + count) inside.levels inside.mode (get_or bytes count 0) ≡ Some (new, events)
+  pub no_deeper : length new.levels ≤ length old.levels
+
 -- the first bytes, so many, are a number with a comma behind it
 pub record IsBeforeComma (bytes : List ℕ) (count : ℕ) : Type 0 where
   pub to : Phase

@@ -1,7 +1,7 @@
 //! Bytes of numbers, one by one, and numbers that stand whole in a buffer.
 
 ghost use Rattle.std.specs.Prelude.{◌≡◌, ℕ, ◌+◌, ◌≤◌, Ok, None, false, IfOk, OnOk, OnErr, IfSome, IsSome, IsTrue, ◌⊎◌};
-ghost use Rattle.std.specs.Prelude.{vec_len, take};
+ghost use Rattle.std.specs.Prelude.{vec_len, take, drop};
 ghost use Rattle.json_machine.specs.Machines.{state_of, levels_of, answer_of, event_of, IsSound, SameMachine};
 ghost use Rattle.json_machine.specs.Machines.{AnswerNear};
 ghost use Rattle.json_machine.specs.Views.{phase_of};
@@ -130,5 +130,16 @@ impl Machine {
         ensures sound { (k i : ℕ) → IsSound k self.old → IsSound i self.new }
     {
         self.mode = Mode::Want;
+    }
+
+    /// Takes it that the last item of a list has come and the bracket behind it, and tells no event of them: the caller
+    /// knows them.
+    #[inline]
+    pub fn pass_last(&mut self)
+        requires { AwaitsItem self.old }
+        ensures state { state_of self.new ≡ machine.st (drop 1 (levels_of self.old.levels.items)) machine.Mode.after }
+        ensures sound { (k i : ℕ) → IsSound k self.old → IsSound i self.new }
+    {
+        self.leave();
     }
 }
