@@ -7,14 +7,14 @@ use Rattle.json_grammar.specs.Tree.{Event}
 use Rattle.json_laws.specs.Machine.{Mode, st, want, first, go, after_step}
 use Rattle.json_laws.specs.Reads.{HasRead}
 use Rattle.json_machine.specs.Machines.{state_of, levels_of, mode_of, IsSound}
-use Rattle.json_machine.specs.NumberRuns.{TakesNumber, AwaitsItem}
-use Rattle.json_machine.proofs.PlainNumbers.{number_taken, value_mode}
+use Rattle.json_machine.specs.NumberRuns.{TakesWithEnd, AwaitsItem}
+use Rattle.json_machine.proofs.PlainNumbers.{number_ended, value_mode}
 use Rattle.json_machine.specs.declared.machine.Machine.{Machine}
 use Rattle.json_events.specs.CountedNumbers.{IsCountedItem, AreCountedRuns, IsCounted, AreCounted, TellsCounts}
 use Rattle.json_events.specs.Unreads.{unread_of}
 use Rattle.json_events.specs.declared.unread.Unread.{Unread}
 use Rattle.json_events.proofs.ReadingLemmas.{rest_behind}
-use Rattle.json_events.proofs.CountTold.{waits, item_read}
+use Rattle.json_events.proofs.CountTold.{item_read}
 
 pub item_within : (bs : List ℕ) (n : ℕ) (count : ℤ) → IsCountedItem bs n count → n ≤ length bs
 item_within bs n count item = omega (arith, item.all, item.run.within, length-drop item.blanks bs)
@@ -59,9 +59,9 @@ items_read {bytes} at levels mode v comma (AreCountedRuns.more {counts} {used} {
     let place = at + used + item.blanks in
     let token = take item.size number in
     let event = Event.number place token in
-    let takes : TakesNumber place (st levels before.last) number item.size event (st levels want) =
-    number_taken place item.size levels before.last want number token item.run.to before.value item.run.begins
-    item.run.within item.run.comma (comma (place + item.size)) refl in
+    let takes : TakesWithEnd place (st levels before.last) number item.size (event ∷ []) (st levels want) =
+    number_ended place item.size 44 levels before.last (st levels want) [] number token item.run.to before.value
+    item.run.begins item.run.within item.run.comma (comma (place + item.size)) (omega arith) refl in
     let is : IsCounted event count = record { at = place; token = token; is_number = refl; exact = item.run.exact } in
     let end : place + (item.size + 1) ≡ at + (used + next) = omega (arith, item.all) in
     record {
@@ -72,9 +72,8 @@ items_read {bytes} at levels mode v comma (AreCountedRuns.more {counts} {used} {
       counted = counted_more before.events counts event count before.counted is;
       reads = λ stream told h e.
           let there : rest ≡ drop (at + used) stream = ap (drop used) e ∙ drop-drop used at stream in
-          let read = item_read stream rest (at + used) item.blanks item.size levels before.last (st levels want) event
-          (told ++ before.events) (waits before.last before.value) item.skips (before.reads stream told h e) there
-          takes in
+          let read = item_read stream rest (at + used) item.blanks item.size levels before.last (st levels want)
+          (event ∷ []) (told ++ before.events) before.value item.skips (before.reads stream told h e) there takes in
           subst (λ es. HasRead stream (at + (used + next)) (st levels want) es)
           (append_assoc told before.events (event ∷ []))
           (subst (λ k. HasRead stream k (st levels want) ((told ++ before.events) ++ event ∷ [])) end read);

@@ -1,7 +1,11 @@
 -- Numbers that are told by their counts are the next events of a pull.
 use Rattle.std.specs.Prelude.{ℤ}
-use Rattle.std.proofs.Common.{◌≡◌, ℕ, suc, ◌+◌, List, [], ◌∷◌, length, false, refl, ap, subst}
+use Rattle.std.proofs.Common.{◌≡◌, ℕ, suc, ◌+◌, List, [], ◌∷◌, ◌++◌, length, None, false, refl, sym, ◌∙◌}
+use Rattle.std.proofs.Common.{ap, subst, append-nil}
 use Rattle.json_grammar.specs.Tree.{Event}
+use Rattle.std.specs.Option.{option_map, option_to_list}
+use Rattle.json_grammar.specs.Events.{event_view}
+use Rattle.json_events.specs.Readings.{HasTold}
 use Rattle.json_events.specs.Counts.{AreNextCounts}
 use Rattle.json_events.specs.PullViews.{PullView}
 use Rattle.json_events.specs.Pulls.{Stands, StandsForSome, MachineHolds, view_of}
@@ -11,7 +15,17 @@ use Rattle.json_machine.specs.declared.machine.Machine.{Machine}
 use Rattle.json_events.specs.declared.pull.Pull.TheInside.{Inside}
 use Rattle.json_events.specs.declared.unread.Unread.{Unread}
 use Rattle.json_events.proofs.Standing.{AreNext, behind, all_given, for_some_all}
-use Rattle.json_events.proofs.CountTold.{only, next_count}
+use Rattle.json_events.proofs.CountTold.{next_count}
+
+-- as long as it holds no event, the events that are told are the only ones
+only : (p : Inside) (v : PullView) (m : Machine) (u : Unread) (es : List Event) → IsIdle v → view_of p ≡ v
+    → ((stream : List ℕ) (told : List Event) → HasTold p.machine p.unread stream told → HasTold m u stream (told ++ es))
+    → (stream : List ℕ) (told : List Event) → HasTold p.machine p.unread stream told
+    → HasTold m u stream (told ++ (es ++ option_to_list (option_map event_view p.held)))
+only p v m u es idle s tells stream told h =
+    let none : option_map event_view p.held ≡ None = ap (λ (z : PullView). z.held) s ∙ idle.none_held in
+    subst (λ z. HasTold m u stream (told ++ (es ++ option_to_list z))) (sym none)
+    (subst (λ z. HasTold m u stream (told ++ z)) (sym (append-nil es)) (tells stream told h))
 
 same_length : (es : List Event) (cs : List ℤ) → AreCounted es cs → length es ≡ length cs
 same_length [] [] h = refl

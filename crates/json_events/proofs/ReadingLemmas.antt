@@ -8,7 +8,7 @@ use Rattle.json_grammar.specs.Tree.{Event}
 use Rattle.json_grammar.specs.Prefix.{IsSyntaxFault, IsDepthFault, IsShallow}
 use Rattle.json_laws.specs.Machine.{State, step, run}
 use Rattle.json_machine.specs.Machines.{state_of, IsSound}
-use Rattle.json_machine.specs.NumberRuns.{TakesNumber}
+use Rattle.json_machine.specs.NumberRuns.{TakesNumber, TakesWithEnd}
 use Rattle.json_events.specs.Unreads.{unread_of}
 use Rattle.json_laws.specs.Reads.{HasRead}
 use Rattle.json_events.specs.Readings.{HasTold, HasStopped, ReadsOn, IsTelling, told_events}
@@ -16,6 +16,7 @@ use Rattle.json_machine.specs.declared.machine.Machine.{Machine}
 use Rattle.json_events.specs.declared.unread.Unread.{Unread}
 use Rattle.json_events.specs.declared.up_to_event.Reading.{Reading}
 use Rattle.json_events.specs.declared.up_to_event.Reading.TheVariants.{Quiet, Used, One, Two, Refused, TooDeep}
+use Rattle.json_machine.proofs.PlainNumbers.{with_end}
 use Rattle.json_laws.proofs.Reach.{read_levels, read_next, read_run, read_refused, read_deep}
 
 -- the first byte of the rest
@@ -100,21 +101,21 @@ pub quiet_read : (stream rest : List ℕ) (at count : ℕ) (s t : State) (told :
 quiet_read stream rest at count s t told h r i e = read_run stream at count s t told h (omega (arith, ap length r))
     (ap (λ z. run at s (take count z)) (sym r) ∙ e)
 
--- behind a number from an offset on, and its comma
-pub number_read : (stream rest : List ℕ) (at count : ℕ) (s t : State) (event : Event) (told : List Event)
-    → HasRead stream at s told → rest ≡ drop at stream → TakesNumber at s rest count event t
-    → HasRead stream (at + (count + 1)) t (told ++ event ∷ [])
-number_read stream rest at count s t event told h r is =
+-- behind a number from an offset on, and the byte behind it
+pub ended_read : (stream rest : List ℕ) (at count : ℕ) (s t : State) (events told : List Event)
+    → HasRead stream at s told → rest ≡ drop at stream → TakesWithEnd at s rest count events t
+    → HasRead stream (at + (count + 1)) t (told ++ events)
+ended_read stream rest at count s t events told h r is =
     let place = at + count in
     let behind : count < length (drop at stream) = let w = is.within in omega (arith, ap length r) in
     let inside = quiet_read stream rest at count s is.inside told h r (let w = is.within in omega arith) is.runs in
     let byte : get_or rest count 0 ≡ get_or stream place 0 =
     ap (λ z. get_or z count 0) r ∙ get_or-drop at stream count 0 in
     let levels : length t.levels ≤ 16 = let l = (read_levels stream at s told h).open_levels in
-    omega (arith, ap length is.same_levels) in
+    omega (arith, is.no_deeper) in
     let next : place + 1 ≡ at + (count + 1) = omega arith in
-    subst (λ z. HasRead stream z t (told ++ event ∷ [])) next
-    (read_next stream place is.inside t told (event ∷ []) inside (omega (arith, length-drop at stream))
+    subst (λ z. HasRead stream z t (told ++ events)) next
+    (read_next stream place is.inside t told events inside (omega (arith, length-drop at stream))
     (ap (step place is.inside.levels is.inside.mode) (sym byte) ∙ is.tells) levels)
 
 -- behind a run of quiet bytes
@@ -136,7 +137,8 @@ pub number_told : (m n : Machine) (u v : Unread) (count : ℕ) (event : Event) (
     → v.at ≡ u.at + (count + 1) → unread_of v ≡ drop (count + 1) (unread_of u) → HasTold n v stream (told ++ event ∷ [])
 number_told m n u v count event stream told h t s a d = record {
   read = subst (λ z. HasRead stream z (state_of n) (told ++ event ∷ [])) (sym a)
-      (number_read stream (unread_of u) u.at count (state_of m) (state_of n) event told h.read h.rest t);
+      (ended_read stream (unread_of u) u.at count (state_of m) (state_of n) (event ∷ []) told h.read h.rest
+      (with_end t));
   rest = rest_behind u v (count + 1) stream h.rest a d;
   sound = s;
 }

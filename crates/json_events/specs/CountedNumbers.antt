@@ -1,5 +1,6 @@
 -- Numbers that are told by their counts. Not part of any promise: only private functions cite it.
-use Rattle.std.specs.Prelude.{◌≡◌, ℕ, ◌+◌, ◌≤◌, ◌<◌, ℤ, List, [], ◌∷◌, ◌++◌, length, take, drop, get_or, false, Some}
+use Rattle.std.specs.Prelude.{◌≡◌, ℕ, ◌+◌, ◌≤◌, ◌<◌, ◌⊎◌, ℤ, List, [], ◌∷◌, ◌++◌, length, take, drop, get_or, Bool}
+use Rattle.std.specs.Prelude.{true, false, Some}
 use Rattle.std.specs.List.{prefix_len}
 use Rattle.json_grammar.specs.Tree as json
 use Rattle.decimal_numbers.specs.Decimal.{number_from}
@@ -25,6 +26,15 @@ pub record IsWhole (bytes : List ℕ) (count value : ℕ) : Type 0 where
   pub zero : get_or bytes 0 0 ≡ 48 → count ≡ 1
   pub within : count < length bytes
   pub point : get_or bytes count 0 ≡ 46
+
+-- the first bytes, so many, are a number with a comma or a closing bracket behind it, whose value is exactly the count
+-- of 10^-12
+pub record IsEndedRun (bytes : List ℕ) (size : ℕ) (count : ℤ) : Type 0 where
+  pub to : Phase
+  pub begins : BeginsNumber bytes size to
+  pub within : size < length bytes
+  pub end : (get_or bytes size 0 ≡ 44) ⊎ (get_or bytes size 0 ≡ 93)
+  pub exact : fixed (take size bytes) ≡ Some (count, false)
 
 -- the first bytes, so many, are a number with a comma behind it, whose value is exactly the count of 10^-12
 pub record IsCountedRun (bytes : List ℕ) (size : ℕ) (count : ℤ) : Type 0 where
@@ -62,16 +72,22 @@ AreCounted (e ∷ es) (c ∷ cs) = IsCounted e c × AreCounted es cs
 AreCounted [] (c ∷ cs) = ⊥
 AreCounted (e ∷ es) [] = ⊥
 
--- a number at the place, whose value is exactly the count, was told, from one
+-- the event of a bracket, where it closes what is open
+abbrev pub finishes : Bool → ℕ → List json.Event
+finishes true at = json.finish at ∷ []
+finishes false at = []
+
+-- a number at the place, whose value is exactly the count, was told, and these events behind it, from one
 -- state of the machine and the buffer to another
-pub record TellsCount (at : ℕ) (count : ℤ) (old : Machine) (before : Unread) (new : Machine)
+pub record TellsCount (at : ℕ) (count : ℤ) (more : List json.Event) (old : Machine) (before : Unread) (new : Machine)
     (behind : Unread) : Type 0 where
   pub token : List ℕ
   pub exact : fixed token ≡ Some (count, false)
   pub tells : (stream : List ℕ) (told : List json.Event) → HasTold old before stream told
-      → HasTold new behind stream (told ++ json.Event.number at token ∷ [])
+      → HasTold new behind stream (told ++ json.Event.number at token ∷ more)
 
--- the same of numbers, one behind another
+-- numbers, one behind another, whose values are exactly the counts, were told, from one
+-- state of the machine and the buffer to another
 pub record TellsCounts (counts : List ℤ) (old : Machine) (before : Unread) (new : Machine)
     (behind : Unread) : Type 0 where
   pub events : List json.Event

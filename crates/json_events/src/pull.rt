@@ -15,7 +15,7 @@ use crate::counted_number::CountedNumber;
 use crate::counted_numbers::MOST_COUNTS;
 use crate::sound_event::sound_event;
 use crate::unread::Unread;
-use crate::up_to_event::{Reading, read_counted, read_counts, read_up_to_event};
+use crate::up_to_event::{CountedReading, Reading, read_counted, read_counts, read_up_to_event};
 use arrayvec::ArrayVec;
 use json_grammar::{Event, TextFault};
 use json_machine::Machine;
@@ -153,8 +153,8 @@ impl Pull {
     }
 
     /// The next event, where it is a number without a sign and an exponent, of at most 7 digits before the point and 12
-    /// behind it, in a list or an object, and the comma behind it was pushed: its place and its
-    /// exact value. `None` says nothing of the events that are due. It takes no memory, and is a
+    /// behind it, in a list or an object, and the comma behind it was pushed, or the bracket that closes the list: its
+    /// place and its exact value. `None` says nothing of the events that are due. It takes no memory, and is a
     /// shorter way to most numbers than `next_event`.
     #[inline]
     pub fn next_counted(&mut self) -> Option<CountedNumber>
@@ -169,7 +169,9 @@ impl Pull {
         if !self.is_idle() {
             return None;
         }
-        read_counted(&mut self.machine, &mut self.unread)
+        let CountedReading { number, second } = read_counted(&mut self.machine, &mut self.unread)?;
+        self.held = second;
+        Some(number)
     }
 
     /// Replaces the counts by those of the numbers that come next in a list, at most so many, as far as each is a

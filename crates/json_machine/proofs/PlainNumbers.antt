@@ -9,7 +9,8 @@ use Rattle.std.proofs.lemmas.Bool.Decides.{nat_tests}
 use Rattle.json_grammar.specs.Tree.{Event}
 use Rattle.json_grammar.specs.Grammar.{IsDigit}
 use Rattle.json_grammar.specs.Token.{digit_count}
-use Rattle.json_laws.specs.Machine.{State, st, Move, close, Phase, Mode, next_key, want, first, after, number, go, may_end, step, value_step}
+use Rattle.json_laws.specs.Machine.{State, st, Move, close, Phase, Mode, next_key, want, first, after, number, go}
+use Rattle.json_laws.specs.Machine.{may_end, step, value_step}
 use Rattle.json_laws.specs.Machine.{after_step, phase_step, is_within_digits, is_digit, run, run_then}
 use Rattle.json_machine.specs.Machines.{mode_of}
 use Rattle.json_machine.specs.declared.machine.Mode as modes

@@ -1,9 +1,9 @@
 use Rattle.std.proofs.Common.{◌≡◌, ◌<◌, get_or, ap, arith}
 use Rattle.std.specs.Prelude.{◌*◌, ◌^◌}
-use Rattle.json_events.proofs.CountedNumbers.{whole_fits, run_whole}
-use Rattle.json_events.proofs.counted_number.counted_number.Goals as goal
-use Rattle.json_events.proofs.counted_number.counted_number.Goals.{else-whole-gt1-via-then-whole-gt1+else-bytes-eq48}
-use Rattle.json_events.proofs.counted_number.counted_number.Goals.{else-whole-gt1-via-else-whole-gt1}
+use Rattle.json_events.proofs.CountedNumbers.{whole_fits, ended_whole}
+use Rattle.json_events.proofs.counted_number.ended_number.Goals as goal
+use Rattle.json_events.proofs.counted_number.ended_number.Goals.{else-whole-gt1-via-then-whole-gt1+else-bytes-eq48}
+use Rattle.json_events.proofs.counted_number.ended_number.Goals.{else-whole-gt1-via-else-whole-gt1}
 
 pub overflow_mul-result : goal.overflow_mul-result
 overflow_mul-result c =
@@ -27,6 +27,6 @@ returns-in-44 c =
       | else-whole-gt1-via-else-whole-gt1 w ↦
           (λ e. omega (arith, some, w.if-whole-gt1.false))
     ] in
-    run_whole bs whole.length whole.value (whole.value * c.power_of_ten.result) writes some
+    ended_whole bs whole.length whole.value (whole.value * c.power_of_ten.result) writes some
     c.digits_behind-whole.ensures.most zero (omega (arith, writes.within, c.if-whole-bytes.false)) c.in-44.is
     (ap (λ z. whole.value * z) c.power_of_ten.ensures)
