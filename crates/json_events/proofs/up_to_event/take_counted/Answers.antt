@@ -25,7 +25,8 @@ returns-clause-takes c k =
     let more = json.finish (k + n) ∷ [] in
     let events = json.Event.number k (take n bs) ∷ more in
     subst (λ (s : State). TakesWithEnd k (state_of m) bs n events s) (sym c.pass_last.ensures.state)
-    (number_ended k n 93 levels (mode_of m.mode m.at m.token.items) (st (drop 1 levels) after) more bs (take n bs) is.to (value_mode m.mode m.at m.token.items awaits.value) is.begins is.within bracket
+    (number_ended k n 93 levels (mode_of m.mode m.at m.token.items) (st (drop 1 levels) after) more bs (take n bs) is.to
+    (value_mode m.mode m.at m.token.items awaits.value) is.begins is.within bracket
     (list_closes levels awaits.comma (k + n)) (omega (arith, length-drop 1 levels)) refl)
 
 pub returns-clause-sound : goal.returns-clause-sound
