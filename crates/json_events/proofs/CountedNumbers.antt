@@ -1,8 +1,8 @@
 -- Numbers that are told by their counts are what the machine reads of their bytes, and their counts are exact.
-use Rattle.std.specs.Prelude.{◌-◌, ◌*◌, ◌^◌, ◌==◌, pos}
+use Rattle.std.specs.Prelude.{◌-◌, ◌*◌, ◌^◌, ◌==◌, ◌⊎◌, ℤ, pos}
 use Rattle.std.proofs.Common.{◌≡◌, ℕ, zero, suc, ◌+◌, ◌<◌, ◌≤◌, List, [], ◌∷◌, ◌++◌, length, take, drop, get_or, Bool}
 use Rattle.std.proofs.Common.{true, false, cond, Some, refl, sym, ◌∙◌, ap, subst, append_assoc, append-nil}
-use Rattle.std.proofs.Common.{length-append, length-drop, add-one, arith}
+use Rattle.std.proofs.Common.{inl, inr, length-append, length-drop, add-one, arith}
 use Rattle.std.proofs.Math.Seq.{take-add, drop-cons}
 use Rattle.std.proofs.lemmas.List.{get_or-drop, drop-drop, length-take-le}
 use Rattle.std.proofs.lemmas.Bool.Decides.{nat_tests}
@@ -13,7 +13,7 @@ use Rattle.decimal_numbers.specs.Exact.{fixed, fixed_parts}
 use Rattle.json_laws.specs.Machine.{Phase}
 use Rattle.json_machine.specs.NumberRuns.{BeginsNumber}
 use Rattle.decimal_numbers.specs.Scaling.{FitsOneWord}
-use Rattle.json_events.specs.CountedNumbers.{WritesDigits, IsWhole, IsCountedRun}
+use Rattle.json_events.specs.CountedNumbers.{WritesDigits, IsWhole, IsEndedRun, IsCountedRun}
 use Rattle.json_grammar.specs.Token.{digit_count}
 use Rattle.decimal_numbers.proofs.Capped.{joined}
 use Rattle.decimal_numbers.proofs.ExactLaws.{counted_is}
@@ -139,11 +139,22 @@ fixed_plain w f ds size i g l m e s =
 no_digit : (b c : ℕ) → b ≡ c → (c < 48) → is_digit b ≡ false
 no_digit b c e l = grind (arith, nat_tests)
 
--- digits and a comma
-pub run_whole : (bs : List ℕ) (n v size : ℕ) → WritesDigits 0 bs n v → 0 < n → n ≤ 7 → (get_or bs 0 0 ≡ 48 → n ≡ 1)
-    → n < length bs → get_or bs n 0 ≡ 44 → size ≡ v * 10 ^ 12 → IsCountedRun bs n (pos size)
-run_whole bs n v size w s few z within comma e =
-    let all = ends_here n bs w.digits within (no_digit (get_or bs n 0) 44 comma (omega arith)) in
+end_no_digit : (b : ℕ) → (b ≡ 44) ⊎ (b ≡ 93) → is_digit b ≡ false
+end_no_digit b (inl e) = no_digit b 44 e (omega arith)
+end_no_digit b (inr e) = grind (arith, nat_tests)
+
+-- where the byte behind it is a comma
+pub counted_run : {bs : List ℕ} {n : ℕ} {count : ℤ} → IsEndedRun bs n count → get_or bs n 0 ≡ 44
+    → IsCountedRun bs n count
+counted_run is comma =
+    record { to = is.to; begins = is.begins; within = is.within; comma = comma; exact = is.exact }
+
+-- digits and an end
+pub ended_whole : (bs : List ℕ) (n v size : ℕ) → WritesDigits 0 bs n v → 0 < n → n ≤ 7
+    → (get_or bs 0 0 ≡ 48 → n ≡ 1) → n < length bs → (get_or bs n 0 ≡ 44) ⊎ (get_or bs n 0 ≡ 93) → size ≡ v * 10 ^ 12
+    → IsEndedRun bs n (pos size)
+ended_whole bs n v size w s few z within end e =
+    let all = ends_here n bs w.digits within (end_no_digit (get_or bs n 0) end) in
     let b = begins_whole bs n w.within s z all in
     let t = take n bs in
     let l : length t ≡ n = length-take-le n bs w.within in
@@ -154,10 +165,15 @@ run_whole bs n v size w s few z within comma e =
       to = b.to;
       begins = b.begins;
       within = within;
-      comma = comma;
+      end = end;
       exact = ap fixed (sym (append-nil t)) ∙ fixed_plain t [] [] size (int_of bs n s z w.digits) IsFrac.none (omega
           arith) (omega arith) size_is (omega arith);
     }
+
+pub run_whole : (bs : List ℕ) (n v size : ℕ) → WritesDigits 0 bs n v → 0 < n → n ≤ 7 → (get_or bs 0 0 ≡ 48 → n ≡ 1)
+    → n < length bs → get_or bs n 0 ≡ 44 → size ≡ v * 10 ^ 12 → IsCountedRun bs n (pos size)
+run_whole bs n v size w s few z within comma e =
+    counted_run (ended_whole bs n v size w s few z within (inl comma) e) comma
 
 -- and with a fraction
 written : (bs : List ℕ) (n v m x : ℕ) → IsWhole bs n v → WritesDigits v (drop (n + 1) bs) m x
@@ -187,10 +203,10 @@ fraction_token bs n m l p =
     take-add (n + 1) m bs ∙ ap (λ z. z ++ ds) (one_more n bs l ∙ ap (λ z. take n bs ++ z ∷ []) p)
     ∙ append_assoc (take n bs) (46 ∷ []) ds ∙ ap (λ z. take n bs ++ z) (sym (append-nil (46 ∷ ds)))
 
-pub run_fraction : (bs : List ℕ) (n v m x size : ℕ) → IsWhole bs n v → WritesDigits v (drop (n + 1) bs) m x → 0 < m
-    → m ≤ 12 → n + 1 + m < length bs → get_or bs (n + 1 + m) 0 ≡ 44 → size ≡ x * 10 ^ (12 - m)
-    → IsCountedRun bs (n + 1 + m) (pos size)
-run_fraction bs n v m x size w f some few within comma e =
+pub ended_fraction : (bs : List ℕ) (n v m x size : ℕ) → IsWhole bs n v → WritesDigits v (drop (n + 1) bs) m x → 0 < m
+    → m ≤ 12 → n + 1 + m < length bs → (get_or bs (n + 1 + m) 0 ≡ 44) ⊎ (get_or bs (n + 1 + m) 0 ≡ 93)
+    → size ≡ x * 10 ^ (12 - m) → IsEndedRun bs (n + 1 + m) (pos size)
+ended_fraction bs n v m x size w f some few within end e =
     let rest = drop (n + 1) bs in
     let a = take n bs in
     let ds = take m rest in
@@ -198,9 +214,10 @@ run_fraction bs n v m x size w f some few within comma e =
     ends_here n bs w.writes.digits w.within (no_digit (get_or bs n 0) 46 w.point (omega arith)) in
     let b = begins_whole bs n w.writes.within w.some w.zero digits in
     let behind : drop 1 (drop n bs) ≡ rest = drop-drop 1 n bs in
-    let last : get_or rest m 0 ≡ 44 = get_or-drop (n + 1) bs m 0 ∙ comma in
-    let fraction_digits : m ≡ digit_count rest = ends_here m rest f.digits (omega (arith, length-drop (n + 1) bs))
-    (no_digit (get_or rest m 0) 44 last (omega arith)) in
+    let last : is_digit (get_or rest m 0) ≡ false = subst (λ z. is_digit z ≡ false)
+    (sym (get_or-drop (n + 1) bs m 0)) (end_no_digit (get_or bs (n + 1 + m) 0) end) in
+    let fraction_digits : m ≡ digit_count rest =
+    ends_here m rest f.digits (omega (arith, length-drop (n + 1) bs)) last in
     let point : get_or (drop n bs) 0 0 ≡ 46 =
     get_or-drop n bs 0 0 ∙ ap (λ z. get_or bs z 0) (let i : n + 0 ≡ n = omega arith in i) ∙ w.point in
     let ends = fraction_ends b.to (drop n bs) m b.after (omega (arith, length-drop n bs, w.within)) point
@@ -217,9 +234,15 @@ run_fraction bs n v m x size w f some few within comma e =
           subst (λ z. BeginsNumber bs z Phase.fraction) all
           (number_then b.to Phase.fraction bs n (1 + m) b.begins ends);
       within = within;
-      comma = comma;
+      end = end;
       exact = ap fixed (fraction_token bs n m w.within w.point)
           ∙ fixed_plain a (46 ∷ ds) ds size (int_of bs n w.some w.zero w.writes.digits)
           (frac_of ds (digits_are m rest f.digits) (omega arith)) (omega (arith, w.few))
           (omega arith) size_is (omega arith);
     }
+
+pub run_fraction : (bs : List ℕ) (n v m x size : ℕ) → IsWhole bs n v → WritesDigits v (drop (n + 1) bs) m x → 0 < m
+    → m ≤ 12 → n + 1 + m < length bs → get_or bs (n + 1 + m) 0 ≡ 44 → size ≡ x * 10 ^ (12 - m)
+    → IsCountedRun bs (n + 1 + m) (pos size)
+run_fraction bs n v m x size w f some few within comma e =
+    counted_run (ended_fraction bs n v m x size w f some few within (inl comma) e) comma

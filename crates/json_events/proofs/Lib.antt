@@ -2,3 +2,5 @@ pub mod ReadingLemmas
 pub mod Standing
 pub mod CountedNumbers
 pub mod CountTold
+pub mod CountedRuns
+pub mod CountsGiven

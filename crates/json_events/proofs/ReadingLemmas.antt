@@ -8,7 +8,7 @@ use Rattle.json_grammar.specs.Tree.{Event}
 use Rattle.json_grammar.specs.Prefix.{IsSyntaxFault, IsDepthFault, IsShallow}
 use Rattle.json_laws.specs.Machine.{State, step, run}
 use Rattle.json_machine.specs.Machines.{state_of, IsSound}
-use Rattle.json_machine.specs.NumberRuns.{TakesNumber}
+use Rattle.json_machine.specs.NumberRuns.{TakesNumber, TakesWithEnd}
 use Rattle.json_events.specs.Unreads.{unread_of}
 use Rattle.json_laws.specs.Reads.{HasRead}
 use Rattle.json_events.specs.Readings.{HasTold, HasStopped, ReadsOn, IsTelling, told_events}
@@ -16,6 +16,7 @@ use Rattle.json_machine.specs.declared.machine.Machine.{Machine}
 use Rattle.json_events.specs.declared.unread.Unread.{Unread}
 use Rattle.json_events.specs.declared.up_to_event.Reading.{Reading}
 use Rattle.json_events.specs.declared.up_to_event.Reading.TheVariants.{Quiet, Used, One, Two, Refused, TooDeep}
+use Rattle.json_machine.proofs.PlainNumbers.{with_end}
 use Rattle.json_laws.proofs.Reach.{read_levels, read_next, read_run, read_refused, read_deep}
 
 -- the first byte of the rest
@@ -57,6 +58,12 @@ byte_deep m t u b stream told more h f e l =
           h.read first.within (step_at stream u.at b (state_of m) (Some (t, more)) first e) l,
     )
 
+-- what is left of the stream behind bytes that are passed
+pub rest_behind : (u v : Unread) (count : ℕ) (stream : List ℕ) → unread_of u ≡ drop u.at stream → v.at ≡ u.at + count
+    → unread_of v ≡ drop count (unread_of u) → unread_of v ≡ drop v.at stream
+rest_behind u v count stream r a d =
+    d ∙ ap (drop count) r ∙ drop-drop count u.at stream ∙ ap (λ z. drop z stream) (sym a)
+
 byte_told : (m n : Machine) (u v : Unread) (b : ℕ) (stream : List ℕ) (told more : List Event) → HasTold m u stream told
     → slice_get (unread_of u) 0 ≡ Some b → step u.at (state_of m).levels (state_of m).mode b ≡ Some (state_of n, more)
     → length (state_of n).levels ≤ 16 → IsSound (u.at + 1) n → v.at ≡ u.at + 1 → unread_of v ≡ drop 1 (unread_of u)
@@ -67,7 +74,7 @@ byte_told m n u v b stream told more h f e l s a r =
       read = subst (λ z. HasRead stream z (state_of n) (told ++ more)) (sym a)
           (read_next stream u.at (state_of m) (state_of n) told more h.read first.within
           (step_at stream u.at b (state_of m) (Some (state_of n, more)) first e) l);
-      rest = r ∙ ap (drop 1) h.rest ∙ drop-drop 1 u.at stream ∙ ap (λ z. drop z stream) (sym a);
+      rest = rest_behind u v 1 stream h.rest a r;
       sound = subst (λ z. IsSound z n) (sym a) s;
     }
 
@@ -87,47 +94,54 @@ pub byte_read : (m n : Machine) (u v : Unread) (b : ℕ) (r : Reading) (stream :
 byte_read m n u v b r stream told h f e l s a d t =
     reads_told r n v stream told t (byte_told m n u v b stream told (told_events r) h f e l s a d)
 
+-- behind a run of quiet bytes from an offset on
+pub quiet_read : (stream rest : List ℕ) (at count : ℕ) (s t : State) (told : List Event) → HasRead stream at s told
+    → rest ≡ drop at stream → count ≤ length rest → run at s (take count rest) ≡ Some (t, [])
+    → HasRead stream (at + count) t told
+quiet_read stream rest at count s t told h r i e = read_run stream at count s t told h (omega (arith, ap length r))
+    (ap (λ z. run at s (take count z)) (sym r) ∙ e)
+
+-- behind a number from an offset on, and the byte behind it
+pub ended_read : (stream rest : List ℕ) (at count : ℕ) (s t : State) (events told : List Event)
+    → HasRead stream at s told → rest ≡ drop at stream → TakesWithEnd at s rest count events t
+    → HasRead stream (at + (count + 1)) t (told ++ events)
+ended_read stream rest at count s t events told h r is =
+    let place = at + count in
+    let behind : count < length (drop at stream) = let w = is.within in omega (arith, ap length r) in
+    let inside = quiet_read stream rest at count s is.inside told h r (let w = is.within in omega arith) is.runs in
+    let byte : get_or rest count 0 ≡ get_or stream place 0 =
+    ap (λ z. get_or z count 0) r ∙ get_or-drop at stream count 0 in
+    let levels : length t.levels ≤ 16 = let l = (read_levels stream at s told h).open_levels in
+    omega (arith, is.no_deeper) in
+    let next : place + 1 ≡ at + (count + 1) = omega arith in
+    subst (λ z. HasRead stream z t (told ++ events)) next
+    (read_next stream place is.inside t told events inside (omega (arith, length-drop at stream))
+    (ap (step place is.inside.levels is.inside.mode) (sym byte) ∙ is.tells) levels)
+
 -- behind a run of quiet bytes
 pub after_run : (m n : Machine) (u v : Unread) (count : ℕ) (stream : List ℕ) (told : List Event)
     → HasTold m u stream told → count ≤ length (unread_of u)
     → ((k : ℕ) → run k (state_of m) (take count (unread_of u)) ≡ Some (state_of n, []))
     → ((k : ℕ) → IsSound k m → IsSound (k + count) n) → v.at ≡ u.at + count → unread_of v ≡ drop count (unread_of u)
     → HasTold n v stream told
-after_run m n u v count stream told h i r s a d =
-    let quiet : run u.at (state_of m) (take count (drop u.at stream)) ≡ Some (state_of n, []) =
-    ap (λ z. run u.at (state_of m) (take count z)) (sym h.rest) ∙ r u.at in
-    let fits : count ≤ length (drop u.at stream) = omega (arith, ap length h.rest) in
-    record {
-      read = subst (λ z. HasRead stream z (state_of n) told) (sym a)
-          (read_run stream u.at count (state_of m) (state_of n) told h.read fits quiet);
-      rest = d ∙ ap (drop count) h.rest ∙ drop-drop count u.at stream ∙ ap (λ z. drop z stream) (sym a);
-      sound = subst (λ z. IsSound z n) (sym a) (s u.at h.sound);
-    }
+after_run m n u v count stream told h i r s a d = record {
+  read = subst (λ z. HasRead stream z (state_of n) told) (sym a)
+      (quiet_read stream (unread_of u) u.at count (state_of m) (state_of n) told h.read h.rest i (r u.at));
+  rest = rest_behind u v count stream h.rest a d;
+  sound = subst (λ z. IsSound z n) (sym a) (s u.at h.sound);
+}
 
 -- behind a number and its comma
 pub number_told : (m n : Machine) (u v : Unread) (count : ℕ) (event : Event) (stream : List ℕ) (told : List Event)
     → HasTold m u stream told → TakesNumber u.at (state_of m) (unread_of u) count event (state_of n) → IsSound v.at n
     → v.at ≡ u.at + (count + 1) → unread_of v ≡ drop (count + 1) (unread_of u) → HasTold n v stream (told ++ event ∷ [])
-number_told m n u v count event stream told h t s a d =
-    let place = u.at + count in
-    let behind : count < length (drop u.at stream) = let w = t.within in omega (arith, ap length h.rest) in
-    let quiet : run u.at (state_of m) (take count (drop u.at stream)) ≡ Some (t.inside, []) =
-    ap (λ z. run u.at (state_of m) (take count z)) (sym h.rest) ∙ t.runs in
-    let inside : HasRead stream place t.inside told =
-    read_run stream u.at count (state_of m) t.inside told h.read (omega arith) quiet in
-    let byte : get_or (unread_of u) count 0 ≡ get_or stream place 0 =
-    ap (λ z. get_or z count 0) h.rest ∙ get_or-drop u.at stream count 0 in
-    let levels : length (state_of n).levels ≤ 16 = let l =
-    (read_levels stream u.at (state_of m) told h.read).open_levels in omega (arith, ap length t.same_levels) in
-    let next : v.at ≡ place + 1 = omega arith in
-    record {
-      read = subst (λ z. HasRead stream z (state_of n) (told ++ event ∷ [])) (sym next)
-          (read_next stream place t.inside (state_of n) told (event ∷ []) inside
-          (omega (arith, length-drop u.at stream))
-          (ap (step place t.inside.levels t.inside.mode) (sym byte) ∙ t.tells) levels);
-      rest = d ∙ ap (drop (count + 1)) h.rest ∙ drop-drop (count + 1) u.at stream ∙ ap (λ z. drop z stream) (sym a);
-      sound = s;
-    }
+number_told m n u v count event stream told h t s a d = record {
+  read = subst (λ z. HasRead stream z (state_of n) (told ++ event ∷ [])) (sym a)
+      (ended_read stream (unread_of u) u.at count (state_of m) (state_of n) (event ∷ []) told h.read h.rest
+      (with_end t));
+  rest = rest_behind u v (count + 1) stream h.rest a d;
+  sound = s;
+}
 
 -- nothing is left
 pub used_up : (m : Machine) (u : Unread) (stream : List ℕ) (told : List Event) → HasTold m u stream told

@@ -3,7 +3,7 @@ use Rattle.std.specs.Prelude.{slice_get, is_some, ◌⊎◌}
 use Rattle.std.specs.Option.{option_map, option_to_list}
 use Rattle.std.proofs.Common.{◌≡◌, ℕ, zero, suc, ◌+◌, ◌≤◌, ◌<◌, List, [], ◌∷◌, ◌++◌, length, take, drop, Bool, true}
 use Rattle.std.proofs.Common.{false, Option, Some, None, Result, Ok, Err, OnOk, OnErr, IsErr, refl, sym, ◌∙◌, ap, subst}
-use Rattle.std.proofs.Common.{append-nil, length-append, length-drop, inl, inr, arith}
+use Rattle.std.proofs.Common.{append-nil, append_assoc, length-append, length-drop, inl, inr, arith}
 use Rattle.std.proofs.lemmas.List.{drop-append-le, drop-drop, length-take-le, take_all}
 use Rattle.std.proofs.Math.Nat.{eq-or-lt_of_le}
 use Rattle.std.proofs.Math.Seq.{drop-append_seam}
@@ -369,6 +369,42 @@ still_reading p m u held stage stream n finished told f e h i d =
     stands_reading (view_of (behind p m u held stage)) stream n finished f e
     (record { told = told; read = h.read; unread = h.rest; enough = i; held = d })
 
+-- each of these events is the next one in its turn
+abbrev pub AreNext : List ℕ → ℕ → List json.Event → Type 0
+AreNext stream given [] = Unit {0}
+AreNext stream given (e ∷ es) = IsNext stream given e × AreNext stream (given + 1) es
+
+are_next : (stream : List ℕ) (k : ℕ) (s : State) (told es more : List json.Event) (given : ℕ)
+    → HasRead stream k s (told ++ (es ++ more)) → given ≡ length told → AreNext stream given es
+are_next stream k s told [] more given h e = tt
+are_next stream k s told (x ∷ es) more given h e =
+    let longer : (told ++ x ∷ []) ++ (es ++ more) ≡ told ++ (x ∷ es ++ more) =
+    append_assoc told (x ∷ []) (es ++ more) in (
+      is_next stream k given s (told ++ (x ∷ es ++ more)) (es ++ more) x h (seam told (x ∷ es ++ more) given e),
+      are_next stream k s (told ++ x ∷ []) es more (given + 1)
+          (subst (λ z. HasRead stream k s z) (sym longer) h) (omega (arith, length-append told (x ∷ []))),
+    )
+
+-- events were told, and perhaps one more, which is held
+pub all_given : (p : Inside) (m : Machine) (u : Unread) (held : Option Event) (v : PullView) (es : List json.Event)
+    (stream : List ℕ) (given : ℕ) (finished : Bool) → IsIdle v → view_of p ≡ v
+    → MachineHolds p.stage p.unread.at p.machine
+    → ((told : List json.Event) → HasTold p.machine p.unread stream told
+    → HasTold m u stream (told ++ (es ++ option_to_list (option_map event_view held)))) → Stands v stream given finished
+    → AreNext stream given es × Stands (view_of (behind p m u held p.stage)) stream (given + length es) finished
+all_given p m u held v es stream given finished idle s i reads h =
+    let a = start_of p v stream given finished idle s i h in
+    let rest = option_to_list (option_map event_view held) in
+    let all = reads a.told a.has_told in
+    let longer : (a.told ++ es) ++ rest ≡ a.told ++ (es ++ rest) = append_assoc a.told es rest in
+    let n : given + length es ≡ length (a.told ++ es) = omega (arith, length-append a.told es, a.all_given) in (
+      are_next stream u.at (state_of m) a.told es rest given all.read a.all_given,
+      still_reading p m u held p.stage
+          stream (given + length es) finished (a.told ++ (es ++ rest)) a.was_finished a.is_reading all
+          (omega (arith, ap length longer, length-append (a.told ++ es) rest))
+          (ap (drop (given + length es)) (sym longer) ∙ seam (a.told ++ es) rest (given + length es) n),
+    )
+
 -- an event was told, and perhaps a second one, which is held
 pub told_given : (p : Inside) (m : Machine) (u : Unread) (held : Option Event) (v : PullView) (e : json.Event)
     (stream : List ℕ) (given : ℕ) (finished : Bool) → IsIdle v → view_of p ≡ v
@@ -377,15 +413,7 @@ pub told_given : (p : Inside) (m : Machine) (u : Unread) (held : Option Event) (
     → HasTold m u stream (told ++ e ∷ option_to_list (option_map event_view held))) → Stands v stream given finished
     → IsNext stream given e × Stands (view_of (behind p m u held p.stage)) stream (given + 1) finished
 told_given p m u held v e stream given finished idle s i reads h =
-    let a = start_of p v stream given finished idle s i h in
-    let rest = option_to_list (option_map event_view held) in
-    let all = reads a.told a.has_told in
-    let d = seam a.told (e ∷ rest) given a.all_given in
-    let b = one_further (a.told ++ e ∷ rest) given e rest d in (
-      is_next stream u.at given (state_of m) (a.told ++ e ∷ rest) rest e all.read d,
-      still_reading p m u held p.stage
-          stream (given + 1) finished (a.told ++ e ∷ rest) a.was_finished a.is_reading all b.1 b.0,
-    )
+    let a = all_given p m u held v (e ∷ []) stream given finished idle s i reads h in (a.0.0, a.1)
 
 -- nothing was told
 pub nothing_told : (p : Inside) (m : Machine) (u : Unread) (v : PullView) (stream : List ℕ) (given : ℕ)
@@ -454,21 +482,27 @@ holds_behind : (p : Inside) (m : Machine) (u : Unread) (stage : Stage) → stage
     → MachineHolds stage u.at m
 holds_behind p m u stage e s = subst (λ (z : Stage). MachineHolds z u.at m) (sym e) s
 
-pub for_some_told : (p : Inside) (m : Machine) (u : Unread) (held : Option Event) (v : PullView) (e : json.Event)
+pub for_some_all : (p : Inside) (m : Machine) (u : Unread) (held : Option Event) (v : PullView) (es : List json.Event)
     → IsIdle v → view_of p ≡ v → ((stream : List ℕ) (told : List json.Event) → HasTold p.machine p.unread stream told
-    → HasTold m u stream (told ++ e ∷ option_to_list (option_map event_view held))) → StandsForSome p
+    → HasTold m u stream (told ++ (es ++ option_to_list (option_map event_view held)))) → StandsForSome p
     → StandsForSome (behind p m u held p.stage)
-for_some_told p m u held v e idle s reads h =
+for_some_all p m u held v es idle s reads h =
     let w = view_of p in
     let own : IsIdle w = subst IsIdle (sym s) idle in
     let a = start_of p w h.stream h.given h.finished own refl h.machine h.stands in
     record {
       stream = h.stream;
-      given = h.given + 1;
+      given = h.given + length es;
       finished = h.finished;
-      stands = (told_given p m u held w e h.stream h.given h.finished own refl h.machine (reads h.stream) h.stands).1;
+      stands = (all_given p m u held w es h.stream h.given h.finished own refl h.machine (reads h.stream) h.stands).1;
       machine = holds_behind p m u p.stage own.is_reading (reads h.stream a.told a.has_told).sound;
     }
+
+pub for_some_told : (p : Inside) (m : Machine) (u : Unread) (held : Option Event) (v : PullView) (e : json.Event)
+    → IsIdle v → view_of p ≡ v → ((stream : List ℕ) (told : List json.Event) → HasTold p.machine p.unread stream told
+    → HasTold m u stream (told ++ e ∷ option_to_list (option_map event_view held))) → StandsForSome p
+    → StandsForSome (behind p m u held p.stage)
+for_some_told p m u held v e idle s reads h = for_some_all p m u held v (e ∷ []) idle s reads h
 
 pub for_some_quiet : (p : Inside) (m : Machine) (u : Unread) (v : PullView) → IsIdle v → view_of p ≡ v
     → ((stream : List ℕ) (told : List json.Event) → HasTold p.machine p.unread stream told → HasTold m u stream told)

@@ -1,7 +1,7 @@
 //! Numbers without a sign and an exponent, of at most 7 digits before the point and 12 behind it.
 
-ghost use Rattle.std.specs.Prelude.{◌≡◌, ◌≤◌, ◌+◌, ◌*◌, ◌^◌, IfSome, pos};
-ghost use Rattle.json_events.specs.CountedNumbers.{WritesDigits, IsWhole, IsCountedRun};
+ghost use Rattle.std.specs.Prelude.{◌≡◌, ◌≤◌, ◌+◌, ◌*◌, ◌^◌, ◌⊎◌, IfSome, IsTrue, pos};
+ghost use Rattle.json_events.specs.CountedNumbers.{WritesDigits, IsWhole, IsEndedRun, IsCountedRun};
 
 use decimal_numbers::power_of_ten;
 use fixed_num::Fixed;
@@ -25,7 +25,7 @@ pub struct CountedNumber {
 #[derive(Clone, Copy, Drop)]
 pub(crate) struct CountedRun {
     pub length: usize,
-    pub count: Fixed,
+    pub size: u64,
 }
 
 /// How many digits are in front, and the number that they write behind another one.
@@ -38,7 +38,19 @@ struct DigitRun {
 /// The number in front that is told by its count, where a comma follows it.
 #[inline]
 pub(crate) fn counted_number(bytes: &[u8]) -> Option<CountedRun>
-    ensures { IfSome result (λ run. IsCountedRun bytes.now run.length run.count) }
+    ensures { IfSome result (λ run. IsCountedRun bytes.now run.length (pos run.size)) }
+{
+    let run = ended_number(bytes)?;
+    if bytes[run.length] != b',' {
+        return None;
+    }
+    Some(run)
+}
+
+/// The number in front that is told by its count, where a comma follows it or the bracket that closes a list.
+#[inline]
+pub(crate) fn ended_number(bytes: &[u8]) -> Option<CountedRun>
+    ensures { IfSome result (λ run. IsEndedRun bytes.now run.length (pos run.size)) }
 {
     let whole = digits_behind(0, bytes, MOST_WHOLE);
     if whole.length == 0 || whole.length == bytes.len() {
@@ -48,31 +60,36 @@ pub(crate) fn counted_number(bytes: &[u8]) -> Option<CountedRun>
         return None;
     }
     match bytes[whole.length] {
-        b',' => Some(CountedRun {
+        b',' | b']' => Some(CountedRun {
             length: whole.length,
-            count: count_of(whole.value * power_of_ten(PLACES)),
+            size: whole.value * power_of_ten(PLACES),
         }),
-        b'.' => counted_fraction(bytes, whole),
+        b'.' => ended_fraction(bytes, whole),
         _ => None,
     }
 }
 
 /// The same, where the digits before its point are read.
 #[inline]
-fn counted_fraction(bytes: &[u8], whole: DigitRun) -> Option<CountedRun>
+fn ended_fraction(bytes: &[u8], whole: DigitRun) -> Option<CountedRun>
     requires { IsWhole bytes.now whole.length whole.value }
-    ensures { IfSome result (λ run. IsCountedRun bytes.now run.length run.count) }
+    ensures { IfSome result (λ run. IsEndedRun bytes.now run.length (pos run.size)) }
 {
     let fraction = digits_behind(whole.value, &bytes[whole.length + 1..], PLACES);
     let length = whole.length + 1 + fraction.length;
-    if fraction.length == 0 || length == bytes.len() || bytes[length] != b',' {
+    if fraction.length == 0 || length == bytes.len() || !ends_item(bytes[length]) {
         return None;
     }
     let size = fraction.value * power_of_ten(PLACES - fraction.length);
-    Some(CountedRun {
-        length,
-        count: count_of(size),
-    })
+    Some(CountedRun { length, size })
+}
+
+/// Whether the byte may stand behind an item of a list.
+#[inline]
+fn ends_item(byte: u8) -> bool
+    ensures { IsTrue result → (byte ≡ 44) ⊎ (byte ≡ 93) }
+{
+    byte == b',' || byte == b']'
 }
 
 /// The digits in front, at most so many, behind those of a number.
@@ -91,8 +108,9 @@ fn digits_behind(front: u64, bytes: &[u8], most: usize) -> DigitRun
     DigitRun { length, value }
 }
 
+/// The count of that size.
 #[inline]
-fn count_of(size: u64) -> Fixed
+pub(crate) fn count_of(size: u64) -> Fixed
     ensures { result ≡ pos size }
 {
     match Fixed::from_count(size as i128) {

@@ -2,10 +2,12 @@
 #![tactic(auto)]
 
 mod counted_number;
+mod counted_numbers;
 mod pull;
 mod sound_event;
 mod unread;
 mod up_to_event;
 
 pub use counted_number::CountedNumber;
+pub use counted_numbers::MOST_COUNTS;
 pub use pull::{Pull, Pulled};

@@ -1,7 +1,7 @@
 //! A reader that is handed a text in pieces, and tells its events.
 
 ghost use Rattle.std.specs.Prelude.{◌≡◌, ◌≢◌, ℕ, ◌+◌, ◌<◌, List, [], ◌++◌, length, slice_get, Bool, true, false, Some};
-ghost use Rattle.std.specs.Prelude.{Ok, Err, IfOk, OnOk, OnErr, IfSome, IsSome, None, IsTrue};
+ghost use Rattle.std.specs.Prelude.{Ok, Err, IfOk, OnOk, OnErr, IfSome, IsSome, None, IsTrue, ◌≤◌};
 ghost use Rattle.json_grammar.specs.Tree as json;
 ghost use Rattle.json_grammar.specs.Grammar.{IsText};
 ghost use Rattle.json_grammar.specs.Events.{event_view};
@@ -9,12 +9,14 @@ ghost use Rattle.json_grammar.specs.Prefix.{IsSyntaxFault, IsShallow, IsDepthFau
 ghost use Rattle.json_grammar.specs.Stream.{IsShallowPrefix, IsNextDue, IsDueCount, IsNextOfEach, IsGivenText};
 ghost use Rattle.json_events.specs.Pulls.{Stands, IsUnfinished, given_after, finished_after};
 ghost use Rattle.json_events.specs.Steps.{Steps, IsIdle, IsUsedUp, Concludes};
-ghost use Rattle.json_events.specs.Counts.{IsNextCount};
+ghost use Rattle.json_events.specs.Counts.{IsNextCount, AreNextCounts};
 
 use crate::counted_number::CountedNumber;
+use crate::counted_numbers::MOST_COUNTS;
 use crate::sound_event::sound_event;
 use crate::unread::Unread;
-use crate::up_to_event::{Reading, read_counted, read_up_to_event};
+use crate::up_to_event::{CountedReading, Reading, read_counted, read_counts, read_up_to_event};
+use arrayvec::ArrayVec;
 use json_grammar::{Event, TextFault};
 use json_machine::Machine;
 use std::alloc::{AllocError, Global};
@@ -151,8 +153,8 @@ impl Pull {
     }
 
     /// The next event, where it is a number without a sign and an exponent, of at most 7 digits before the point and 12
-    /// behind it, in a list or an object, and the comma behind it was pushed: its place and its
-    /// exact value. `None` says nothing of the events that are due. It takes no memory, and is a
+    /// behind it, in a list or an object, and the comma behind it was pushed, or the bracket that closes the list: its
+    /// place and its exact value. `None` says nothing of the events that are due. It takes no memory, and is a
     /// shorter way to most numbers than `next_event`.
     #[inline]
     pub fn next_counted(&mut self) -> Option<CountedNumber>
@@ -167,7 +169,28 @@ impl Pull {
         if !self.is_idle() {
             return None;
         }
-        read_counted(&mut self.machine, &mut self.unread)
+        let CountedReading { number, second } = read_counted(&mut self.machine, &mut self.unread)?;
+        self.held = second;
+        Some(number)
+    }
+
+    /// Replaces the counts by those of the numbers that come next in a list, at most so many, as far as each is a
+    /// number without a sign and an exponent, of at most 7 digits before the point and 12 behind it, less than 2^63 as
+    /// a count of 10^-12, and the comma behind it was pushed. Fewer than that many say nothing of the events that are
+    /// due. It takes no memory.
+    pub fn next_counts(&mut self, most: usize, counts: &mut ArrayVec<i64, MOST_COUNTS>)
+        requires { IsUnfinished self.old }
+        ensures stands { (stream : List ℕ) (given : ℕ) → Stands self.old stream given false →
+            Stands self.new stream (given + length counts.new.items) false }
+        ensures numbers { (stream : List ℕ) (given : ℕ) → Stands self.old stream given false →
+            AreNextCounts stream given counts.new.items }
+        ensures few { length counts.new.items ≤ most }
+        ensures unfinished { IsUnfinished self.new }
+    {
+        counts.clear();
+        if self.is_idle() {
+            read_counts(&mut self.machine, &mut self.unread, most, counts);
+        }
     }
 
     /// Whether it reads and holds no event.

@@ -1,18 +1,23 @@
 //! Reading a stream up to the next byte that tells something.
 
 ghost use Rattle.std.specs.Prelude.{◌≡◌, ℕ, ◌+◌, ◌<◌, ◌^◌, ◌≢◌, ◌⊎◌, List, slice_get, Some, IfSome, IsSome, Ok, None};
-ghost use Rattle.std.specs.Prelude.{false, length, take, option_map};
+ghost use Rattle.std.specs.Prelude.{false, length, take, pos, [], ◌∷◌, ◌≤◌};
+ghost use Rattle.std.specs.Option.{option_map, option_to_list};
 ghost use Rattle.json_grammar.specs.Tree as json;
+ghost use Rattle.json_grammar.specs.Events.{event_view};
 ghost use Rattle.json_laws.specs.Machine.{State};
 ghost use Rattle.json_machine.specs.Machines.{IsSound, state_of, answer_of};
-ghost use Rattle.json_machine.specs.NumberRuns.{TakesNumber};
+ghost use Rattle.json_machine.specs.NumberRuns.{TakesWithEnd};
 ghost use Rattle.decimal_numbers.specs.Exact.{fixed};
 ghost use Rattle.json_events.specs.Unreads.{unread_of};
 ghost use Rattle.json_events.specs.Readings.{HasTold, ReadsOn, Shortens, IsTelling, told_events};
-ghost use Rattle.json_events.specs.CountedNumbers.{TellsCount};
+ghost use Rattle.json_events.specs.CountedNumbers.{finishes, TellsCount, TellsCounts};
 
-use crate::counted_number::{CountedNumber, CountedRun, counted_number};
+use crate::counted_number::{CountedNumber, CountedRun, count_of, ended_number};
+use crate::counted_numbers::{MOST_COUNTS, counted_numbers};
 use crate::unread::Unread;
+use arrayvec::ArrayVec;
+use json_grammar::Event;
 use json_machine::{Answer, MOST_LEVELS, Machine, Mode, RawEvent, TakenNumber, blank_count};
 use std::alloc::{AllocError, Global};
 
@@ -29,6 +34,20 @@ pub enum Reading {
     Refused,
     /// The next byte opens one level too many.
     TooDeep,
+}
+
+/// A number that was read by its count, and the event of the bracket behind it, where that was read too.
+#[derive(Drop)]
+pub struct CountedReading {
+    pub number: CountedNumber,
+    pub second: Option<Event>,
+}
+
+/// A number that was taken by its count, and whether the byte behind it was the bracket that closes the list.
+#[derive(Clone, Copy, Drop)]
+struct TakenCount {
+    run: CountedRun,
+    closes: bool,
 }
 
 /// Reads up to a byte that tells something, or to the end of the bytes.
@@ -90,42 +109,92 @@ fn read_telling(
     }
 }
 
-/// Reads a number that is told by its count with the comma behind it, and the blanks before it. `None`: nothing is
-/// read.
+/// Reads a number that is told by its count with the comma behind it, or the bracket that closes a list, and the blanks
+/// before it. `None`: nothing is read.
 #[inline]
-pub fn read_counted(machine: &mut Machine, unread: &mut Unread) -> Option<CountedNumber>
-    ensures tells { IfSome result (λ number.
-        TellsCount number.at number.count machine.old unread.old machine.new unread.new) }
+pub fn read_counted(machine: &mut Machine, unread: &mut Unread) -> Option<CountedReading>
+    ensures tells { IfSome result (λ reading. TellsCount reading.number.at reading.number.count
+        (option_to_list (option_map event_view reading.second)) machine.old unread.old machine.new unread.new) }
     ensures left_machine { result ≡ None → machine.new ≡ machine.old }
     ensures left_unread { result ≡ None → unread.new ≡ unread.old }
 {
     let bytes = unread.as_slice();
     let blanks = blank_count(bytes);
-    let CountedRun { length, count } = take_counted(machine, &bytes[blanks..])?;
+    let TakenCount { run, closes } = take_counted(machine, &bytes[blanks..])?;
     unread.pass(blanks);
     let at = unread.at();
-    unread.pass(length + 1);
-    Some(CountedNumber { at, count })
+    unread.pass(run.length + 1);
+    let count = count_of(run.size);
+    let second = finish_of(closes, at + run.length as u64);
+    Some(CountedReading {
+        number: CountedNumber { at, count },
+        second,
+    })
 }
 
 /// Takes a number in front that is told by its count, and the comma behind it, where a value may come and the comma
-/// too. `None`: nothing is taken.
+/// too, or the bracket that closes the list. `None`: nothing is taken.
 #[inline]
-fn take_counted(machine: &mut Machine, bytes: &[u8]) -> Option<CountedRun>
-    ensures takes { (k : ℕ) → IfSome result (λ run.
-        TakesNumber k (state_of machine.old) bytes.now run.length (json.Event.number k (take run.length bytes.now))
+fn take_counted(machine: &mut Machine, bytes: &[u8]) -> Option<TakenCount>
+    ensures takes { (k : ℕ) → IfSome result (λ taken.
+        TakesWithEnd k (state_of machine.old) bytes.now taken.run.length
+        (json.Event.number k (take taken.run.length bytes.now) ∷ finishes taken.closes (k + taken.run.length))
         (state_of machine.new)) }
-    ensures within { IfSome result (λ run. run.length < length bytes.now) }
-    ensures exact { IfSome result (λ run. fixed (take run.length bytes.now) ≡ Some (run.count, false)) }
+    ensures within { IfSome result (λ taken. taken.run.length < length bytes.now) }
+    ensures exact { IfSome result (λ taken.
+        fixed (take taken.run.length bytes.now) ≡ Some (pos taken.run.size, false)) }
     ensures sound { (k i : ℕ) → IsSound k machine.old → IsSome result → IsSound i machine.new }
     ensures waits { IsSome result → (machine.old.mode ≡ Mode.Want) ⊎ (machine.old.mode ≡ Mode.First) }
     ensures left { result ≡ None → machine.new ≡ machine.old }
 {
-    let run = counted_number(bytes)?;
-    if !machine.pass_number(bytes, run.length) {
+    let run = ended_number(bytes)?;
+    if bytes[run.length] == b',' {
+        if !machine.pass_number(bytes, run.length) {
+            return None;
+        }
+        return Some(TakenCount { run, closes: false });
+    }
+    if !machine.awaits_item() {
         return None;
     }
-    Some(run)
+    machine.pass_last();
+    Some(TakenCount { run, closes: true })
+}
+
+/// The event of a bracket, where it closes what is open.
+#[inline]
+fn finish_of(closes: bool, at: u64) -> Option<Event>
+    ensures { option_to_list (option_map event_view result) ≡ finishes closes at }
+{
+    if closes {
+        Some(Event::Finish { at })
+    } else {
+        None
+    }
+}
+
+/// Reads numbers of a list, at most so many, that are told by their counts, each with the blanks before it and the
+/// comma behind it.
+#[inline]
+pub fn read_counts(
+    machine: &mut Machine,
+    unread: &mut Unread,
+    most: usize,
+    counts: &mut ArrayVec<i64, MOST_COUNTS>,
+)
+    requires { counts.old.items ≡ [] }
+    ensures tells { TellsCounts counts.new.items machine.old unread.old machine.new unread.new }
+    ensures few { length counts.new.items ≤ most }
+{
+    if !machine.awaits_item() {
+        return;
+    }
+    let used = counted_numbers(unread.as_slice(), most, counts);
+    if counts.is_empty() {
+        return;
+    }
+    machine.pass_items();
+    unread.pass(used);
 }
 
 /// Reads one byte, the first of the buffer.

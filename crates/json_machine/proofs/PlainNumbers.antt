@@ -1,7 +1,7 @@
 -- Numbers that stand whole in a buffer are what the machine reads of their bytes.
 use Rattle.std.specs.Prelude.{◌-◌, ◌⊎◌}
 use Rattle.std.proofs.Common.{◌≡◌, ◌≢◌, cond, ℕ, zero, suc, ◌+◌, ◌≤◌, ◌<◌, List, [], ◌∷◌, ◌++◌, length, take, drop}
-use Rattle.std.proofs.Common.{get_or, Bool, true, false, Some, inl, inr, refl, sym, ◌∙◌, ap, subst, append_assoc}
+use Rattle.std.proofs.Common.{get_or, Bool, true, false, Some, None, inl, inr, refl, sym, ◌∙◌, ap, subst, append_assoc}
 use Rattle.std.proofs.Common.{append-nil, arith, length-drop}
 use Rattle.std.proofs.Math.Seq.{take-add}
 use Rattle.std.proofs.lemmas.List.{take_all}
@@ -9,9 +9,13 @@ use Rattle.std.proofs.lemmas.Bool.Decides.{nat_tests}
 use Rattle.json_grammar.specs.Tree.{Event}
 use Rattle.json_grammar.specs.Grammar.{IsDigit}
 use Rattle.json_grammar.specs.Token.{digit_count}
-use Rattle.json_laws.specs.Machine.{st, Phase, Mode, want, first, after, number, go, may_end, step, value_step}
+use Rattle.json_laws.specs.Machine.{State, st, Move, close, Phase, Mode, next_key, want, first, after, number, go}
+use Rattle.json_laws.specs.Machine.{may_end, step, value_step}
 use Rattle.json_laws.specs.Machine.{after_step, phase_step, is_within_digits, is_digit, run, run_then}
-use Rattle.json_machine.specs.NumberRuns.{GoesOn, EndsNumber, BeginsNumber, TakesNumber}
+use Rattle.json_machine.specs.Machines.{mode_of}
+use Rattle.json_machine.specs.declared.machine.Mode as modes
+use Rattle.json_machine.specs.declared.machine.Mode.TheVariants.{Want, First}
+use Rattle.json_machine.specs.NumberRuns.{GoesOn, EndsNumber, BeginsNumber, TakesNumber, TakesWithEnd}
 use Rattle.json_laws.proofs.Forward.{number_goes, AfterWhole, minus_digit, minus_zero, may_fraction, point_digit}
 use Rattle.json_laws.proofs.Forward.{number_stops}
 use Rattle.json_grammar.proofs.Digits.{digit as digit_of}
@@ -154,22 +158,60 @@ after_is : (k b : ℕ) (levels : List Bool) → step k levels after b ≡ after_
 unfolding step
 after_is k b levels = refl
 
+-- a number and the byte behind it
+pub number_ended : (k n b : ℕ) (levels : List Bool) (mode : Mode) (new : State) (more : List Event) (bs token : List ℕ)
+    (to : Phase) → (mode ≡ want) ⊎ (mode ≡ first) → BeginsNumber bs n to → n < length bs → get_or bs n 0 ≡ b
+    → after_step (k + n) levels b ≡ Some (new, more) → length new.levels ≤ length levels → token ≡ take n bs
+    → TakesWithEnd k (st levels mode) bs n (Event.number k token ∷ more) new
+number_ended k n b levels mode new more bs token to m begins within byte moves no_deeper same =
+    let inside = st levels (number k token to) in
+    let number_run : run k (st levels (number k [] Phase.minus)) (take n bs) ≡ Some (inside, []) =
+    begins.number.goes_on.runs k k levels [] ∙ ap (λ z. Some (st levels (number k z to), [])) (sym same) in
+    let tells : step (k + n) levels (number k token to) b ≡ Some (new, Event.number k token ∷ more) =
+    number_stops (k + n) k b levels token to new more begins.number.ends
+    (after_is (k + n) b levels ∙ moves) in
+    record {
+      inside = inside;
+      runs = value_run bs n k levels mode m begins.some begins.first (omega arith) ∙ number_run;
+      within = within;
+      tells = rw byte tells;
+      no_deeper = no_deeper;
+    }
+
 -- a number and the comma behind it
 pub number_taken : (k n : ℕ) (levels : List Bool) (mode next : Mode) (bs token : List ℕ) (to : Phase)
     → (mode ≡ want) ⊎ (mode ≡ first) → BeginsNumber bs n to → n < length bs → get_or bs n 0 ≡ 44
     → after_step (k + n) levels 44 ≡ go levels next → token ≡ take n bs
     → TakesNumber k (st levels mode) bs n (Event.number k token) (st levels next)
 number_taken k n levels mode next bs token to m begins within comma moves same =
-    let inside = st levels (number k token to) in
-    let number_run : run k (st levels (number k [] Phase.minus)) (take n bs) ≡ Some (inside, []) =
-    begins.number.goes_on.runs k k levels [] ∙ ap (λ z. Some (st levels (number k z to), [])) (sym same) in
-    let tells : step (k + n) levels (number k token to) 44 ≡ Some (st levels next, Event.number k token ∷ []) =
-    number_stops (k + n) k 44 levels token to (st levels next) [] begins.number.ends
-    (after_is (k + n) 44 levels ∙ moves) in
-    record {
-      inside = inside;
-      runs = value_run bs n k levels mode m begins.some begins.first (omega arith) ∙ number_run;
-      within = within;
-      tells = rw comma tells;
-      same_levels = refl;
-    }
+    let is = number_ended k n 44 levels mode (st levels next) [] bs token to m begins within comma moves
+    (omega arith) same in
+    record { inside = is.inside; runs = is.runs; within = is.within; tells = is.tells; same_levels = refl }
+
+pub with_end : {k n : ℕ} {old new : State} {bs : List ℕ} {event : Event} → TakesNumber k old bs n event new
+    → TakesWithEnd k old bs n (event ∷ []) new
+with_end is = record {
+  inside = is.inside;
+  runs = is.runs;
+  within = is.within;
+  tells = is.tells;
+  no_deeper = omega (arith, ap length is.same_levels);
+}
+
+-- where another item may come behind a comma, a bracket closes the list
+pub list_closes : (levels : List Bool) → ((k : ℕ) → after_step k levels 44 ≡ go levels want) → (k : ℕ)
+    → after_step k levels 93 ≡ close k levels
+unfolding after_step
+list_closes [] comma k = absurd (let e = comma 0 in cc)
+list_closes (false ∷ levels) comma k = refl
+list_closes (true ∷ levels) comma k = let e : next_key ≡ want = ap behind_move (comma 0) in absurd cc
+  where
+    behind_move : Move → Mode
+    behind_move None = want
+    behind_move (Some r) = r.0.mode
+
+-- the modes in which a value may come
+pub value_mode : (mode : modes.Mode) (at : ℕ) (token : List ℕ) → (mode ≡ Want) ⊎ (mode ≡ First)
+    → (mode_of mode at token ≡ want) ⊎ (mode_of mode at token ≡ first)
+value_mode mode at token (inl e) = inl (ap (λ (m : modes.Mode). mode_of m at token) e)
+value_mode mode at token (inr e) = inr (ap (λ (m : modes.Mode). mode_of m at token) e)

@@ -1,8 +1,12 @@
 -- Numbers that stand whole in a buffer. Not part of any promise: only private functions cite it.
-use Rattle.std.specs.Prelude.{◌≡◌, ℕ, ◌+◌, ◌≤◌, ◌<◌, List, [], ◌∷◌, ◌++◌, length, take, get_or, Bool, true, Some}
+use Rattle.std.specs.Prelude.{◌≡◌, ℕ, ◌+◌, ◌≤◌, ◌<◌, ◌⊎◌, List, [], ◌∷◌, ◌++◌, length, take, get_or, Bool, true}
+use Rattle.std.specs.Prelude.{Some}
 use Rattle.json_grammar.specs.Tree as json
 use Rattle.json_grammar.specs.Grammar.{IsDigit}
-use Rattle.json_laws.specs.Machine.{State, st, Phase, number, minus, may_end, step, run}
+use Rattle.json_laws.specs.Machine.{State, st, Phase, want, number, minus, may_end, go, step, after_step, run}
+use Rattle.json_machine.specs.Machines.{levels_of}
+use Rattle.json_machine.specs.declared.machine.Machine.{Machine}
+use Rattle.json_machine.specs.declared.machine.Mode.TheVariants.{Want, First}
 
 -- the first bytes, so many, take each number from one place in it to another
 pub record GoesOn (from : Phase) (bytes : List ℕ) (count : ℕ) (to : Phase) : Type 0 where
@@ -30,9 +34,23 @@ pub record TakesNumber (k : ℕ) (old : State) (bytes : List ℕ) (count : ℕ) 
   pub tells : step (k + count) inside.levels inside.mode (get_or bytes count 0) ≡ Some (new, event ∷ [])
   pub same_levels : new.levels ≡ old.levels
 
+-- the first bytes, so many, are a number, behind which the byte behind them tells these events
+pub record TakesWithEnd (k : ℕ) (old : State) (bytes : List ℕ) (count : ℕ) (events : List json.Event)
+    (new : State) : Type 0 where
+  pub inside : State
+  pub runs : run k old (take count bytes) ≡ Some (inside, [])
+  pub within : count < length bytes
+  pub tells : step (k + count) inside.levels inside.mode (get_or bytes count 0) ≡ Some (new, events)
+  pub no_deeper : length new.levels ≤ length old.levels
+
 -- the first bytes, so many, are a number with a comma behind it
 pub record IsBeforeComma (bytes : List ℕ) (count : ℕ) : Type 0 where
   pub to : Phase
   pub begins : BeginsNumber bytes count to
   pub within : count < length bytes
   pub comma : get_or bytes count 0 ≡ 44
+
+-- a value may come next, and behind a comma another one, as in a list
+pub record AwaitsItem (machine : Machine) : Type 0 where
+  pub value : (machine.mode ≡ Want) ⊎ (machine.mode ≡ First)
+  pub comma : (k : ℕ) → after_step k (levels_of machine.levels.items) 44 ≡ go (levels_of machine.levels.items) want

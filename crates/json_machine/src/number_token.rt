@@ -1,11 +1,11 @@
 //! Bytes of numbers, one by one, and numbers that stand whole in a buffer.
 
 ghost use Rattle.std.specs.Prelude.{◌≡◌, ℕ, ◌+◌, ◌≤◌, Ok, None, false, IfOk, OnOk, OnErr, IfSome, IsSome, IsTrue, ◌⊎◌};
-ghost use Rattle.std.specs.Prelude.{vec_len, take};
+ghost use Rattle.std.specs.Prelude.{vec_len, take, drop};
 ghost use Rattle.json_machine.specs.Machines.{state_of, levels_of, answer_of, event_of, IsSound, SameMachine};
 ghost use Rattle.json_machine.specs.Machines.{AnswerNear};
 ghost use Rattle.json_machine.specs.Views.{phase_of};
-ghost use Rattle.json_machine.specs.NumberRuns.{TakesNumber, IsBeforeComma};
+ghost use Rattle.json_machine.specs.NumberRuns.{TakesNumber, IsBeforeComma, AwaitsItem};
 ghost use Rattle.json_laws.specs.Machine as machine;
 ghost use Rattle.json_laws.specs.Machine.{step};
 ghost use Rattle.json_grammar.specs.Tree as json;
@@ -111,5 +111,35 @@ impl Machine {
         };
         self.mode = behind;
         true
+    }
+
+    /// Whether a value may come next, and the innermost that is open is a list.
+    #[inline]
+    pub fn awaits_item(&self) -> bool
+        ensures { IsTrue result → AwaitsItem self.now }
+    {
+        self.may_begin_value() && matches!(self.behind_comma(), Some(Mode::Want))
+    }
+
+    /// Takes it that items of a list have come up to the comma behind the last, and tells no event of them: the caller
+    /// knows them.
+    #[inline]
+    pub fn pass_items(&mut self)
+        requires { AwaitsItem self.old }
+        ensures state { state_of self.new ≡ machine.st (levels_of self.old.levels.items) machine.Mode.want }
+        ensures sound { (k i : ℕ) → IsSound k self.old → IsSound i self.new }
+    {
+        self.mode = Mode::Want;
+    }
+
+    /// Takes it that the last item of a list has come and the bracket behind it, and tells no event of them: the caller
+    /// knows them.
+    #[inline]
+    pub fn pass_last(&mut self)
+        requires { AwaitsItem self.old }
+        ensures state { state_of self.new ≡ machine.st (drop 1 (levels_of self.old.levels.items)) machine.Mode.after }
+        ensures sound { (k i : ℕ) → IsSound k self.old → IsSound i self.new }
+    {
+        self.leave();
     }
 }

@@ -1,6 +1,7 @@
 //! Bytes between tokens: brackets, commas, colons and blanks, and the first bytes of tokens.
 
 ghost use Rattle.std.specs.Prelude.{◌≡◌, ◌≢◌, [], ℕ, List, ◌+◌, IfOk, OnOk, OnErr, IfSome, IsTrue, not, true, ◌⊎◌};
+ghost use Rattle.std.specs.Prelude.{drop};
 ghost use Rattle.json_machine.specs.Machines.{state_of, mode_of, levels_of, answer_of, IsSound, SameMachine};
 ghost use Rattle.json_machine.specs.Machines.{IsAtMostOne, AnswerNear};
 ghost use Rattle.json_laws.specs.Machine as machine;
@@ -93,7 +94,6 @@ impl Machine {
         }
     }
 
-    #[tactic(auto, using(crate::proofs::Levels::levels))]
     pub(crate) fn close(&mut self, k: u64) -> Answer
         ensures moves { machine.close k (levels_of self.old.levels.items)
             ≡ answer_of result (state_of self.new) }
@@ -102,9 +102,19 @@ impl Machine {
         ensures sound { self.old.token.items ≡ [] → IsSound k self.old → IsSound (k + 1) self.new }
         ensures near { AnswerNear k result }
     {
+        self.leave();
+        Answer::One(RawEvent::Finish(k))
+    }
+
+    /// Goes out of the innermost that is open.
+    #[tactic(auto, using(crate::proofs::Levels::levels))]
+    pub(crate) fn leave(&mut self)
+        ensures state { state_of self.new ≡ machine.st (drop 1 (levels_of self.old.levels.items)) machine.Mode.after }
+        ensures mode { self.new.mode ≡ Mode.After }
+        ensures token { self.new.token ≡ self.old.token }
+    {
         self.levels.pop();
         self.mode = Mode::After;
-        Answer::One(RawEvent::Finish(k))
     }
 
     /// The byte at k, where a key or a blank comes.

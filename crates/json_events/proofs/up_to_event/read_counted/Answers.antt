@@ -1,10 +1,11 @@
 use Rattle.std.proofs.Common.{rules, ◌≡◌, ◌∙◌, ◌+◌, ◌<◌, ◌≤◌, ℕ, List, length, take, drop, sym, ap, subst, arith}
 use Rattle.std.proofs.Common.{length-drop}
-use Rattle.std.specs.Prelude.{◌-◌}
+use Rattle.std.specs.Prelude.{◌-◌, ◌^◌, ℤ, pos}
 use Rattle.std.specs.List.{prefix_len}
 use Rattle.std.proofs.lemmas.List.Sums.{prefix_len-le-length}
+use Rattle.json_grammar.specs.Tree as json
 use Rattle.json_laws.specs.Machine.{is_blank}
-use Rattle.json_events.specs.CountedNumbers.{TellsCount}
+use Rattle.json_events.specs.CountedNumbers.{finishes, TellsCount}
 use Rattle.json_events.specs.Unreads.{unread_of}
 use Rattle.json_machine.proofs.PlainNumbers.{behind}
 use Rattle.json_events.proofs.CountTold.{count_told}
@@ -31,17 +32,30 @@ pass-requires c =
     let l = some_bytes c.blank_count-blanks.result c.as_slice-bytes.result.now c.blank_count-blanks.ensures in
     omega (arith, l, ap length c.as_slice-bytes.ensures.same)
 
-pub overflow_add-length : goal.overflow_add-length
-overflow_add-length c =
-    let bs = c.as_slice-bytes.result.now in
-    let f = fits c.in_ok-length.field-0.length c.blank_count-blanks.result bs c.in_ok-length.ensures.within in
-    omega (arith, f, ap length c.as_slice-bytes.ensures.same, c.as_slice-bytes.ensures.room)
+-- the number lies in the buffer
+number_fits : (n blanks at : ℕ) (bs rest : List ℕ) → n < length (take (length bs - blanks) (drop blanks bs))
+    → bs ≡ rest → at + length rest < 2 ^ 63 → at + blanks + n + 1 < 2 ^ 63
+number_fits n blanks at bs rest h same room = omega (arith, fits n blanks bs h, ap length same)
+
+pub overflow_add-run : goal.overflow_add-run
+overflow_add-run c =
+    let f = number_fits c.in_ok-run.field-0.run.length c.blank_count-blanks.result c.args.unread.now.at
+    c.as_slice-bytes.result.now (unread_of c.args.unread.now) c.in_ok-run.ensures.within c.as_slice-bytes.ensures.same
+    c.as_slice-bytes.ensures.room in
+    omega (arith, f)
+
+pub overflow_add-at : goal.overflow_add-at
+overflow_add-at c =
+    let f = number_fits c.in_ok-run.field-0.run.length c.blank_count-blanks.result c.args.unread.now.at
+    c.as_slice-bytes.result.now (unread_of c.args.unread.now) c.in_ok-run.ensures.within c.as_slice-bytes.ensures.same
+    c.as_slice-bytes.ensures.room in
+    omega (arith, f, c.at-at.ensures, c.pass.ensures.at)
 
 pub pass-requires-2 : goal.pass-requires-2
 pass-requires-2 c =
     let bs = c.as_slice-bytes.result.now in
     let blanks = c.blank_count-blanks.result in
-    let f = fits c.in_ok-length.field-0.length blanks bs c.in_ok-length.ensures.within in
+    let f = fits c.in_ok-run.field-0.run.length blanks bs c.in_ok-run.ensures.within in
     omega (
       arith,
       f,
@@ -59,10 +73,16 @@ returns-clause-tells c =
     let w = c.pass-2.new.self in
     let bs = c.as_slice-bytes.result.now in
     let blanks = c.blank_count-blanks.result in
-    let run = c.in_ok-length.field-0 in
-    let is = c.in_ok-length.ensures in
-    subst (λ (k : ℕ). TellsCount k run.count m u n w) (sym c.at-at.ensures)
-    (count_told m n u v w blanks run.length (take (length bs - blanks) (drop blanks bs)) run.count (search rules)
-    (search rules) c.pass.ensures.at c.pass.ensures.rest
+    let taken = c.in_ok-run.field-0 in
+    let size = taken.run.length in
+    let is = c.in_ok-run.ensures in
+    let counted = count_told m n u v w blanks size (take (length bs - blanks) (drop blanks bs)) (pos taken.run.size)
+    (λ k. finishes taken.closes (k + size)) (search rules) (search rules) c.pass.ensures.at c.pass.ensures.rest
     (behind blanks bs ∙ ap (drop blanks) c.as_slice-bytes.ensures.same)
-    is.takes is.exact (λ k i s. is.sound k i s (search rules)) c.pass-2.ensures.at c.pass-2.ensures.rest)
+    is.takes is.exact (λ k i s. is.sound k i s (search rules)) c.pass-2.ensures.at c.pass-2.ensures.rest in
+    subst (λ (es : List json.Event). TellsCount c.at-at.result c.count_of-count.result es m u n w)
+    (sym c.finish_of-second.ensures)
+    (subst (λ (z : ℤ). TellsCount c.at-at.result z (finishes taken.closes (c.at-at.result + size)) m u n w)
+    (sym c.count_of-count.ensures)
+    (subst (λ (k : ℕ). TellsCount k (pos taken.run.size) (finishes taken.closes (k + size)) m u n w)
+    (sym c.at-at.ensures) counted))

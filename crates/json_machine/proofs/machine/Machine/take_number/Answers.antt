@@ -1,16 +1,8 @@
-use Rattle.std.proofs.Common.{rules, ◌≡◌, ◌⊎◌, ◌+◌, ℕ, List, inl, inr, arith, ap}
+use Rattle.std.proofs.Common.{rules, ◌+◌, arith}
 use Rattle.json_machine.specs.Views.{phase_of}
 use Rattle.json_machine.specs.Machines.{levels_of, mode_of}
-use Rattle.json_laws.specs.Machine as machine
-use Rattle.json_machine.specs.declared.machine.Mode.{Mode}
-use Rattle.json_machine.specs.declared.machine.Mode.TheVariants.{Want, First}
-use Rattle.json_machine.proofs.PlainNumbers.{number_taken}
+use Rattle.json_machine.proofs.PlainNumbers.{value_mode, number_taken}
 use Rattle.json_machine.proofs.machine.Machine.take_number.Goals as goal
-
-value_mode : (mode : Mode) (at : ℕ) (token : List ℕ) → (mode ≡ Want) ⊎ (mode ≡ First)
-    → (mode_of mode at token ≡ machine.want) ⊎ (mode_of mode at token ≡ machine.first)
-value_mode mode at token (inl e) = inl (ap (λ (m : Mode). mode_of m at token) e)
-value_mode mode at token (inr e) = inr (ap (λ (m : Mode). mode_of m at token) e)
 
 pub returns-clause-takes : goal.returns-clause-takes
 returns-clause-takes c =

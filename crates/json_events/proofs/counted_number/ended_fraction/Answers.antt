@@ -1,9 +1,9 @@
-use Rattle.std.proofs.Common.{rules, ◌≡◌, ◌+◌, ◌<◌, ℕ, List, length, get_or, sym, ap, subst, length-drop, arith}
-use Rattle.std.specs.Prelude.{◌-◌, ◌*◌, ◌^◌, ℤ}
-use Rattle.json_events.specs.CountedNumbers.{WritesDigits, IsCountedRun}
+use Rattle.std.proofs.Common.{rules, ◌≡◌, ◌+◌, ◌<◌, ℕ, List, length, get_or, ap, subst, length-drop, arith}
+use Rattle.std.specs.Prelude.{◌⊎◌, ◌-◌, ◌*◌, ◌^◌}
+use Rattle.json_events.specs.CountedNumbers.{WritesDigits}
 use Rattle.json_machine.proofs.PlainNumbers.{behind}
-use Rattle.json_events.proofs.CountedNumbers.{fraction_fits, run_fraction}
-use Rattle.json_events.proofs.counted_number.counted_fraction.Goals as goal
+use Rattle.json_events.proofs.CountedNumbers.{fraction_fits, ended_fraction}
+use Rattle.json_events.proofs.counted_number.ended_fraction.Goals as goal
 
 pub overflow_mul-size : goal.overflow_mul-size
 overflow_mul-size c =
@@ -27,8 +27,7 @@ returns c =
     c.digits_behind-fraction.ensures.writes in
     let within : n + 1 + m < length bs =
     omega (arith, writes.within, length-drop (n + 1) bs, c.requires.within, c.if-length-bytes.false) in
-    let comma : get_or bs (n + 1 + m) 0 ≡ 44 = search rules in
-    subst (λ (z : ℤ). IsCountedRun bs (n + 1 + m) z) (sym c.count_of.ensures)
-    (run_fraction bs n c.args.whole.value m x (x * c.power_of_ten.result) c.requires writes
-    (omega (arith, c.if-fraction-eq0.false)) c.digits_behind-fraction.ensures.most within comma
-    (ap (λ z. x * z) c.power_of_ten.ensures))
+    let end : (get_or bs (n + 1 + m) 0 ≡ 44) ⊎ (get_or bs (n + 1 + m) 0 ≡ 93) = search rules in
+    ended_fraction bs n c.args.whole.value m x (x * c.power_of_ten.result) c.requires writes
+    (omega (arith, c.if-fraction-eq0.false)) c.digits_behind-fraction.ensures.most within end
+    (ap (λ z. x * z) c.power_of_ten.ensures)

@@ -1,13 +1,12 @@
-use Rattle.std.proofs.Common.{◌≡◌, ◌<◌, get_or, sym, ap, subst, arith}
-use Rattle.std.specs.Prelude.{◌*◌, ◌^◌, ℤ}
-use Rattle.json_events.specs.CountedNumbers.{IsCountedRun}
-use Rattle.json_events.proofs.CountedNumbers.{whole_fits, run_whole}
-use Rattle.json_events.proofs.counted_number.counted_number.Goals as goal
-use Rattle.json_events.proofs.counted_number.counted_number.Goals.{else-whole-gt1-via-then-whole-gt1+else-bytes-eq48}
-use Rattle.json_events.proofs.counted_number.counted_number.Goals.{else-whole-gt1-via-else-whole-gt1}
+use Rattle.std.proofs.Common.{◌≡◌, ◌<◌, get_or, ap, arith}
+use Rattle.std.specs.Prelude.{◌*◌, ◌^◌}
+use Rattle.json_events.proofs.CountedNumbers.{whole_fits, ended_whole}
+use Rattle.json_events.proofs.counted_number.ended_number.Goals as goal
+use Rattle.json_events.proofs.counted_number.ended_number.Goals.{else-whole-gt1-via-then-whole-gt1+else-bytes-eq48}
+use Rattle.json_events.proofs.counted_number.ended_number.Goals.{else-whole-gt1-via-else-whole-gt1}
 
-pub overflow_mul-whole : goal.overflow_mul-whole
-overflow_mul-whole c =
+pub overflow_mul-result : goal.overflow_mul-result
+overflow_mul-result c =
     let whole = c.digits_behind-whole.result in
     let f = whole_fits c.args.bytes.now whole.length whole.value c.digits_behind-whole.ensures.writes
     c.digits_behind-whole.ensures.most in
@@ -28,7 +27,6 @@ returns-in-44 c =
       | else-whole-gt1-via-else-whole-gt1 w ↦
           (λ e. omega (arith, some, w.if-whole-gt1.false))
     ] in
-    subst (λ (z : ℤ). IsCountedRun bs whole.length z) (sym c.count_of.ensures)
-    (run_whole bs whole.length whole.value (whole.value * c.power_of_ten.result) writes some
+    ended_whole bs whole.length whole.value (whole.value * c.power_of_ten.result) writes some
     c.digits_behind-whole.ensures.most zero (omega (arith, writes.within, c.if-whole-bytes.false)) c.in-44.is
-    (ap (λ z. whole.value * z) c.power_of_ten.ensures))
+    (ap (λ z. whole.value * z) c.power_of_ten.ensures)
