@@ -26,7 +26,7 @@ no_own : (limits : Limits) (at : ℕ) (s : Spot) (token : List ℕ) (count : ℤ
 no_own limits at s token count k f = rw (k, f) refl
 
 -- and its count is read
-count_is_read : (at : ℕ) (s : Spot) (token : List ℕ) (count : ℤ) → kind_of s ≡ kind.Count
+pub count_is_read : (at : ℕ) (s : Spot) (token : List ℕ) (count : ℤ) → kind_of s ≡ kind.Count
     → fixed token ≡ Some (count, false) → Count count false ≡ read_of s (Event.number at token)
 count_is_read at s token count k f = rw (k, f) refl
 

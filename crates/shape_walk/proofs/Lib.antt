@@ -1,5 +1,6 @@
 mod Along
 mod Counting
+mod CountsTaken
 mod CountTaken
 mod FaultCodes
 mod FaultRows

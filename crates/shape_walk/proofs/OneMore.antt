@@ -19,7 +19,7 @@ along_more limits [] e s = append-nil _
 along_more limits (d ∷ es) e s = ap (λ x. faults_at limits d s ++ x) (along_more limits es e (step d s))
     ∙ sym (append_assoc (faults_at limits d s) _ _)
 
-state_more : (es : List Event) (e : Event) (s : State) → state_along (es ++ e ∷ []) s ≡ step e (state_along es s)
+pub state_more : (es : List Event) (e : Event) (s : State) → state_along (es ++ e ∷ []) s ≡ step e (state_along es s)
 state_more [] e s = refl
 state_more (d ∷ es) e s = state_more es e (step d s)
 

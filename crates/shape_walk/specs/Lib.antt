@@ -1,10 +1,12 @@
 pub mod Awaits
+pub mod CountEvents
 pub mod Counts
 pub mod Flaws
 pub mod Frames
 pub mod Kept
 pub mod Machine
 pub mod Reads
+pub mod Runs
 pub mod Seen
 pub mod Standing
 pub mod Taking

@@ -1,10 +1,12 @@
 //! Counts of the numbers under risk and under workload.
 
-ghost use Rattle.std.specs.Prelude.{◌≡◌, ℕ, None};
+ghost use Rattle.std.specs.Prelude.{◌≡◌, ◌≤◌, ℕ, None};
 ghost use Rattle.instance_shape.specs.ShapeFaults.{is_risk, is_workload};
+ghost use Rattle.shape_walk.specs.Awaits.{room_at};
 ghost use Rattle.shape_walk.specs.Counts.{AreWithin};
 ghost use Rattle.shape_walk.specs.Flaws.{first_flaw};
 ghost use Rattle.shape_walk.specs.Machine.{more_if, number_past};
+ghost use Rattle.shape_walk.specs.Runs.{many_if};
 
 use instance_model::Limits;
 use instance_shape::{Flaw, Spot, Which};
@@ -42,5 +44,38 @@ impl Counts {
             _ => {}
         }
         None
+    }
+
+    /// How many more numbers at a spot the limits allow; where they bound none, all that 64 bits tell.
+    pub fn room(&self, limits: &Limits, spot: Spot) -> u64
+        requires { AreWithin limits.now self.now }
+        ensures { result ≡ room_at limits.now spot self.now.risks self.now.workloads }
+    {
+        match spot {
+            Spot::RiskNumber => limits.risk_cells - self.risks,
+            Spot::WorkloadNumber => limits.workload_entries - self.workloads,
+            _ => u64::MAX,
+        }
+    }
+
+    /// Counts so many numbers at a spot, which the limits allow.
+    pub fn count_all(&mut self, limits: &Limits, spot: Spot, count: u64)
+        requires within { AreWithin limits.now self.old }
+        requires room { count ≤ room_at limits.now spot self.old.risks self.old.workloads }
+        ensures risks { self.new.risks ≡ many_if (is_risk spot) count self.old.risks }
+        ensures workloads { self.new.workloads ≡ many_if (is_workload spot) count self.old.workloads }
+        ensures within { AreWithin limits.now self.new }
+    {
+        match spot {
+            Spot::RiskNumber => {
+                prove!(count <= limits.risk_cells - self.risks);
+                self.risks += count;
+            }
+            Spot::WorkloadNumber => {
+                prove!(count <= limits.workload_entries - self.workloads);
+                self.workloads += count;
+            }
+            _ => {}
+        }
     }
 }

@@ -7,6 +7,7 @@ ghost use Rattle.shape_walk.specs.Frames.{frame_of};
 ghost use Rattle.shape_walk.specs.Kept.{open_spot, object_spot};
 ghost use Rattle.shape_walk.specs.Machine as machine;
 ghost use Rattle.shape_walk.specs.Reads.{read_of_key};
+ghost use Rattle.shape_walk.specs.Runs.{behind_all, many_more};
 
 use crate::judged::Judged;
 use crate::open::Open;
@@ -80,6 +81,15 @@ impl Frame {
         }
     }
 
+    /// Passes over so many values in it.
+    pub fn pass_all(&mut self, count: u64)
+        ensures { frame_of self.new ≡ behind_all count (frame_of self.old) }
+    {
+        if let Frame::List(_, before) = self {
+            *before = many_more(*before, count);
+        }
+    }
+
     /// What is wrong at its closing bracket or brace.
     pub fn closing_flaw(&self) -> Option<Flaw>
         ensures { (at : ℕ) → result ≡ first_flaw (machine.closing_faults at (frame_of self.now)) }
@@ -119,5 +129,16 @@ impl Frame {
             }
             Frame::Outside | Frame::List(_, _) => Ok(Judged::unread(Spot::Skipped, None)),
         }
+    }
+}
+
+/// So many elements more, counted to three.
+fn many_more(before: u8, count: u64) -> u8
+    ensures { result ≡ many_more count before }
+{
+    if before < 3 {
+        (before + count.min(3) as u8).min(3)
+    } else {
+        before
     }
 }

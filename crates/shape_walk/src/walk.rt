@@ -1,7 +1,7 @@
 //! The walk over the events of a text.
 
 ghost use Rattle.std.specs.Prelude.{◌≡◌, ◌∷◌, [], ◌++◌, ◌↔◌, ℕ, ℤ, List, Bool, false, None, Some, IfOk, OnOk, IfSome};
-ghost use Rattle.std.specs.Prelude.{IsTrue, is_none};
+ghost use Rattle.std.specs.Prelude.{◌≤◌, IsTrue, is_none, length};
 ghost use Rattle.json_grammar.specs.Tree as json;
 ghost use Rattle.json_grammar.specs.Tree.{events_of};
 ghost use Rattle.json_grammar.specs.Events.{event_view};
@@ -10,7 +10,8 @@ ghost use Rattle.instance_shape.specs.ShapeFaults.{shape_faults, IsLeast};
 ghost use Rattle.instance_shape.specs.declared.fault.Fault.{Fault as FaultValue};
 ghost use Rattle.json_grammar.specs.Stream.{AscendFrom};
 ghost use Rattle.decimal_numbers.specs.Exact.{fixed};
-ghost use Rattle.shape_walk.specs.Awaits.{AwaitsCount};
+ghost use Rattle.shape_walk.specs.Awaits.{AwaitsCount, count_room};
+ghost use Rattle.shape_walk.specs.CountEvents.{HaveCounts, StandAt, AreReadAs};
 ghost use Rattle.shape_walk.specs.declared.taken.Read.TheVariants as reads;
 ghost use Rattle.shape_walk.specs.Kept.{spot_after};
 ghost use Rattle.shape_walk.specs.Flaws.{flaw_at};
@@ -146,6 +147,34 @@ impl ShapeWalk {
                 false
             }
         }
+    }
+
+    /// How many more numbers at a spot the limits allow; where they bound none, all that 64 bits tell.
+    #[inline]
+    pub fn count_room(&self, spot: Spot) -> u64
+        ensures { result ≡ count_room self.now spot }
+    {
+        self.counts.room(&self.limits, spot)
+    }
+
+    /// Takes the next events of a text, which are so many numbers at the spot, the value of each of which is exactly a
+    /// count of 10^-12: what `take_count` does with each of them in turn, at once. The limits allow
+    /// them, so none is a fault. It takes no memory.
+    #[inline]
+    pub fn take_counts(&mut self, spot: Spot, count: u64)
+        requires awaits { AwaitsCount self.old spot }
+        requires room { count ≤ count_room self.old spot }
+        ensures stands { (limits : Sizes) (es numbers : List json.Event) (counts : List ℤ)
+            → HaveCounts numbers counts → length counts ≡ count → StandsAfter limits self.old es
+            → StandsAfter limits self.new (es ++ numbers) }
+        ensures spots { (limits : Sizes) (es numbers : List json.Event) (counts : List ℤ)
+            → HaveCounts numbers counts → StandsAfter limits self.old es → StandAt spot es numbers }
+        ensures read { (numbers : List json.Event) (counts : List ℤ)
+            → HaveCounts numbers counts → AreReadAs spot numbers counts }
+        ensures awaits { AwaitsCount self.new spot }
+    {
+        self.top.pass_all(count);
+        self.counts.count_all(&self.limits, spot, count);
     }
 
     /// The first fault so far. Behind all events of a text it is none exactly where the text has no fault of shape, and
