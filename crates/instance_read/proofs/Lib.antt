@@ -3,6 +3,7 @@ mod Bands
 mod Branches
 mod Building
 mod Carried
+mod CountsKept
 mod Feeding
 mod FileRead
 mod Following

@@ -248,6 +248,16 @@ keep_read s e r a = record (keep_rows s e r a) { rounded = keep_rounded r a.roun
 abbrev pub keep : Spot → Event → Kept → Kept
 keep s e a = keep_read s e (read_of s e) a
 
+-- what is kept with several events more, each at the same spot
+abbrev pub keep_each : Spot → List Event → Kept → Kept
+keep_each s [] a = a
+keep_each s (e ∷ es) a = keep_each s es (keep s e a)
+
+-- the same by the counts alone, where the events are numbers that are read as these
+abbrev pub keep_counts : Spot → List ℤ → Kept → Kept
+keep_counts s [] a = a
+keep_counts s (c ∷ cs) a = keep_counts s cs (keep_rows s (Event.number 0 []) (Count c false) a)
+
 -- the rows that are filled
 abbrev pub rows_kept : Kept → FileRows
 rows_kept a = record {

@@ -7,7 +7,9 @@ ghost use Rattle.instance_rows.specs.FileRows as file;
 ghost use Rattle.instance_rows.specs.Views.{rows_view};
 ghost use Rattle.shape_walk.specs.Reads.{read_of, read_of_text, read_of_key};
 ghost use Rattle.instance_shape.specs.Shape.{kind_of};
+ghost use Rattle.instance_shape.specs.declared.spot.Kind.TheVariants as kinds;
 ghost use Rattle.instance_shape.specs.declared.spot.Spot.TheVariants as spots;
+ghost use Rattle.shape_walk.specs.CountEvents.{HaveCounts};
 ghost use Rattle.shape_walk.specs.declared.taken.Read.TheVariants as reads;
 ghost use Rattle.instance_read.specs.Keeping as spec;
 ghost use Rattle.instance_read.specs.Keepers.{kept_of};
@@ -96,6 +98,28 @@ impl Keeper {
             Spot::RiskNumber => self.work.risks.add(count, false),
             _ => self.add_count(spot, count, false),
         }
+    }
+
+    /// Takes the next events of a text, which are numbers at the spot and whose values are exactly the counts.
+    pub fn take_counts(&mut self, spot: Spot, counts: &[i64]) -> Result<(), AllocError>
+        ensures { (numbers : List json.Event) → kind_of spot ≡ kinds.Count → HaveCounts numbers counts.now
+            → OnOk result (kept_of self.new ≡ spec.keep_each spot numbers (kept_of self.old)) }
+    {
+        match spot {
+            // the case of most numbers by far
+            Spot::RiskNumber => self.work.risks.add_all(counts),
+            _ => self.add_counts(spot, counts),
+        }
+    }
+
+    /// Keeps counts one by one.
+    fn add_counts(&mut self, spot: Spot, counts: &[i64]) -> Result<(), AllocError>
+        ensures { OnOk result (kept_of self.new ≡ spec.keep_counts spot counts.now (kept_of self.old)) }
+    {
+        'counts: for count in counts {
+            self.add_count(spot, number_of(*count), false)?;
+        }
+        Ok(())
     }
 
     /// Counts a number that is rounded.
@@ -315,6 +339,16 @@ impl Keeper {
             }
             _ => Ok(()),
         }
+    }
+}
+
+/// The number with a count.
+fn number_of(count: i64) -> Fixed
+    ensures { result ≡ count }
+{
+    match Fixed::from_count(i128::from(count)) {
+        Ok(number) => number,
+        Err(_) => unreachable!(),
     }
 }
 
