@@ -1,11 +1,11 @@
 -- What is known of the events that are taken, with one event more.
 use Rattle.std.proofs.Common.{◌≡◌, ◌≢◌, ◌<◌, ℕ, ◌+◌, Bool, true, false, List, [], ◌∷◌, ◌++◌, length, take, Option, Some}
-use Rattle.std.proofs.Common.{None, refl, sym, ◌∙◌, ap, subst, arith, append-nil}
+use Rattle.std.proofs.Common.{None, refl, sym, ◌∙◌, ap, subst, arith, append-nil, append_assoc, length-append, suc}
 use Rattle.std.specs.Prelude.{ℤ, slice_get, Result, Ok, Err, IfOk, OnOk}
 use Rattle.std.specs.declared.alloc.AllocError.{AllocError}
 use Rattle.std.proofs.lemmas.List.{length_push, take_all}
 use Rattle.json_grammar.specs.Tree.{Tree, Event, events_of}
-use Rattle.json_events.specs.Counts.{IsNextCount}
+use Rattle.json_events.specs.Counts.{IsNextCount, AreNextCounts}
 use Rattle.decimal_numbers.specs.Exact.{fixed}
 use Rattle.json_grammar.specs.Grammar.{IsText}
 use Rattle.json_grammar.specs.Prefix.{IsSyntaxFault, IsDepthFault, IsShallow}
@@ -18,12 +18,13 @@ use Rattle.instance_model.specs.declared.limits.Limits.{Limits}
 use Rattle.instance_shape.specs.declared.fault.Fault.{Fault}
 use Rattle.instance_shape.specs.declared.spot.Spot.{Spot}
 use Rattle.shape_walk.specs.Standing.{Walk, StandsAfter}
+use Rattle.shape_walk.specs.CountEvents.{HaveCounts, StandAt}
 use Rattle.shape_walk.specs.Kept.{kept, spot_after}
 use Rattle.shape_walk.proofs.Keeping.{kept_more}
-use Rattle.instance_read.specs.Keeping.{keep, nothing_kept}
+use Rattle.instance_read.specs.Keeping.{keep, keep_each, nothing_kept}
 use Rattle.instance_read.specs.Keepers.{kept_of}
 use Rattle.instance_read.specs.Readers.{HaveTaken, IsFollowing, IsEnding, Follows, Ends, HaveFault, HaveLastFault}
-use Rattle.instance_read.specs.Readers.{HaveEnded}
+use Rattle.instance_read.specs.Readers.{HaveEnded, IsStartOf}
 use Rattle.instance_read.specs.declared.keeper.Keeper.{Keeper}
 
 -- where there is no fault behind an event there was none before
@@ -95,6 +96,92 @@ follow_count limits old new walk walk' keeper keeper' bytes at count s none stan
           (walks h.events number.token number.exact h.taken.stands) none (spot h.events number.token h.taken.stands)
           (keeps number.token number.exact);
       first = λ rest root t. one_more (events_of root) h.events e (h.first rest root t) (number.next rest root t);
+    }
+
+-- ---- many numbers, of which the values alone are told
+
+-- events behind so many others, whatever is pushed later
+abbrev pub AreNextOfEach : List ℕ → ℕ → List Event → Type 0
+AreNextOfEach bytes given [] = Unit {0}
+AreNextOfEach bytes given (e ∷ es) = IsNextOfEach bytes given e × AreNextOfEach bytes (given + 1) es
+
+-- the numbers with some counts that come next
+pub record NextNumbers (bytes : List ℕ) (given : ℕ) (counts : List ℤ) : Type 0 where
+  pub numbers : List Event
+  pub have : HaveCounts numbers counts
+  pub size : length numbers ≡ length counts
+  pub next : AreNextOfEach bytes given numbers
+
+next_numbers : (bytes : List ℕ) (given : ℕ) (counts : List ℤ) → AreNextCounts bytes given counts
+    → NextNumbers bytes given counts
+next_numbers bytes given [] a = record { numbers = []; have = tt; size = refl; next = tt }
+next_numbers bytes given (c ∷ cs) a =
+    let first = a.0.1 in
+    let rest = next_numbers bytes (given + 1) cs a.1 in
+    record {
+      numbers = Event.number a.0.0 first.token ∷ rest.numbers;
+      have = (first.exact, rest.have);
+      size = ap suc rest.size;
+      next = (first.next, rest.next);
+    }
+
+-- a text that begins with some events, and has others behind them, begins with all of them
+starts_more : (bytes rest : List ℕ) (root : Tree) (more es : List Event) → IsText (bytes ++ rest) root
+    → AreNextOfEach bytes (length es) more → IsStartOf es root → IsStartOf (es ++ more) root
+starts_more bytes rest root [] es t n s = subst (λ (z : List Event). IsStartOf z root) (sym (append-nil es)) s
+starts_more bytes rest root (e ∷ more) es t n s =
+    subst (λ (z : List Event). IsStartOf z root) (append_assoc es (e ∷ []) more)
+    (starts_more bytes rest root more (es ++ e ∷ []) t
+    (subst (λ (k : ℕ). AreNextOfEach bytes k more) (sym (length_push es e)) n.1)
+    (one_more (events_of root) es e s (n.0 rest root t)))
+
+-- events that stand at a spot are kept there one after another
+kept_each : (s : Spot) (more es : List Event) → StandAt s es more
+    → kept keep (es ++ more) nothing_kept ≡ keep_each s more (kept keep es nothing_kept)
+kept_each s [] es a = ap (λ z. kept keep z nothing_kept) (append-nil es)
+kept_each s (e ∷ more) es a =
+    ap (λ z. kept keep z nothing_kept) (sym (append_assoc es (e ∷ []) more))
+    ∙ kept_each s more (es ++ e ∷ []) a.1
+    ∙ ap (keep_each s more) (kept_more keep es e nothing_kept
+    ∙ ap (λ q. keep q e (kept keep es nothing_kept)) (sym a.0))
+
+-- where there are none, nothing more is taken
+pub follow_none : (limits : Limits) (old new : PullView) (walk : Walk) (keeper : Keeper) (bytes : List ℕ)
+    (counts : List ℤ) → length counts ≡ 0
+    → ((given : ℕ) → Stands old bytes given false → Stands new bytes (given + length counts) false)
+    → IsFollowing limits old walk keeper bytes → IsFollowing limits new walk keeper bytes
+follow_none limits old new walk keeper bytes counts z stands h =
+    let same : length h.events + length counts ≡ length h.events = omega arith in
+    record {
+      events = h.events;
+      pulled = subst (λ (n : ℕ). Stands new bytes n false) same (stands (length h.events) h.pulled);
+      taken = h.taken;
+      first = h.first;
+    }
+
+pub follow_counts : (limits : Limits) (old new : PullView) (walk walk' : Walk) (keeper keeper' : Keeper)
+    (bytes : List ℕ) (counts : List ℤ) (s : Spot) → walk.fault ≡ None
+    → ((given : ℕ) → Stands old bytes given false → Stands new bytes (given + length counts) false)
+    → ((given : ℕ) → Stands old bytes given false → AreNextCounts bytes given counts)
+    → ((es numbers : List Event) → HaveCounts numbers counts → StandsAfter limits walk es
+    → StandsAfter limits walk' (es ++ numbers))
+    → ((es numbers : List Event) → HaveCounts numbers counts → StandsAfter limits walk es → StandAt s es numbers)
+    → ((numbers : List Event) → HaveCounts numbers counts
+    → kept_of keeper' ≡ keep_each s numbers (kept_of keeper))
+    → IsFollowing limits old walk keeper bytes → IsFollowing limits new walk' keeper' bytes
+follow_counts limits old new walk walk' keeper keeper' bytes counts s none stands next walks spots keeps h =
+    let more = next_numbers bytes (length h.events) counts (next (length h.events) h.pulled) in
+    let size : length (h.events ++ more.numbers) ≡ length h.events + length counts =
+    length-append h.events more.numbers ∙ ap (λ n. length h.events + n) more.size in
+    record {
+      events = h.events ++ more.numbers;
+      pulled = subst (λ (n : ℕ). Stands new bytes n false) (sym size) (stands (length h.events) h.pulled);
+      taken = record {
+        stands = walks h.events more.numbers more.have h.taken.stands;
+        kept = λ _. keeps more.numbers more.have ∙ ap (keep_each s more.numbers) (h.taken.kept none)
+            ∙ sym (kept_each s more.numbers h.events (spots h.events more.numbers more.have h.taken.stands));
+      };
+      first = λ rest root t. starts_more bytes rest root more.numbers h.events t more.next (h.first rest root t);
     }
 
 -- ---- faults

@@ -5,10 +5,13 @@ ghost use Rattle.json_grammar.specs.Tree as json;
 ghost use Rattle.json_grammar.specs.Events.{event_view};
 ghost use Rattle.json_events.specs.Pulls.{IsUnfinished};
 ghost use Rattle.instance_model.specs.declared.limits.Limits.{Limits as Sizes};
+ghost use Rattle.shape_walk.specs.Awaits.{AwaitsCount};
 ghost use Rattle.instance_read.specs.Readers.{HaveTaken, Follows, Ends, IsFollowing};
 
 use crate::keeper::Keeper;
-use json_events::{Pull, Pulled};
+use arrayvec::ArrayVec;
+use instance_shape::Spot;
+use json_events::{MOST_COUNTS, Pull, Pulled};
 use json_grammar::{Event, TextFault};
 use shape_walk::ShapeWalk;
 use std::alloc::AllocError;
@@ -25,9 +28,63 @@ pub fn take_event(walk: &mut ShapeWalk, keeper: &mut Keeper, event: Event) -> Re
     keeper.take(taken.spot, event, &taken.read)
 }
 
+/// Takes a run of the numbers that come next at a spot where counts are awaited, within the limits. Tells whether there
+/// were any.
+fn take_run(
+    pull: &mut Pull,
+    walk: &mut ShapeWalk,
+    keeper: &mut Keeper,
+    spot: Spot,
+    counts: &mut ArrayVec<i64, MOST_COUNTS>,
+) -> Result<bool, AllocError>
+    requires unfinished { IsUnfinished pull.old }
+    requires awaits { AwaitsCount walk.old spot }
+    ensures follows { (limits : Sizes) (bytes : List ℕ) → IsFollowing limits pull.old walk.old keeper.old bytes
+        → OnOk result (IsFollowing limits pull.new walk.new keeper.new bytes) }
+    ensures unfinished { IsUnfinished pull.new }
+    ensures awaits { OnOk result (AwaitsCount walk.new spot) }
+{
+    let most = walk.count_room(spot).min(MOST_COUNTS as u64) as usize;
+    pull.next_counts(most, counts);
+    if counts.is_empty() {
+        return Ok(false);
+    }
+    keeper.take_counts(spot, counts.as_slice())?;
+    walk.take_counts(spot, counts.len() as u64);
+    Ok(true)
+}
+
+/// Takes the numbers that come next at such a spot, as long as they are told many at once.
+fn take_runs(
+    pull: &mut Pull,
+    walk: &mut ShapeWalk,
+    keeper: &mut Keeper,
+    spot: Spot,
+    counts: &mut ArrayVec<i64, MOST_COUNTS>,
+) -> Result<(), AllocError>
+    requires unfinished { IsUnfinished pull.old }
+    requires awaits { AwaitsCount walk.old spot }
+    ensures follows { (limits : Sizes) (bytes : List ℕ) → IsFollowing limits pull.old walk.old keeper.old bytes
+        → OnOk result (IsFollowing limits pull.new walk.new keeper.new bytes) }
+    ensures unfinished { IsUnfinished pull.new }
+    ensures awaits { OnOk result (AwaitsCount walk.new spot) }
+{
+    'runs: for _ in 0..u64::MAX {
+        if !take_run(pull, walk, keeper, spot, counts)? {
+            return Ok(());
+        }
+    }
+    Ok(())
+}
+
 /// Takes the numbers that come next, as long as they are told by their counts and stand where counts are awaited: the
-/// way of most of the numbers of a file, without an event.
-fn take_counts(pull: &mut Pull, walk: &mut ShapeWalk, keeper: &mut Keeper) -> Result<(), AllocError>
+/// way of most of the numbers of a file, without an event. They are taken many at once, and one by one what that leaves.
+fn take_counts(
+    pull: &mut Pull,
+    walk: &mut ShapeWalk,
+    keeper: &mut Keeper,
+    counts: &mut ArrayVec<i64, MOST_COUNTS>,
+) -> Result<(), AllocError>
     requires { IsUnfinished pull.old }
     ensures follows { (limits : Sizes) (bytes : List ℕ) → IsFollowing limits pull.old walk.old keeper.old bytes
         → OnOk result (IsFollowing limits pull.new walk.new keeper.new bytes) }
@@ -36,6 +93,7 @@ fn take_counts(pull: &mut Pull, walk: &mut ShapeWalk, keeper: &mut Keeper) -> Re
     let Some(spot) = walk.awaits_count() else {
         return Ok(());
     };
+    take_runs(pull, walk, keeper, spot, counts)?;
     'counts: for _ in 0..u64::MAX {
         let Some(number) = pull.next_counted() else {
             return Ok(());
@@ -59,8 +117,9 @@ pub fn take_events(
         → IfOk result (λ fault. Follows fault limits pull.new walk.new keeper.new bytes) }
     ensures unfinished { IsUnfinished pull.new }
 {
+    let mut counts = ArrayVec::new();
     'events: for _ in 0..u64::MAX {
-        take_counts(pull, walk, keeper)?;
+        take_counts(pull, walk, keeper, &mut counts)?;
         match pull.next_event() {
             Ok(Pulled::Event(event)) => take_event(walk, keeper, event)?,
             Ok(Pulled::More) => return Ok(None),

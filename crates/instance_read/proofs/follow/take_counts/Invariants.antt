@@ -9,6 +9,6 @@ abbrev pub invariant-counts : goal.invariant-counts
 invariant-counts l = record {
   unfinished : IsUnfinished l.pull;
   awaits : AwaitsCount l.walk l.spot;
-  follows : (limits : Limits) (bytes : List ℕ) → IsFollowing limits l.initial.pull l.initial.walk l.initial.keeper bytes
+  follows : (limits : Limits) (bytes : List ℕ) → IsFollowing limits l.fn.pull l.fn.walk l.fn.keeper bytes
       → IsFollowing limits l.pull l.walk l.keeper bytes;
 }
