@@ -2,3 +2,4 @@ pub mod ReadingLemmas
 pub mod Standing
 pub mod CountedNumbers
 pub mod CountTold
+pub mod EightDigits

@@ -2,6 +2,7 @@
 #![tactic(auto)]
 
 mod counted_number;
+mod number_lanes;
 mod pull;
 mod sound_event;
 mod unread;
