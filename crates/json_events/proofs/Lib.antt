@@ -3,3 +3,4 @@ pub mod Standing
 pub mod CountedNumbers
 pub mod CountTold
 pub mod EightDigits
+pub mod DigitLanes

@@ -16,7 +16,7 @@ fn other_mask(bytes: &[u8]) -> u64
     ensures { result ≡ other_mask bytes.now }
 {
     let lanes = u8x16::from_slice(bytes) - u8x16::splat(b'0');
-    lanes.simd_gt(u8x16::splat(9)).to_bitmask()
+    lanes.simd_ge(u8x16::splat(10)).to_bitmask()
 }
 
 /// The number that the first digits write, so many.
