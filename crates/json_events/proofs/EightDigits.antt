@@ -3,13 +3,12 @@ use Rattle.std.specs.Prelude.{◌*◌, ◌/◌, ◌%◌, ◌^◌, ◌-◌, bit_a
 use Rattle.std.proofs.Common.{◌≡◌, ℕ, zero, suc, ◌+◌, ◌<◌, ◌≤◌, List, [], ◌∷◌, ◌++◌, length, take, replicate, map}
 use Rattle.std.proofs.Common.{Bool, true, false, cond, refl, sym, ◌∙◌, ap, subst, arith}
 use Rattle.std.proofs.Common.{mod-eq_of_lt, T, eqb, ◌&&◌, eqb→eq, get_or, mul-div_cancel, add-zero, pow-suc, pow-add}
-use Rattle.std.proofs.Common.{inl, inr, eq-zero-or-pos, take-take, length-append, length-take-le, w8, Fits, min}
+use Rattle.std.proofs.Common.{inl, inr, eq-zero-or-pos, take-take, length-append, length-take-le, w8, Fits}
 use Rattle.std.proofs.lemmas.List.{length-map, length-replicate, take-map}
 use Rattle.std.proofs.lemmas.Nat.{xor_block, xor_lt}
 use native.Mathlib.Nat.{mul-mod_left, zero-mod}
 use Rattle.json_grammar.specs.Bytes.{is_digit}
 use Rattle.json_grammar.specs.Token.{digit_count}
-use Rattle.json_grammar.specs.Grammar.{IsDigit}
 use Rattle.json_grammar.proofs.Digits.{digit}
 use Rattle.decimal_numbers.specs.Decimal.{number_from}
 use lib.Ieee.Fits.{and_l, and_r}

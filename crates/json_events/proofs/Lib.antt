@@ -4,3 +4,4 @@ pub mod CountedNumbers
 pub mod CountTold
 pub mod EightDigits
 pub mod DigitLanes
+pub mod NumberLanes

@@ -1,13 +1,93 @@
 //! Short numbers read by lanes: sixteen bytes are tested at once, and up to eight digits are read at once.
 
-ghost use Rattle.std.specs.Prelude.{◌≡◌, ℕ, ◌≤◌, List, length, take};
+ghost use Rattle.std.specs.Prelude.{◌≡◌, ℕ, ◌<◌, ◌≤◌, List, length, take, drop, IfSome, pos};
 ghost use Rattle.std.specs.Int.Digits.{AllBelowBase, number_from_digits};
 ghost use lib.Lanes.{number_l};
 ghost use Rattle.decimal_numbers.specs.Decimal.{number_from};
 ghost use Rattle.json_grammar.specs.Token.{digit_count};
-ghost use Rattle.json_events.specs.CountedNumbers.{other_mask};
+ghost use Rattle.json_events.specs.CountedNumbers.{IsWhole, IsCountedRun, other_mask};
 
+use crate::counted_number::{MOST_WHOLE, PLACES};
+use decimal_numbers::power_of_ten;
 use std::simd::prelude::*;
+
+/// How many digits may stand behind the point here: those that are read at once.
+const MOST_PLACES: usize = 8;
+
+/// The count of 1.
+const ONE: u64 = 1_000_000_000_000;
+
+/// How many bytes in front are a number, and how many times it is 10^-12.
+#[derive(Clone, Copy, Drop)]
+pub(crate) struct LaneRun {
+    pub length: usize,
+    pub size: u64,
+}
+
+/// The number in front that is told by its count, where a comma follows it and it has at most 8 digits behind its
+/// point. `None` says nothing.
+#[inline]
+pub(crate) fn counted_by_lanes(bytes: &[u8]) -> Option<LaneRun>
+    requires { 32 ≤ length bytes.now }
+    ensures { IfSome result (λ run. IsCountedRun bytes.now run.length (pos run.size)) }
+{
+    let others = other_mask(bytes);
+    let whole = digits_from(others, 0);
+    if whole == 0 || whole > MOST_WHOLE {
+        return None;
+    }
+    if whole > 1 && bytes[0] == b'0' {
+        return None;
+    }
+    let value = whole_number(bytes, whole);
+    match bytes[whole] {
+        b',' => Some(LaneRun {
+            length: whole,
+            size: value * ONE,
+        }),
+        b'.' => fraction_by_lanes(bytes, others, whole, value),
+        _ => None,
+    }
+}
+
+/// The same, where the digits before its point are read.
+#[inline]
+fn fraction_by_lanes(bytes: &[u8], others: u64, whole: usize, value: u64) -> Option<LaneRun>
+    requires room { 32 ≤ length bytes.now }
+    requires mask { others ≡ other_mask bytes.now }
+    requires whole { IsWhole bytes.now whole value }
+    ensures { IfSome result (λ run. IsCountedRun bytes.now run.length (pos run.size)) }
+{
+    let places = digits_from(others, whole + 1);
+    if places == 0 || places > MOST_PLACES {
+        return None;
+    }
+    let length = whole + 1 + places;
+    if bytes[length] != b',' {
+        return None;
+    }
+    let fraction = eight_digits(&bytes[whole + 1..], places);
+    Some(LaneRun {
+        length,
+        size: value * ONE + fraction * power_of_ten(PLACES - places),
+    })
+}
+
+/// The number that the digits before the point write. It mostly has one.
+#[inline]
+fn whole_number(bytes: &[u8], count: usize) -> u64
+    requires room { 8 ≤ length bytes.now }
+    requires some { 1 ≤ count }
+    requires few { count ≤ 8 }
+    requires digits { count ≤ digit_count bytes.now }
+    ensures { result ≡ number_from 0 (take count bytes.now) }
+{
+    if count == 1 {
+        (bytes[0] - b'0') as u64
+    } else {
+        eight_digits(bytes, count)
+    }
+}
 
 /// A bit for each of the first 16 bytes, which says whether the byte isn't a digit.
 #[inline]
@@ -17,6 +97,15 @@ fn other_mask(bytes: &[u8]) -> u64
 {
     let lanes = u8x16::from_slice(bytes) - u8x16::splat(b'0');
     lanes.simd_ge(u8x16::splat(10)).to_bitmask()
+}
+
+/// How many of the lanes from one on are digits, up to the first that isn't; 64 where none is left that isn't.
+#[inline]
+fn digits_from(others: u64, from: usize) -> usize
+    requires { from < 64 }
+    ensures { (bytes : List ℕ) → others ≡ other_mask bytes → result < 16 → result ≤ digit_count (drop from bytes) }
+{
+    (others >> from).trailing_zeros() as usize
 }
 
 /// The number that the first digits write, so many.
