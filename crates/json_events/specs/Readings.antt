@@ -1,5 +1,5 @@
 -- How far a stream is read. Not part of any promise: only private functions and the definition of `Stands` cite it.
-use Rattle.std.specs.Prelude.{◌≡◌, ℕ, ◌<◌, List, [], ◌∷◌, ◌++◌, length, drop, Result, Ok, Err}
+use Rattle.std.specs.Prelude.{◌≡◌, ℕ, ◌≤◌, ◌<◌, List, [], ◌∷◌, ◌++◌, length, take, drop, Some, Result, Ok, Err}
 use Rattle.std.specs.declared.alloc.AllocError.{AllocError}
 use Rattle.json_grammar.specs.Tree as json
 use Rattle.json_grammar.specs.Prefix.{IsSyntaxFault, IsShallow, IsDepthFault}

@@ -1,6 +1,6 @@
 //! Short numbers read by lanes: sixteen bytes are tested at once, and up to eight digits are read at once.
 
-ghost use Rattle.std.specs.Prelude.{◌≡◌, ℕ, ◌<◌, ◌≤◌, List, length, take, drop, IfSome, pos};
+ghost use Rattle.std.specs.Prelude.{◌≡◌, ℕ, ◌<◌, ◌≤◌, List, length, take, drop, get_or, IfSome, IsTrue, pos};
 ghost use Rattle.std.specs.Int.Digits.{AllBelowBase, number_from_digits};
 ghost use lib.Lanes.{number_l};
 ghost use Rattle.decimal_numbers.specs.Decimal.{number_from};
@@ -33,10 +33,7 @@ pub(crate) fn counted_by_lanes(bytes: &[u8]) -> Option<LaneRun>
 {
     let others = other_mask(bytes);
     let whole = digits_from(others, 0);
-    if whole == 0 || whole > MOST_WHOLE {
-        return None;
-    }
-    if whole > 1 && bytes[0] == b'0' {
+    if !may_be_whole(bytes, whole) {
         return None;
     }
     let value = whole_number(bytes, whole);
@@ -71,6 +68,17 @@ fn fraction_by_lanes(bytes: &[u8], others: u64, whole: usize, value: u64) -> Opt
         length,
         size: value * ONE + fraction * power_of_ten(PLACES - places),
     })
+}
+
+/// Whether so many digits in front may stand before a point: some, but few, and no zero before others.
+#[inline]
+fn may_be_whole(bytes: &[u8], count: usize) -> bool
+    requires { 0 < length bytes.now }
+    ensures some { IsTrue result → 0 < count }
+    ensures few { IsTrue result → count ≤ 7 }
+    ensures zero { IsTrue result → get_or bytes.now 0 0 ≡ 48 → count ≡ 1 }
+{
+    count > 0 && count <= MOST_WHOLE && (count == 1 || bytes[0] != b'0')
 }
 
 /// The number that the digits before the point write. It mostly has one.

@@ -1,15 +1,13 @@
-use Rattle.std.proofs.Common.{◌≡◌, ◌<◌, ◌≤◌, get_or, arith, refl}
-use Rattle.std.specs.Prelude.{◌*◌}
-use Rattle.json_events.specs.CountedNumbers.{WritesDigits}
+use Rattle.std.proofs.Common.{rules, ◌≡◌, ◌<◌, ◌≤◌, get_or, arith, refl}
+use Rattle.std.specs.Prelude.{◌*◌, ◌^◌}
+use Rattle.json_events.specs.CountedNumbers.{WritesDigits, IsCountedRun}
 use Rattle.json_events.proofs.CountedNumbers.{whole_fits, run_whole}
 use Rattle.json_events.proofs.number_lanes.counted_by_lanes.Goals as goal
-use Rattle.json_events.proofs.number_lanes.counted_by_lanes.Goals.{else-whole-gt1-via-then-whole-gt1+else-bytes-eq48}
-use Rattle.json_events.proofs.number_lanes.counted_by_lanes.Goals.{else-whole-gt1-via-else-whole-gt1}
 
 pub overflow_mul-result : goal.overflow_mul-result
 overflow_mul-result c =
     let whole = c.digits_from-whole.result in
-    let few : whole ≤ 7 = omega (arith, c.if-whole-gt-MOST_WHOLE.false) in
+    let few : whole ≤ 7 = search rules in
     let writes : WritesDigits 0 c.args.bytes.now whole c.whole_number-value.result = record {
       within = omega (arith, c.requires);
       digits = c.digits_from-whole.ensures c.args.bytes.now c.other_mask-others.ensures (omega arith);
@@ -21,15 +19,9 @@ pub returns-in-44 : goal.returns-in-44
 returns-in-44 c =
     let bs = c.args.bytes.now in
     let whole = c.digits_from-whole.result in
-    let few : whole ≤ 7 = omega (arith, c.if-whole-gt-MOST_WHOLE.false) in
-    let some : 0 < whole = omega (arith, c.if-whole-eq0.false) in
-    let zero : get_or bs 0 0 ≡ 48 → whole ≡ 1 =
-    elim c.else-whole-gt1.branch [
-      | else-whole-gt1-via-then-whole-gt1+else-bytes-eq48 w ↦
-          (λ e. absurd (w.if-bytes-eq48.false e))
-      | else-whole-gt1-via-else-whole-gt1 w ↦
-          (λ e. omega (arith, some, w.if-whole-gt1.false))
-    ] in
+    let few : whole ≤ 7 = search rules in
+    let some : 0 < whole = search rules in
+    let zero : get_or bs 0 0 ≡ 48 → whole ≡ 1 = search rules in
     let writes : WritesDigits 0 bs whole c.whole_number-value.result = record {
       within = omega (arith, c.requires);
       digits = c.digits_from-whole.ensures bs c.other_mask-others.ensures (omega arith);
