@@ -57,7 +57,8 @@ mask_is bs fit room =
     let sub = zip2_splat (λ a b. (a + (256 - b)) % 256) v 16 48 long in
     let l : length (map shifted v) ≡ 16 = length-map v shifted ∙ long in
     ap (λ z. mask_l (map (top 7) (zip2 at_most (replicate 16 10) z)) % 2 ^ 64) sub
-    ∙ ap (λ z. mask_l (map (top 7) z) % 2 ^ 64) (splat_left at_most 10 16 (map shifted v) l ∙ map-map (at_most 10) shifted v)
+    ∙ ap (λ z. mask_l (map (top 7) z) % 2 ^ 64) (splat_left at_most 10 16 (map shifted v) l)
+    ∙ ap (λ z. mask_l (map (top 7) z) % 2 ^ 64) (map-map (at_most 10) shifted v)
     ∙ ap (λ z. mask_l z % 2 ^ 64) (each_byte v (chunk-fits w8 0 16 bs fit))
     ∙ mask_l-mod (map is_other v) 64 (omega (arith, length-map v is_other, long))
 
@@ -72,27 +73,42 @@ mask_dropped zero ms = div-one (mask_l ms)
 mask_dropped (suc k) [] = zero-div (2 ^ suc k)
 mask_dropped (suc k) (m ∷ ms) = rw (pow-succ', ← div-div-eq-div-mul, half m (mask_l ms)) (mask_dropped k ms)
 
--- digits among the first bytes are digits
-digits_within : (n k : ℕ) (bs : List ℕ)
-    → prefix_len (λ x. not (is_other x)) (drop k (take n bs)) ≤ digit_count (drop k bs)
-digits_within zero zero bs = omega arith
-digits_within zero (suc k) bs = omega arith
-digits_within (suc n) zero [] = omega arith
-digits_within (suc n) (suc k) [] = omega arith
-digits_within (suc n) zero (b ∷ bs) = by_test (is_digit b) (digits_within n zero bs)
+abbrev count : List ℕ → ℕ
+count xs = prefix_len (λ x. not (is_other x)) xs
+
+-- the digits among the first bytes, where another byte ends them there, are all
+digits_end : (n k : ℕ) (bs : List ℕ) → count (drop k (take n bs)) < length (drop k (take n bs))
+    → count (drop k (take n bs)) ≡ digit_count (drop k bs)
+digits_end zero zero bs h = absurd (omega arith)
+digits_end zero (suc k) bs h = absurd (omega arith)
+digits_end (suc n) zero [] h = refl
+digits_end (suc n) (suc k) [] h = refl
+digits_end (suc n) zero (b ∷ bs) h = by_test (is_digit b) (digits_end n zero bs) h
   where
-    by_test : (t : Bool) → prefix_len (λ x. not (is_other x)) (take n bs) ≤ digit_count bs
-        → cond (not (not t)) (1 + prefix_len (λ x. not (is_other x)) (take n bs)) 0 ≤ cond t (suc (digit_count bs)) 0
-    by_test true h = omega arith
-    by_test false h = omega arith
-digits_within (suc n) (suc k) (b ∷ bs) = digits_within n k bs
+    by_test : (t : Bool) → (count (take n bs) < length (take n bs) → count (take n bs) ≡ digit_count bs)
+        → cond (not (not t)) (1 + count (take n bs)) 0 < suc (length (take n bs))
+        → cond (not (not t)) (1 + count (take n bs)) 0 ≡ cond t (suc (digit_count bs)) 0
+    by_test true more h = omega (arith, more (omega arith))
+    by_test false more h = refl
+digits_end (suc n) (suc k) (b ∷ bs) h = digits_end n k bs h
+
+-- a bit that is set is at a byte
+ended : (xs : List ℕ) → 0 < mask_l (map is_other xs) → count xs < length xs
+ended [] h = absurd (omega arith)
+ended (x ∷ xs) h = by_test (is_digit x) (ended xs) h
+  where
+    by_test : (t : Bool) → (0 < mask_l (map is_other xs) → count xs < length xs)
+        → 0 < cond (not t) 1 0 + 2 * mask_l (map is_other xs) → cond (not (not t)) (1 + count xs) 0 < suc (length xs)
+    by_test true more h = omega (arith, more (omega arith))
+    by_test false more h = omega arith
 
 pub digits_are_first : (bs : List ℕ) (others k : ℕ) → others ≡ other_mask bs
-    → count_trailing_zeros 64 (others / 2 ^ k) < 16 → count_trailing_zeros 64 (others / 2 ^ k) ≤ digit_count (drop k bs)
+    → count_trailing_zeros 64 (others / 2 ^ k) < 64 → count_trailing_zeros 64 (others / 2 ^ k) ≡ digit_count (drop k bs)
 digits_are_first bs others k is small =
     let ys = drop k (take 16 bs) in
     let m : others / 2 ^ k ≡ mask_l (map is_other ys) =
-    ap (λ z. z / 2 ^ k) is ∙ mask_dropped k (map is_other (take 16 bs)) ∙ ap mask_l (drop-map is_other k (take 16 bs)) in
+    ap (λ z. z / 2 ^ k) is ∙ mask_dropped k (map is_other (take 16 bs))
+    ∙ ap mask_l (drop-map is_other k (take 16 bs)) in
     elim (eq-zero-or-pos (mask_l (map is_other ys))) [
       | inl none ↦
           let e : count_trailing_zeros 64 (others / 2 ^ k) ≡ 64 =
@@ -100,8 +116,5 @@ digits_are_first bs others k is small =
           absurd (omega arith)
       | inr some ↦
           let l : length ys ≤ 64 = omega (arith, length-drop k (take 16 bs), length-take 16 bs) in
-          let e : count_trailing_zeros 64 (others / 2 ^ k) ≡ prefix_len (λ x. not (is_other x)) ys =
-          ap (count_trailing_zeros 64) m ∙ trailing_mask_l is_other 64 ys l some in
-          let w = digits_within 16 k bs in
-          omega arith
+          ap (count_trailing_zeros 64) m ∙ trailing_mask_l is_other 64 ys l some ∙ digits_end 16 k bs (ended ys some)
     ]

@@ -255,7 +255,8 @@ placed bs n word fit room some few digits is =
     let many : length (take n bs) ≡ n = length-take-le n bs (omega arith) in
     record {
       digits = replicate (8 - n) 0 ++ ds;
-      long = omega (arith, length-append (replicate (8 - n) 0) ds, length-replicate {A = ℕ} (8 - n) 0, length-map (take n bs) lane, many);
+      long = length-append (replicate (8 - n) 0) ds
+          ∙ omega (arith, length-replicate {A = ℕ} (8 - n) 0, length-map (take n bs) lane, many);
       low = padded (8 - n) ds (below_ten bs n digits);
       word_is = moved ∙ mod_scaled (number_l 256 (lanes xs)) (256 ^ n) (256 ^ (8 - n)) (powers n) (powers (8 - n))
           ∙ ap (λ z. z * 256 ^ (8 - n)) kept ∙ sym (padded_word (8 - n) ds);

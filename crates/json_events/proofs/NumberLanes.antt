@@ -1,12 +1,21 @@
 -- What lanes tell of a number is what its digits write.
 use Rattle.std.specs.Prelude.{◌-◌, ◌*◌, ◌^◌, pos}
 use Rattle.std.proofs.Common.{◌≡◌, ℕ, ◌+◌, ◌<◌, ◌≤◌, List, length, take, drop, get_or, sym, ◌∙◌, ap, subst, arith}
-use Rattle.std.proofs.Common.{length-take-le, length-drop, pow-add, add-mul, mul_assoc}
+use Rattle.std.proofs.Common.{length-take-le, length-drop, le_of_eq, pow-add, add-mul, mul_assoc}
 use Rattle.decimal_numbers.specs.Decimal.{number_from}
 use Rattle.decimal_numbers.proofs.Rounding.{from_is}
 use Rattle.json_grammar.specs.Token.{digit_count}
 use Rattle.json_events.specs.CountedNumbers.{WritesDigits, IsWhole, IsCountedRun}
 use Rattle.json_events.proofs.CountedNumbers.{fraction_fits, run_fraction}
+
+-- the digits before the point
+pub whole_writes : (bs : List ℕ) (n v : ℕ) → n ≤ length bs → n ≡ digit_count bs → v ≡ number_from 0 (take n bs)
+    → WritesDigits 0 bs n v
+whole_writes bs n v within digits value = record {
+  within = within;
+  digits = le_of_eq digits;
+  value_is = value;
+}
 
 -- the digits before and behind the point, as one number
 abbrev pub joined : ℕ → ℕ → ℕ → ℕ
@@ -18,17 +27,18 @@ pub record IsFraction (bs : List ℕ) (n v m d : ℕ) : Type 0 where
   pub some : 0 < m
   pub few : m ≤ 8
   pub within : n + 1 + m < length bs
-  pub digits : m ≤ digit_count (drop (n + 1) bs)
+  pub digits : m ≡ digit_count (drop (n + 1) bs)
   pub value_is : d ≡ number_from 0 (take m (drop (n + 1) bs))
 
-fraction_writes : (bs : List ℕ) (n v m d : ℕ) → IsFraction bs n v m d → WritesDigits v (drop (n + 1) bs) m (joined v m d)
+fraction_writes : (bs : List ℕ) (n v m d : ℕ) → IsFraction bs n v m d
+    → WritesDigits v (drop (n + 1) bs) m (joined v m d)
 fraction_writes bs n v m d f =
     let rest = drop (n + 1) bs in
     let within : m ≤ length rest = omega (arith, f.within, length-drop (n + 1) bs) in
     let l : length (take m rest) ≡ m = length-take-le m rest within in
     record {
       within = within;
-      digits = f.digits;
+      digits = le_of_eq f.digits;
       value_is = ap (λ z. v * 10 ^ m + z) f.value_is
           ∙ sym (from_is v (take m rest) ∙ ap (λ z. v * 10 ^ z + number_from 0 (take m rest)) l);
     }

@@ -107,11 +107,11 @@ fn other_mask(bytes: &[u8]) -> u64
     lanes.simd_ge(u8x16::splat(10)).to_bitmask()
 }
 
-/// How many of the lanes from one on are digits, up to the first that isn't; 64 where none is left that isn't.
+/// How many digits stand from one of the first 16 bytes on, where another byte of these ends them; else 64.
 #[inline]
 fn digits_from(others: u64, from: usize) -> usize
     requires { from < 64 }
-    ensures { (bytes : List ℕ) → others ≡ other_mask bytes → result < 16 → result ≤ digit_count (drop from bytes) }
+    ensures { (bytes : List ℕ) → others ≡ other_mask bytes → result < 64 → result ≡ digit_count (drop from bytes) }
 {
     (others >> from).trailing_zeros() as usize
 }

@@ -1,4 +1,4 @@
-use Rattle.std.proofs.Common.{◌≡◌, ◌+◌, ◌<◌, ◌≤◌, ℕ, List, take, get_or, sym, ◌∙◌, ap, subst, arith, pos}
+use Rattle.std.proofs.Common.{rules, ◌≡◌, ◌+◌, ◌<◌, ◌≤◌, ℕ, List, take, get_or, sym, ◌∙◌, ap, subst, arith, pos}
 use Rattle.std.specs.Prelude.{◌-◌, ◌*◌, ◌^◌}
 use Rattle.decimal_numbers.specs.Decimal.{number_from}
 use Rattle.json_machine.proofs.PlainNumbers.{behind}
@@ -13,10 +13,11 @@ fraction c =
     let n = c.args.whole in
     let m = c.digits_from-places.result in
     let whole = c.requires.whole in
-    let few : m ≤ 8 = omega (arith, c.if-places-gt-MOST_PLACES.false) in
+    let few : m ≤ 8 = search rules in
+    let some : 0 < m = search rules in
     record {
       whole = whole;
-      some = omega (arith, c.if-places-eq0.false);
+      some = some;
       few = few;
       within = omega (arith, whole.few, c.requires.room);
       digits = c.digits_from-places.ensures bs c.requires.mask (omega arith);
@@ -45,6 +46,6 @@ returns c =
     let bs = c.args.bytes.now in
     let n = c.args.whole in
     let m = c.digits_from-places.result in
-    let comma : get_or bs (n + 1 + m) 0 ≡ 44 = c.if-bytes-length-ne44.false in
+    let comma : get_or bs (n + 1 + m) 0 ≡ 44 = search rules in
     subst (λ z. IsCountedRun bs (n + 1 + m) (pos (c.args.value * 1000000000000 + z))) (sym (scaled c))
     (fraction_counted bs n c.args.value m c.eight_digits-fraction.result (fraction c) comma)
