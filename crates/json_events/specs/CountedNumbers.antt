@@ -1,6 +1,6 @@
 -- Numbers that are told by their counts. Not part of any promise: only private functions cite it.
 use Rattle.std.specs.Prelude.{◌≡◌, ℕ, ◌≤◌, ◌<◌, ℤ, List, [], ◌∷◌, ◌++◌, length, take, get_or, map, not, false, Some}
-use lib.Lanes.{mask_l}
+use Rattle.std.specs.Simd.Lanes.{mask_l}
 use Rattle.json_grammar.specs.Tree as json
 use Rattle.decimal_numbers.specs.Decimal.{number_from}
 use Rattle.decimal_numbers.specs.Exact.{fixed}

@@ -1,8 +1,8 @@
 //! Short numbers read by lanes: sixteen bytes are tested at once, and up to eight digits are read at once.
 
-ghost use Rattle.std.specs.Prelude.{◌≡◌, ℕ, ◌<◌, ◌≤◌, List, length, take, drop, get_or, IfSome, IsTrue, pos};
+ghost use Rattle.std.specs.Prelude.{◌≡◌, ℕ, ◌<◌, ◌≤◌, List, length, take, drop, get_or, IfSome, IsTrue, ◌↔◌, pos};
 ghost use Rattle.std.specs.Int.Digits.{AllBelowBase, number_from_digits};
-ghost use lib.Lanes.{number_l};
+ghost use Rattle.std.specs.Simd.Lanes.{number_l};
 ghost use Rattle.decimal_numbers.specs.Decimal.{number_from};
 ghost use Rattle.json_grammar.specs.Token.{digit_count};
 ghost use Rattle.json_events.specs.CountedNumbers.{IsWhole, IsCountedRun, other_mask};
@@ -74,9 +74,7 @@ fn fraction_by_lanes(bytes: &[u8], others: u64, whole: usize, value: u64) -> Opt
 #[inline]
 fn may_be_whole(bytes: &[u8], count: usize) -> bool
     requires { 0 < length bytes.now }
-    ensures some { IsTrue result → 0 < count }
-    ensures few { IsTrue result → count ≤ 7 }
-    ensures zero { IsTrue result → get_or bytes.now 0 0 ≡ 48 → count ≡ 1 }
+    ensures { IsTrue result ↔ ((0 < count) × (count ≤ 7) × (get_or bytes.now 0 0 ≡ 48 → count ≡ 1)) }
 {
     count > 0 && count <= MOST_WHOLE && (count == 1 || bytes[0] != b'0')
 }

@@ -6,6 +6,7 @@ use Rattle.json_events.specs.CountedNumbers.{IsCountedRun}
 use Rattle.json_events.proofs.NumberLanes.{IsFraction, size_fits, fraction_counted}
 use Rattle.json_events.proofs.number_lanes.fraction_by_lanes.Goals as goal
 
+-- the digits behind the point, as the lanes tell them
 fraction : (c : goal.After-power_of_ten)
     → IsFraction c.args.bytes.now c.args.whole c.args.value c.digits_from-places.result c.eight_digits-fraction.result
 fraction c =
@@ -29,6 +30,7 @@ scaled : (c : goal.After-power_of_ten) → c.eight_digits-fraction.result * c.po
     ≡ c.eight_digits-fraction.result * 10 ^ (12 - c.digits_from-places.result)
 scaled c = ap (λ z. c.eight_digits-fraction.result * z) c.power_of_ten.ensures
 
+-- the count fits a word
 fits : (c : goal.After-power_of_ten)
     → c.args.value * 1000000000000 + c.eight_digits-fraction.result * c.power_of_ten.result < 2 ^ 64
 fits c = subst (λ z. c.args.value * 1000000000000 + z < 2 ^ 64) (sym (scaled c))
