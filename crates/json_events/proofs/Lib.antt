@@ -4,3 +4,6 @@ pub mod CountedNumbers
 pub mod CountTold
 pub mod CountedRuns
 pub mod CountsGiven
+pub mod EightDigits
+pub mod DigitLanes
+pub mod NumberLanes

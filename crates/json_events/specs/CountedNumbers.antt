@@ -1,7 +1,8 @@
 -- Numbers that are told by their counts. Not part of any promise: only private functions cite it.
 use Rattle.std.specs.Prelude.{◌≡◌, ℕ, ◌+◌, ◌≤◌, ◌<◌, ◌⊎◌, ℤ, List, [], ◌∷◌, ◌++◌, length, take, drop, get_or, Bool}
-use Rattle.std.specs.Prelude.{true, false, Some}
+use Rattle.std.specs.Prelude.{map, not, true, false, Some}
 use Rattle.std.specs.List.{prefix_len}
+use Rattle.std.specs.Simd.Lanes.{mask_l}
 use Rattle.json_grammar.specs.Tree as json
 use Rattle.decimal_numbers.specs.Decimal.{number_from}
 use Rattle.decimal_numbers.specs.Exact.{fixed}
@@ -9,6 +10,7 @@ use Rattle.json_laws.specs.Machine.{Phase, is_blank}
 use Rattle.json_machine.specs.NumberRuns.{BeginsNumber}
 use Rattle.json_events.specs.Readings.{HasTold}
 use Rattle.json_grammar.specs.Token.{digit_count}
+use Rattle.json_grammar.specs.Bytes.{is_digit}
 use Rattle.json_machine.specs.declared.machine.Machine.{Machine}
 use Rattle.json_events.specs.declared.unread.Unread.{Unread}
 
@@ -43,6 +45,10 @@ pub record IsCountedRun (bytes : List ℕ) (size : ℕ) (count : ℤ) : Type 0 w
   pub within : size < length bytes
   pub comma : get_or bytes size 0 ≡ 44
   pub exact : fixed (take size bytes) ≡ Some (count, false)
+
+-- a bit for each of the first 16 bytes: 1 where the byte isn't a digit
+abbrev pub other_mask : List ℕ → ℕ
+other_mask bytes = mask_l (map (λ b. not (is_digit b)) (take 16 bytes))
 
 -- the first bytes, so many, are blanks, a number whose value is exactly the count of 10^-12, and the comma behind it
 pub record IsCountedItem (bytes : List ℕ) (used : ℕ) (count : ℤ) : Type 0 where

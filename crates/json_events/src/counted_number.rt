@@ -7,10 +7,10 @@ use decimal_numbers::power_of_ten;
 use fixed_num::Fixed;
 
 /// How many digits may stand before the point.
-const MOST_WHOLE: usize = 7;
+pub(crate) const MOST_WHOLE: usize = 7;
 
 /// How many digits may stand behind the point: those of 10^-12.
-const PLACES: usize = 12;
+pub(crate) const PLACES: usize = 12;
 
 /// A number of a text that is read without its token.
 #[derive(Clone, Copy, Drop)]

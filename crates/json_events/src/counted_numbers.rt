@@ -1,11 +1,12 @@
 //! Numbers of a list, one behind another, each with the comma behind it.
 
-ghost use Rattle.std.specs.Prelude.{◌≡◌, ◌≤◌, [], length, IfSome};
+ghost use Rattle.std.specs.Prelude.{◌≡◌, ◌≤◌, [], length, IfSome, pos};
 ghost use Rattle.std.specs.List.{prefix_len};
 ghost use Rattle.json_laws.specs.Machine.{is_blank};
-ghost use Rattle.json_events.specs.CountedNumbers.{IsCountedItem, AreCountedRuns};
+ghost use Rattle.json_events.specs.CountedNumbers.{IsCountedItem, IsCountedRun, AreCountedRuns};
 
-use crate::counted_number::counted_number;
+use crate::counted_number::{CountedRun, counted_number};
+use crate::number_lanes::counted_by_lanes;
 use arrayvec::ArrayVec;
 use json_machine::blank_count;
 
@@ -49,7 +50,7 @@ fn counted_item(bytes: &[u8]) -> Option<CountedItem>
     ensures { IfSome result (λ item. IsCountedItem bytes.now item.length item.count) }
 {
     let blanks = blanks_in_front(bytes);
-    let run = counted_number(&bytes[blanks..])?;
+    let run = number_in_front(&bytes[blanks..])?;
     if run.size > i64::MAX as u64 {
         return None;
     }
@@ -57,6 +58,19 @@ fn counted_item(bytes: &[u8]) -> Option<CountedItem>
         length: blanks + run.length + 1,
         count: run.size as i64,
     })
+}
+
+/// The same number without the bound, by lanes where that does.
+#[inline]
+fn number_in_front(bytes: &[u8]) -> Option<CountedRun>
+    ensures { IfSome result (λ run. IsCountedRun bytes.now run.length (pos run.size)) }
+{
+    if bytes.len() >= 32 {
+        if let Some(run) = counted_by_lanes(bytes) {
+            return Some(run);
+        }
+    }
+    counted_number(bytes)
 }
 
 /// How many blanks the bytes begin with: mostly there is one, before a digit.

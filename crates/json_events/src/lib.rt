@@ -3,6 +3,7 @@
 
 mod counted_number;
 mod counted_numbers;
+mod number_lanes;
 mod pull;
 mod sound_event;
 mod unread;
