@@ -8,7 +8,7 @@ use crate::assembly::parts;
 use crate::{Bands, FileRows, Load, RowsFault, Work, Workload};
 use fixed_num::Fixed;
 use indexmap::IndexSet;
-use instance_model::{LoadCell, Parts, RiskLists};
+use instance_model::{LoadCell, Parts, ReadRisks, RiskLists, RunRisks};
 use std::alloc::{AllocError, Global};
 use std::process::Abort;
 use std::test::Fail;
@@ -274,13 +274,38 @@ fn has_loads(rt: &impl Abort, alloc: Global, made: &Parts) -> Result<(), AllocEr
     Ok(())
 }
 
+/// Adds the numbers of the lists that the allowed runs of an intervention take, and whether one of a list's is rounded.
+fn add_taken(
+    rt: &impl Abort,
+    read: &ReadRisks,
+    numbers: &mut Vec<Fixed>,
+    soft: &mut Vec<bool>,
+) -> Result<(), AllocError> {
+    for k in read.order.as_slice() {
+        assert!(rt; *k < read.lists.len());
+        let list = read.lists.list(*k);
+        for j in 0..list.numbers.len() {
+            numbers.push(list.numbers.at(j))?;
+        }
+        soft.push(list.soft)?;
+    }
+    Ok(())
+}
+
 fn has_risks(rt: &impl Abort, alloc: Global, made: &Parts) -> Result<(), AllocError> {
+    let mut numbers = Vec::new(alloc);
+    let mut soft = Vec::new(alloc);
+    match &made.risks {
+        RunRisks::InOrder { .. } => panic!(rt; "the risks are copied"),
+        RunRisks::AsRead(works) => {
+            for read in works {
+                add_taken(rt, read, &mut numbers, &mut soft)?;
+            }
+        }
+    }
     let risks = counts(alloc, &[4 * ONE, ONE, 5 * ONE, 7 * ONE, -ONE, 6 * ONE])?;
-    assert_eq!(rt; made.risks, risks);
-    assert_eq!(rt;
-        made.soft.as_slice(),
-        [false, true, false, false].as_slice()
-    );
+    assert_eq!(rt; numbers, risks);
+    assert_eq!(rt; soft.as_slice(), [false, true, false, false].as_slice());
     Ok(())
 }
 

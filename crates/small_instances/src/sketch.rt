@@ -1,12 +1,13 @@
 //! Instances made by hand from small arrays.
 
 ghost use Rattle.std.specs.Prelude.{◌≡◌, length, map, string_bytes, IfOk, IsTrue};
+ghost use Rattle.instance_model.specs.RunRisks.{SuitRuns};
 ghost use Rattle.instance_model.specs.View.{tables_of};
 ghost use Rattle.small_instances.specs.Sketches.{names_of, cell_of, is_fitting};
 
 use fixed_num::Fixed;
 use indexmap::IndexSet;
-use instance_model::{Exclusion, Instance, LoadCell, Parts};
+use instance_model::{Exclusion, Instance, LoadCell, Parts, RunRisks};
 use std::alloc::{AllocError, Global};
 use std::marker::Model;
 
@@ -177,7 +178,8 @@ fn all_names(alloc: Global, sketch: &Sketch) -> Result<NameSets, AllocError>
 
 /// The tables of a sketch as parts.
 fn parts(alloc: Global, sketch: &Sketch) -> Result<Parts, AllocError>
-    ensures { IfOk result (λ parts. tables_of parts ≡ sketch.now) }
+    ensures tables { IfOk result (λ parts. tables_of parts ≡ sketch.now) }
+    ensures runs { IfOk result (λ parts. SuitRuns (tables_of parts) parts.risks) }
 {
     let names = all_names(alloc, sketch)?;
     Ok(Parts {
@@ -191,8 +193,10 @@ fn parts(alloc: Global, sketch: &Sketch) -> Result<Parts, AllocError>
         delta: duration_rows(alloc, sketch.delta)?,
         excluded: sketch.excluded.to_vec(alloc)?,
         loads: cell_rows(alloc, sketch.loads)?,
-        risks: risks(alloc, sketch.risks)?,
-        soft: sketch.soft.to_vec(alloc)?,
+        risks: RunRisks::InOrder {
+            numbers: risks(alloc, sketch.risks)?,
+            soft: sketch.soft.to_vec(alloc)?,
+        },
         resources: names.resources,
         seasons: names.seasons,
         interventions: names.interventions,

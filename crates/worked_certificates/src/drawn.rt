@@ -78,8 +78,9 @@ fn share_in<L: Ledger>(inst: &Instance, i: u32, s: u32, t: u32, steps: &mut Step
     requires to { t ≤ inst.now.periods }
 {
     let mut total = 0i128;
-    for risk in inst.risks(i, s, t, steps) {
-        total = total.saturating_add(risk.count());
+    let risks = inst.risks(i, s, t, steps);
+    for k in 0..risks.len() {
+        total = total.saturating_add(risks.at(k).count());
     }
     let weighed = total.saturating_mul(i128::from(inst.alpha()));
     weighed.div_euclid(i128::from(inst.scenarios(t)))

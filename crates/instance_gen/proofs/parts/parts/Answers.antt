@@ -4,8 +4,8 @@ use Rattle.instance_gen.specs.Drawing.{Drawn}
 use Rattle.instance_gen.proofs.TableLemmas.{tables_from}
 use Rattle.instance_gen.proofs.parts.parts.Goals as goal
 
-pub returns : goal.returns
-returns c =
+pub returns-clause-tables : goal.returns-clause-tables
+returns-clause-tables c =
     let inside = c.draws.inside in
     let drawn : Drawn = record {
       source = inside.source;

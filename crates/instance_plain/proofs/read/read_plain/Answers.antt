@@ -5,6 +5,7 @@ use Rattle.instance_model.specs.declared.parts.Parts.{Parts}
 use Rattle.instance_model.specs.Fitting.{IsFitting}
 use Rattle.instance_model.specs.Limits.{standard_limits}
 use Rattle.instance_model.specs.Tables.{Tables}
+use Rattle.instance_model.specs.RunRisks.{SuitRuns}
 use Rattle.instance_model.specs.View.{tables_of}
 use Rattle.instance_shape.specs.declared.spot.Spot.TheVariants as spot
 use Rattle.instance_shape.specs.CrossFaults.{cross_fault}
@@ -23,8 +24,13 @@ reduced_survey-requires c =
     let short : length c.args.bytes.now < 2 ^ 63 = search rules in
     record { room = omega (arith, short, text_room c.args.bytes.now (tree_view c.in-Ok.tree) c.in-Ok.ensures.tree) }
 
-pub from_parts-requires : goal.from_parts-requires
-from_parts-requires c =
+pub from_parts-requires-clause-runs : goal.from_parts-requires-clause-runs
+from_parts-requires-clause-runs c =
+    subst (λ (o : Option Parts). IfSome o (λ p. SuitRuns (tables_of p) p.risks)) c.in-Some-2.is
+    c.in_ok-parts.ensures.runs
+
+pub from_parts-requires-clause-fits : goal.from_parts-requires-clause-fits
+from_parts-requires-clause-fits c =
     let root = tree_view c.in-Ok.tree in
     let known : (IsShaped standard_limits root) × (IsReduced root)
     × (c.in-Some.survey.rounded ≡ rounded (placed spot.Root root)) =
