@@ -105,7 +105,7 @@ fn read_telling(
     }
     match unread.first() {
         None => Ok(Reading::Used),
-        Some(byte) => read_byte(alloc, machine, unread, byte),
+        Some(byte) => read_one(alloc, machine, unread, byte),
     }
 }
 
@@ -197,7 +197,29 @@ pub fn read_counts(
     unread.pass(used);
 }
 
-/// Reads one byte, the first of the buffer.
+/// Reads one byte, the first of the buffer: mostly one between tokens, which tells nothing.
+fn read_one(
+    alloc: Global,
+    machine: &mut Machine,
+    unread: &mut Unread,
+    byte: u8,
+) -> Result<Reading, AllocError>
+    requires sound { IsSound unread.old.at machine.old }
+    requires first { slice_get (unread_of unread.old) 0 ≡ Some byte }
+    requires room { unread.old.at + 1 < 2 ^ 64 }
+    ensures reads { (stream : List ℕ) (told : List json.Event) → HasTold machine.old unread.old stream told →
+        ReadsOn result machine.new unread.new stream told }
+    ensures shortens { Shortens result unread.old unread.new }
+    ensures sound { result ≡ Ok Reading.Quiet → IsSound unread.new.at machine.new }
+{
+    if machine.pass_between(unread.at(), byte) {
+        unread.pass(1);
+        return Ok(Reading::Quiet);
+    }
+    read_byte(alloc, machine, unread, byte)
+}
+
+/// The same by a step of the machine.
 fn read_byte(
     alloc: Global,
     machine: &mut Machine,

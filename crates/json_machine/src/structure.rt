@@ -1,11 +1,11 @@
 //! Bytes between tokens: brackets, commas, colons and blanks, and the first bytes of tokens.
 
-ghost use Rattle.std.specs.Prelude.{◌≡◌, ◌≢◌, [], ℕ, List, ◌+◌, IfOk, OnOk, OnErr, IfSome, IsTrue, not, true, ◌⊎◌};
+ghost use Rattle.std.specs.Prelude.{◌≡◌, ◌≢◌, [], ℕ, List, ◌+◌, IfOk, OnOk, OnErr, IfSome, IsTrue, not, true, false, ◌⊎◌};
 ghost use Rattle.std.specs.Prelude.{drop};
 ghost use Rattle.json_machine.specs.Machines.{state_of, mode_of, levels_of, answer_of, IsSound, SameMachine};
 ghost use Rattle.json_machine.specs.Machines.{IsAtMostOne, AnswerNear};
 ghost use Rattle.json_laws.specs.Machine as machine;
-ghost use Rattle.json_laws.specs.Machine.{value_step, after_step, go};
+ghost use Rattle.json_laws.specs.Machine.{step, value_step, after_step, go};
 
 use crate::characters::is_blank;
 use crate::literal_token::Begun;
@@ -115,6 +115,43 @@ impl Machine {
     {
         self.levels.pop();
         self.mode = Mode::After;
+    }
+
+    /// A byte between tokens that tells nothing: the comma behind a value, a colon, or the quote before a key. It is a
+    /// shorter way than `step`. False: the byte is left to that.
+    #[tactic(auto, using(crate::proofs::Levels::levels), unfolding(json_laws::specs::Machine::step, json_laws::specs::Machine::after_step))]
+    #[inline]
+    pub fn pass_between(&mut self, k: u64, byte: u8) -> bool
+        requires { IsSound k self.old }
+        ensures moves { IsTrue result → step k (state_of self.old).levels (state_of self.old).mode byte
+            ≡ go (state_of self.new).levels (state_of self.new).mode }
+        ensures sound { IsTrue result → IsSound (k + 1) self.new }
+        ensures levels { self.new.levels ≡ self.old.levels }
+        ensures left { result ≡ false → self.new ≡ self.old }
+    {
+        match self.mode {
+            Mode::After if byte == b',' => match self.levels.last() {
+                None => false,
+                Some(false) => {
+                    self.mode = Mode::Want;
+                    true
+                }
+                Some(true) => {
+                    self.mode = Mode::NextKey;
+                    true
+                }
+            },
+            Mode::Colon if byte == b':' => {
+                self.mode = Mode::Want;
+                true
+            }
+            Mode::FirstKey | Mode::NextKey if byte == b'"' => {
+                self.at = k;
+                self.mode = Mode::Str(true, Within::Plain);
+                true
+            }
+            _ => false,
+        }
     }
 
     /// The byte at k, where a key or a blank comes.
