@@ -252,7 +252,7 @@ fn is_counted(alloc: Global, text: &[u8], want: Option<(u64, i128)>, rest: &str)
 
 #[test]
 fn numbers_are_told_by_their_counts(rt: HostRuntime) {
-    let table: [(&[u8], Option<(u64, i128)>, &str); 13] = [
+    let table: [(&[u8], Option<(u64, i128)>, &str); 14] = [
         (b"[1.5, 2]", Some((1, 1_500_000_000_000)), "06-72 ]7-8 "),
         (b"[ \n0.25,3]", Some((3, 250_000_000_000)), "08-93 ]9-10 "),
         (b"[0,true", Some((1, 0)), "y3-7 "),
@@ -262,7 +262,8 @@ fn numbers_are_told_by_their_counts(rt: HostRuntime) {
             "",
         ),
         (b"[1.5", None, ""),
-        (b"[1.5]", None, "01-41.5 ]4-5 "),
+        (b"[1.5]", Some((1, 1_500_000_000_000)), "]4-5 "),
+        (b"[1.5 ]", None, "01-41.5 ]5-6 "),
         (b"[1. ", None, ""),
         (b"[-1,", None, "01-3-1 "),
         (b"[1e3,", None, "01-41e3 "),
