@@ -78,7 +78,7 @@ fn take_runs(
 }
 
 /// Takes the numbers that come next, as long as they are told by their counts and stand where counts are awaited: the
-/// way of most of the numbers of a file, without an event. They are taken many at once, and one by one what that leaves.
+/// way of most of the numbers of a file, without an event. They are taken many at once, and one by one where that ends.
 fn take_counts(
     pull: &mut Pull,
     walk: &mut ShapeWalk,

@@ -94,8 +94,12 @@ fn risk_lists(alloc: Global, risks: &[(u32, u32, &[i64], bool)]) -> Result<RiskL
     let mut lists = RiskLists::new(alloc);
     for (period, start, numbers, rounded) in risks {
         lists.open(*period, *start)?;
+        if !rounded {
+            lists.add_all(numbers)?;
+            continue;
+        }
         for number in *numbers {
-            lists.add(fixed(*number), *rounded)?;
+            lists.add(fixed(*number), true)?;
         }
     }
     Ok(lists)

@@ -262,3 +262,26 @@ fn counts_are_taken_up_to_their_limit(rt: HostRuntime) -> Result<(), Fail> {
     assert_eq!(rt; walk.awaits_count(), None);
     Ok(())
 }
+
+/// Takes as many counts as there is room for, at once, where counts are awaited.
+fn take_all_awaited(walk: &mut ShapeWalk) {
+    if let Some(spot) = walk.awaits_count() {
+        let room = walk.count_room(spot);
+        walk.take_counts(spot, room);
+    }
+}
+
+#[test]
+fn counts_are_taken_at_once_up_to_their_limit(rt: HostRuntime) -> Result<(), Fail> {
+    let mut limits = Limits::standard();
+    limits.risk_cells = 5;
+    let bytes = b"{\"Interventions\":{\"I\":{\"risk\":{\"1\":{\"1\":[7,";
+    let mut walk = walk_along(rt.alloc(), &limits, bytes)?;
+    assert_eq!(rt; walk.count_room(Spot::RiskNumber), 4);
+    take_all_awaited(&mut walk);
+    assert_eq!(rt; walk.fault(), None);
+    assert_eq!(rt; walk.count_room(Spot::RiskNumber), 0);
+    take_awaited(&mut walk, 51);
+    assert_eq!(rt; walk.fault(), fault(51, Flaw::Limit(Which::RiskCells)));
+    Ok(())
+}
