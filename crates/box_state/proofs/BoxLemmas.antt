@@ -1,7 +1,9 @@
 -- What is kept of a box is right after one interval was changed; and which bands may then leave a limit.
-use Rattle.std.proofs.Common.{◌≡◌, ◌≢◌, ℕ, zero, suc, ◌+◌, ◌-◌, ◌*◌, ◌/◌, ◌%◌, ◌<◌, ◌≤◌, refl, sym, ◌∙◌, ap, subst, arith, ℤ}
+use Rattle.std.proofs.Common.{◌≡◌, ◌≢◌, ℕ, zero, suc, ◌+◌, ◌-◌, ◌*◌, ◌/◌, ◌%◌, ◌<◌, ◌≤◌, refl, sym, ◌∙◌, ap, subst}
+use Rattle.std.proofs.Common.{arith, ℤ}
 use Rattle.std.proofs.Common.{pos, ◌+ℤ◌, ◌-ℤ◌, ◌<ℤ◌, Bool, true, false, eqb, List, [], ◌∷◌, length, get_or}
-use Rattle.std.proofs.Common.{set, replicate, fold, map, filter, cond, ltb, IsTrue, Contains, unsigned_abs, Option, Some, None}
+use Rattle.std.proofs.Common.{set, replicate, fold, map, filter, cond, ltb, IsTrue, Contains, unsigned_abs, Option}
+use Rattle.std.proofs.Common.{Some, None}
 use Rattle.std.proofs.Common.{IfSome, IfNone}
 use Rattle.std.specs.List.{range_with_len}
 use Rattle.std.specs.Int.{int_min, int_max}
@@ -145,11 +147,13 @@ IsOver-after inst v i span before n after m loads over l end b a each changed =
       each = length-set v.spans i span ∙ over.each;
       ends = λ k o. ends k o (eqb k i) refl;
       places = each ∙ over.places;
-      loads = λ c t o one few. IsRangeOf-by_side inst (set v.spans i span) c t (get_or loads (place_of inst c t) no_load)
+      loads = λ c t o one few. IsRangeOf-by_side inst (set v.spans i span) c t (get_or loads (place_of inst c t)
+          no_load)
           (λ side. by_side c t o one few side);
     }
   where
-    ends : (k : ℕ) → k < length inst.names → (e : Bool) → eqb k i ≡ e → (span_of (set v.spans i span) k).to ≤ tmax inst k
+    ends : (k : ℕ) → k < length inst.names → (e : Bool) → eqb k i ≡ e → (span_of (set v.spans i span) k).to ≤ tmax
+        inst k
     ends k o true q =
         let here : i ≡ k = grind (arith, nat_tests) in
         let now : span_of (set v.spans i span) i ≡ span =
@@ -204,7 +208,8 @@ pub IsOver-empty : (inst : Tables) (spans : List Span) (loads : List LoadRange)
 IsOver-empty inst spans loads e g =
     rw (e, g) (record {
       each = length-replicate (length inst.names) empty_span;
-      ends = λ i l. rw (get_or-replicate (length inst.names) i empty_span (record { from = 0; to = 0 }) l) (omega arith);
+      ends = λ i l. rw (get_or-replicate (length inst.names) i empty_span (record { from = 0; to = 0 }) l) (omega
+          arith);
       places = length-replicate (length inst.resource_names * inst.periods) no_load;
       loads = λ c t l one few. IsRangeOf-by_side inst (replicate (length inst.names) empty_span) c t
           (get_or (replicate (length inst.resource_names * inst.periods) no_load) (place_of inst c t) no_load)
@@ -256,7 +261,8 @@ pub AreSpansTo-more : (given : List Span) (i : ℕ) (spans : List Span) (span : 
 AreSpansTo-more given i spans span h within is =
     record { each = length-set spans i span ∙ h.each; same = λ k l m. at k l m (eqb k i) refl }
   where
-    at : (k : ℕ) → k < i + 1 → k < length given → (b : Bool) → eqb k i ≡ b → span_of (set spans i span) k ≡ span_of given k
+    at : (k : ℕ) → k < i + 1 → k < length given → (b : Bool) → eqb k i ≡ b → span_of (set spans i span) k ≡ span_of
+        given k
     at k l m true e =
         let here : i ≡ k = grind (arith, nat_tests) in
         let now : span_of (set spans i span) i ≡ span =
@@ -396,7 +402,8 @@ no_band_by inst box i whole from past each l starts part before runs none c t si
     outside : ((from ≤ t) × (t < past) → ⊥) → ⊥
     outside out = before c t side band (record {
       starts = starts_in_whole inst box i whole each part starts;
-      load = off_same inst (set box i whole) box c t side (load_kept inst box c t side i whole l each part idle) holds.load;
+      load = off_same inst (set box i whole) box c t side (load_kept inst box c t side i whole l each part idle)
+          holds.load;
     })
       where
         idle : IsIdleIn inst i whole t

@@ -106,7 +106,8 @@ grown_at_first task leaf old new entries fits given feasible h w p =
           (node_at ((record { node = leaf.node; parent = 0; left = 0 }) ∷ []) k)) k m l.settled;
       level = λ k a b j m e s. absurd (split_is_no_leaf
           (node_at ((record { node = leaf.node; parent = 0; left = 0 }) ∷ []) k) a b e
-          (only (λ k. IsLeafNode (node_at ((record { node = leaf.node; parent = 0; left = 0 }) ∷ []) k)) k m l.no_split));
+          (only (λ k. IsLeafNode (node_at ((record { node = leaf.node; parent = 0; left = 0 }) ∷ []) k)) k m
+          l.no_split));
       waits = root_entries task (root_box task.inst) leaf new entries l p;
       best_is = still_best task (root_box task.inst) old new (improved_for task (root_box task.inst) old new w)
           (best_at_first task old given feasible);

@@ -134,7 +134,8 @@ are_boxes_more inst cells boxes n i m a b w known leaf split la lb =
       root = box_before boxes n i m 0 (omega (arith, w.some, w.each)) ∙ w.root;
       boxed = λ k l. boxed k (where_is (length cells) n k (omega (arith, l, length_split cells n i m a b known)));
       linked = λ k l. subst
-          (λ (c : ℕ). IsLinked c (split_list boxes n i m) (box_at (split_list boxes n i m) k) (cell_at (split_cells cells n i m a b) k).left (node_at (split_cells cells n i m a b) k))
+          (λ (c : ℕ). IsLinked c (split_list boxes n i m) (box_at (split_list boxes n i m) k) (cell_at (split_cells
+          cells n i m a b) k).left (node_at (split_cells cells n i m a b) k))
           (sym (length_split cells n i m a b known))
           (linked k (where_is (length cells) n k (omega (arith, l, length_split cells n i m a b known))));
       parts = λ k some l. parts k some
@@ -145,7 +146,11 @@ are_boxes_more inst cells boxes n i m a b w known leaf split la lb =
     old_box k l = box_before boxes n i m k (omega (arith, l, w.each))
 
     boxed : (k : ℕ) → Where (length cells) n k → IsBox inst (box_at (split_list boxes n i m) k)
-    boxed k (inl e) = subst (IsBox inst) (sym (old_box k (omega (arith, e, known)))) (w.boxed k (omega (arith, e, known)))
+    boxed k (inl e) = subst (IsBox inst) (sym (old_box k (omega (arith, e, known)))) (w.boxed k (omega (
+      arith,
+      e,
+      known,
+    )))
     boxed k (inr (inl (l, d))) = subst (IsBox inst) (sym (old_box k l)) (w.boxed k l)
     boxed k (inr (inr (inl e))) = subst (IsBox inst) (sym (box_left boxes n i m k (w.each ∙ e)))
         (parts_are_boxes inst (box_at boxes n) i m (w.boxed n known) split).0
@@ -154,11 +159,14 @@ are_boxes_more inst cells boxes n i m a b w known leaf split la lb =
         (parts_are_boxes inst (box_at boxes n) i m (w.boxed n known) split).1
 
     linked : (k : ℕ) → Where (length cells) n k
-        → IsLinked (length cells + 2) (split_list boxes n i m) (box_at (split_list boxes n i m) k) (cell_at (split_cells cells n i m a b) k).left (node_at (split_cells cells n i m a b) k)
+        → IsLinked (length cells + 2) (split_list boxes n i m) (box_at (split_list boxes n i m) k) (cell_at
+        (split_cells cells n i m a b) k).left (node_at (split_cells cells n i m a b) k)
     linked k (inl e) = subst
-        (λ (j : ℕ). IsLinked (length cells + 2) (split_list boxes n i m) (box_at (split_list boxes n i m) j) (cell_at (split_cells cells n i m a b) j).left (node_at (split_cells cells n i m a b) j))
+        (λ (j : ℕ). IsLinked (length cells + 2) (split_list boxes n i m) (box_at (split_list boxes n i m) j) (cell_at
+        (split_cells cells n i m a b) j).left (node_at (split_cells cells n i m a b) j))
         (sym e)
-        (subst (λ (c : Cell). IsLinked (length cells + 2) (split_list boxes n i m) (box_at (split_list boxes n i m) n) c.left c.node)
+        (subst (λ (c : Cell). IsLinked (length cells + 2) (split_list boxes n i m) (box_at (split_list boxes n i m) n)
+        c.left c.node)
         (sym (at_split cells n i m a b known))
         (subst (λ (box : List Span). IsSplitAt (length cells + 2) (split_list boxes n i m) box (length cells) i m)
         (sym (old_box n known))
@@ -169,19 +177,24 @@ are_boxes_more inst cells boxes n i m a b w known leaf split la lb =
           right_is = box_right boxes n i m (length cells + 1) (ap (λ (j : ℕ). j + 1) w.each);
         })))
     linked k (inr (inl (l, d))) = subst
-        (λ (c : Cell). IsLinked (length cells + 2) (split_list boxes n i m) (box_at (split_list boxes n i m) k) c.left c.node)
+        (λ (c : Cell). IsLinked (length cells + 2) (split_list boxes n i m) (box_at (split_list boxes n i m) k) c.left
+        c.node)
         (sym (at_other cells n i m a b known k l d))
         (subst
         (λ (box : List Span).
         IsLinked (length cells + 2) (split_list boxes n i m) box (cell_at cells k).left (node_at cells k))
         (sym (old_box k l))
-        (linked_more (length cells) boxes (split_list boxes n i m) (box_at boxes k) (cell_at cells k).left (node_at cells k) old_box
+        (linked_more (length cells) boxes (split_list boxes n i m) (box_at boxes k) (cell_at cells k).left (node_at
+        cells k) old_box
         (w.linked k l)))
     linked k (inr (inr (inl e))) = subst
-        (λ (c : Cell). IsLinked (length cells + 2) (split_list boxes n i m) (box_at (split_list boxes n i m) k) c.left c.node)
-        (sym (at_left cells n i m a b known k e)) (leaf_linked (length cells + 2) (split_list boxes n i m) (box_at (split_list boxes n i m) k) 0 a la)
+        (λ (c : Cell). IsLinked (length cells + 2) (split_list boxes n i m) (box_at (split_list boxes n i m) k) c.left
+        c.node)
+        (sym (at_left cells n i m a b known k e)) (leaf_linked (length cells + 2) (split_list boxes n i m) (box_at
+        (split_list boxes n i m) k) 0 a la)
     linked k (inr (inr (inr e))) = subst
-        (λ (c : Cell). IsLinked (length cells + 2) (split_list boxes n i m) (box_at (split_list boxes n i m) k) c.left c.node)
+        (λ (c : Cell). IsLinked (length cells + 2) (split_list boxes n i m) (box_at (split_list boxes n i m) k) c.left
+        c.node)
         (sym (at_right cells n i m a b known k e))
         (leaf_linked (length cells + 2) (split_list boxes n i m) (box_at (split_list boxes n i m) k) 0 b lb)
 
@@ -199,7 +212,8 @@ are_boxes_more inst cells boxes n i m a b w known leaf split la lb =
           side = subst (λ (c : Cell). (c.left ≡ k) ⊎ (c.left + 1 ≡ k)) (sym same) h.side;
         }
 
-    parts : (k : ℕ) → 0 < k → Where (length cells) n k → IsPartOf (split_cells cells n i m a b) k (cell_at (split_cells cells n i m a b) k).parent
+    parts : (k : ℕ) → 0 < k → Where (length cells) n k → IsPartOf (split_cells cells n i m a b) k (cell_at
+        (split_cells cells n i m a b) k).parent
     parts k some (inl e) =
         let l : k < length cells = omega (arith, e, known) in
         subst (IsPartOf (split_cells cells n i m a b) k)

@@ -2,7 +2,8 @@
 use Rattle.std.proofs.Common.{◌≡◌, ℕ, zero, suc, ◌+◌, ◌-◌, ◌<◌, ◌≤◌, ◌⊎◌, inl, inr, refl, sym, ◌∙◌, ap, subst, arith}
 use Rattle.std.proofs.Common.{◌++◌, take, drop, List, length, get_or, set, max, min, Bool, true, false, cond, eqb}
 use Rattle.std.proofs.lemmas.Bool.{cases_eq, eq-eqb, ne_eqb}
-use Rattle.std.proofs.lemmas.List.{length-set, get_or-set_same, get_or-set_other, ext_get_or, drop_all, take_all, append-nil}
+use Rattle.std.proofs.lemmas.List.{length-set, get_or-set_same, get_or-set_other, ext_get_or, drop_all, take_all}
+use Rattle.std.proofs.lemmas.List.{append-nil}
 use Rattle.instance_model.specs.Tables.{Tables, tmax}
 use Rattle.instance_model.specs.Fitting.{IsFitting}
 use Rattle.lagrange_bound.specs.declared.span.Span.{Span}
@@ -38,8 +39,10 @@ climb_start inst cells number spans l e boxes w =
 -- what two boxes have in common, where one interval of the one is cut, and was cut of the other
 common_set : (inst : Tables) (target next spans : List Span) (i : ℕ) (x y : Span) → i < length next
     → length next ≡ length inst.names → IsCommon inst target (set next i y) spans
-    → ((span_of target i).from ≡ max y.from (span_of spans i).from → (span_of target i).to ≡ min y.to (span_of spans i).to
-    → ((span_of target i).from ≡ max (span_of next i).from x.from) × ((span_of target i).to ≡ min (span_of next i).to x.to))
+    → ((span_of target i).from ≡ max y.from (span_of spans i).from → (span_of target i).to ≡ min y.to (span_of spans
+    i).to
+    → ((span_of target i).from ≡ max (span_of next i).from x.from) × ((span_of target i).to ≡ min (span_of next i).to
+    x.to))
     → 1 ≤ x.from → x.to ≤ tmax inst i → IsCommon inst target next (set spans i x)
 common_set inst target next spans i x y l n h cut one most = record {
   each = length-set spans i x ∙ h.each;

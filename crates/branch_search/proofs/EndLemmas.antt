@@ -28,7 +28,8 @@ use Rattle.branch_search.specs.declared.tree_end.TreeEnd.{TreeEnd}
 use Rattle.branch_search.specs.Splits.{split_boxes}
 use Rattle.branch_search.specs.Best.{IsReached, IsShort, bound_of}
 use Rattle.branch_search.specs.Boxes.{worth_by}
-use Rattle.branch_search.specs.Searched.{lists_of, IsSplitBox, IsBounding, IsCostOf, IsAmong, IsLeastOf, IsUnfinishedLeaf}
+use Rattle.branch_search.specs.Searched.{lists_of, IsSplitBox, IsBounding, IsCostOf, IsAmong, IsLeastOf}
+use Rattle.branch_search.specs.Searched.{IsUnfinishedLeaf}
 use Rattle.branch_search.specs.Searched.{IsSearched}
 use Rattle.branch_search.specs.Tasks.{Task, worth_in}
 use Rattle.branch_search.specs.Growing.{cell_at, node_at, box_at, IsLeafNode}
@@ -160,8 +161,10 @@ module _ (task : Task) (growth : Growth) (g : IsGrowth task growth) (left : Opti
       (λ k l leaf j e. (k, waits k j l e))
 
   among_reaches : (y : ℤ) → IsAmong task.base task.value task.inst task.lists (plan_in growth.best)
-      (leaves (root_box task.inst) (tree_of growth.cells.items g.state.shape)) y → IsAtLeast (bound_with left growth.best) y
-  among_reaches y (inl (plan, e, v)) = value_reaches task.value task.inst growth.best left growth.waiting y some g.valued
+      (leaves (root_box task.inst) (tree_of growth.cells.items g.state.shape)) y → IsAtLeast (bound_with left
+      growth.best) y
+  among_reaches y (inl (plan, e, v)) = value_reaches task.value task.inst growth.best left growth.waiting y some
+      g.valued
       (subst (λ (o : Option (List ℕ)). IsReached task.value task.inst o y) (sym e)
       (subst (λ (x : ℤ). task.value task.inst plan ≤ℤ x) v (omega (arith, signed_arith))))
   among_reaches y (inr (k, leaf, l, e, w)) =
@@ -228,7 +231,12 @@ unfinished_of None P Q none h p = absurd (h none p)
 
 -- ---- the answer of these parts
 abbrev answer_of : Version → Bound → List PriceList → List Node → Option (List ℕ) → Bool → TreeEnd
-answer_of v b l n p u = record { cert = record { version = v; bound = b; lists = l; nodes = n }; best = p; unfinished = u }
+answer_of v b l n p u = record {
+  cert = record { version = v; bound = b; lists = l; nodes = n };
+  best = p;
+  unfinished
+      = u;
+}
 
 module _ (task : Task) (growth : Growth) (g : IsGrowth task growth) (left : Option ℤ)
     (some : IfSome left (IsLeftWorth growth.best growth.waiting))
@@ -244,7 +252,8 @@ module _ (task : Task) (growth : Growth) (g : IsGrowth task growth) (left : Opti
     tree = (tree_of growth.cells.items g.state.shape);
     of_nodes = record {
       order = order_is growth.cells.items g.state.shape g.state.is_shape.stands;
-      in_range = subst (λ (b : List Span). IsTreeInRange task.inst (length task.lists) b (tree_of growth.cells.items g.state.shape))
+      in_range = subst (λ (b : List Span). IsTreeInRange task.inst (length task.lists) b (tree_of growth.cells.items
+          g.state.shape))
           (root_is task growth g left some none)
           (in_range task.inst growth.cells.items g.state.boxes g.state.are_boxes (length task.lists)
           (λ k l leaf. range_at task growth g left some none (plan_in growth.best) (box_at g.state.boxes k)
@@ -271,7 +280,8 @@ module _ (task : Task) (growth : Growth) (g : IsGrowth task growth) (left : Opti
         (λ k l leaf. bounding_at task growth g left some none (box_at g.state.boxes k) (node_at growth.cells.items k)
         (g.state.settled k l));
     best = g.state.best_is;
-    bound = least_of task growth.best left (leaves (root_box task.inst) (tree_of growth.cells.items g.state.shape)) g.valued
+    bound = least_of task growth.best left (leaves (root_box task.inst) (tree_of growth.cells.items g.state.shape))
+        g.valued
         (λ z e. left_leaf task growth g left some none z
         (left_of left (IsLeftWorth growth.best growth.waiting) z e some)
         (IsCostOf task.base task.inst task.lists z)
@@ -292,7 +302,8 @@ module _ (task : Task) (growth : Growth) (g : IsGrowth task growth) (left : Opti
                 (below_short task.value task.inst growth.best z g.valued w.below);
           })) t,
       unfinished_of left (Any (IsUnfinishedLeaf task.base task.value task.inst task.lists (plan_in growth.best))
-          (leaves (root_box task.inst) (tree_of growth.cells.items g.state.shape))) (NoneIsLeft growth.best growth.waiting) none
+          (leaves (root_box task.inst) (tree_of growth.cells.items g.state.shape))) (NoneIsLeft growth.best
+          growth.waiting) none
           (λ q u. none_unfinished q u),
     );
     spent = spent_of left (length (split_boxes (root_box task.inst) (tree_of growth.cells.items g.state.shape)) ≡ turns)

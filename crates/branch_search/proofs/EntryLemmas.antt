@@ -80,7 +80,11 @@ all_with P (Some z) n old new p here h =
 pub contains_with : (worth : Option ℤ) (n : ℕ) (old new : List (ℤ × ℕ)) (e : ℤ × ℕ)
     → IsPermutation (with_entry worth n old) new → Contains old e → Contains new e
 contains_with None n old new e p h = Contains-permutation old new e p h
-contains_with (Some z) n old new e p (k, l, f) = Contains-permutation ((z, n) ∷ old) new e p (suc k, omega (arith, l), f)
+contains_with (Some z) n old new e p (k, l, f) = Contains-permutation ((z, n) ∷ old) new e p (
+  suc k,
+  omega (arith, l),
+  f,
+)
 
 pub contains_new : (worth : Option ℤ) (n : ℕ) (old new : List (ℤ × ℕ)) (z : ℤ) → worth ≡ Some z
     → IsPermutation (with_entry worth n old) new → Contains new (z, n)

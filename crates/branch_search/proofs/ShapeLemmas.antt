@@ -1,12 +1,14 @@
 -- The shape of a tree under construction, once a node is split.
-use Rattle.std.proofs.Common.{◌≡◌, ℕ, suc, ◌+◌, ◌*◌, ◌<◌, ◌≤◌, refl, sym, ◌∙◌, ap, subst, arith, Bool, true, false, cond}
+use Rattle.std.proofs.Common.{◌≡◌, ℕ, suc, ◌+◌, ◌*◌, ◌<◌, ◌≤◌, refl, sym, ◌∙◌, ap, subst, arith, Bool, true, false}
+use Rattle.std.proofs.Common.{cond}
 use Rattle.std.proofs.Common.{List, length, eqb, inl, inr, ◌⊎◌}
 use Rattle.std.proofs.lemmas.Bool.{eqb-true, eqb-false, eq-eqb, ne_eqb, cases_order}
 use Rattle.branch_tree.specs.declared.node.Node.{Node}
 use Rattle.branch_tree.specs.declared.node.Node.TheVariants.{Split}
 use Rattle.branch_search.specs.declared.cell.Cell.{Cell}
 use Rattle.branch_search.specs.Growing.{cell_at, node_at, IsLeafNode, split_cells}
-use Rattle.branch_search.specs.Shapes.{Shape, tip, fork, top, forks, size, same, times, tips, IsWithin, IsForkAt, Stands}
+use Rattle.branch_search.specs.Shapes.{Shape, tip, fork, top, forks, size, same, times, tips, IsWithin, IsForkAt}
+use Rattle.branch_search.specs.Shapes.{Stands}
 use Rattle.branch_search.specs.Shapes.{IsShapeOf, grown}
 use Rattle.branch_search.proofs.CellLemmas.{length_split, at_split, at_other, at_left, at_right, split_is_no_leaf}
 use Rattle.branch_search.proofs.CellLemmas.{Where, where_is}

@@ -191,7 +191,11 @@ enough_turns base value inst prices incumbent turns answer fits h enough =
 lists_in_range : (inst : Tables) (prices : Option PriceList) → IfSome prices (IsPriceList inst)
     → (length (lists_of prices) ≤ 1) × All (IsPriceList inst) (lists_of prices)
 lists_in_range inst None h = (omega arith, All-nil (IsPriceList inst))
-lists_in_range inst (Some prices) h = (omega arith, All-cons (IsPriceList inst) prices [] h (All-nil (IsPriceList inst)))
+lists_in_range inst (Some prices) h = (
+  omega arith,
+  All-cons (IsPriceList inst) prices [] h (All-nil (IsPriceList
+      inst)),
+)
 
 pub lists_known : (inst : Tables) (prices : Option PriceList) (lists : List PriceList)
     → IfSome prices (IsPriceList inst) → lists ≡ lists_of prices

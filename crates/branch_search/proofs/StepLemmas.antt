@@ -1,6 +1,7 @@
 -- One step of a search: the leaf of least worth is split.
 use Rattle.std.proofs.Common.{◌≡◌, ℕ, zero, suc, ◌+◌, ◌<◌, ◌≤◌, ◌⊎◌, inl, inr, refl, sym, ◌∙◌, ap, subst, arith, ℤ}
-use Rattle.std.proofs.Common.{◌≤ℤ◌, ◌<ℤ◌, ◌^◌, List, [], ◌∷◌, length, All, Contains, Option, Some, None, IfSome, unsigned_abs}
+use Rattle.std.proofs.Common.{◌≤ℤ◌, ◌<ℤ◌, ◌^◌, List, [], ◌∷◌, length, All, Contains, Option, Some, None, IfSome}
+use Rattle.std.proofs.Common.{unsigned_abs}
 use Rattle.std.specs.Prelude.{IsPermutation}
 use Rattle.std.proofs.lemmas.List.Elements.{All-contains, All-cons}
 use Rattle.std.proofs.lemmas.List.Sorted.{Contains-permutation}
@@ -24,11 +25,13 @@ use Rattle.branch_search.specs.Settled.{IsWaitingBox, IsSettled, IsWorthOf, IsIm
 use Rattle.branch_search.specs.Entries.{with_entry}
 use Rattle.branch_search.specs.States.{IsEntry, AreEntries, IsFloor, IsGrown}
 use Rattle.branch_search.proofs.CellLemmas.{length_split, at_split, at_other, at_left, at_right, box_before, box_left}
-use Rattle.branch_search.proofs.CellLemmas.{box_right, are_boxes_more, cost_is_no_split, split_is_no_leaf, Where, where_is}
+use Rattle.branch_search.proofs.CellLemmas.{box_right, are_boxes_more, cost_is_no_split, split_is_no_leaf, Where}
+use Rattle.branch_search.proofs.CellLemmas.{where_is}
 use Rattle.branch_search.proofs.ShapeLemmas.{shape_more, forks_more}
 use Rattle.branch_search.proofs.WorthLemmas.{IsPart, below_is_part, above_is_part, worth_of_part}
 use Rattle.branch_search.proofs.LeafLemmas.{at_most_trans, below_at_most, at_most_below, below_is_at_most}
-use Rattle.branch_search.proofs.LeafLemmas.{none_is_not_some, some_is, leaf_for, improved_for, still_settled, still_best}
+use Rattle.branch_search.proofs.LeafLemmas.{none_is_not_some, some_is, leaf_for, improved_for, still_settled}
+use Rattle.branch_search.proofs.LeafLemmas.{still_best}
 use Rattle.branch_search.proofs.EntryLemmas.{entries_more, popped}
 
 -- what a part waits with is at least the worth of the box
@@ -56,7 +59,8 @@ floor_under task cells boxes best y z l h = record {
 short_floor : (task : Task) (best : Option (List ℕ)) (z : ℤ) → IsShort task.value task.inst best z
     → (plan : List ℕ) → best ≡ Some plan → z ≤ℤ task.value task.inst plan
 short_floor task best z h plan e =
-    below_is_at_most z (task.value task.inst plan) (subst (λ (o : Option (List ℕ)). IsShort task.value task.inst o z) e h)
+    below_is_at_most z (task.value task.inst plan) (subst (λ (o : Option (List ℕ)). IsShort task.value task.inst o z)
+    e h)
 
 -- the least of what waits is at most each worth that waits
 least_floor : (task : Task) (cells : List Cell) (boxes : List (List Span)) (best : Option (List ℕ))
@@ -231,8 +235,10 @@ module _ (task : Task) (cells : List Cell) (n i m : ℕ) (left right : Settled) 
       shape = grown n (length cells) g.shape;
       are_boxes = are_boxes_more task.inst cells g.boxes n i m left.node right.node g.are_boxes entry.within leaf split
           one.no_split two.no_split;
-      is_shape = shape_more cells n i m left.node right.node entry.within leaf one.no_split two.no_split g.shape g.is_shape;
-      splits_are = forks_more cells n i m left.node right.node entry.within leaf one.no_split two.no_split g.shape g.is_shape
+      is_shape = shape_more cells n i m left.node right.node entry.within leaf one.no_split two.no_split g.shape
+          g.is_shape;
+      splits_are = forks_more cells n i m left.node right.node entry.within leaf one.no_split two.no_split g.shape
+          g.is_shape
           ∙ ap (λ (t : ℕ). t + 1) g.splits_are;
       settled = λ k l. settled_at k (where_is (length cells) n k
           (omega (arith, l, length_split cells n i m left.node right.node entry.within)));

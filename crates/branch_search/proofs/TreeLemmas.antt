@@ -1,5 +1,6 @@
 -- The tree of a shape: its nodes, its range, its leaves and its splits.
-use Rattle.std.proofs.Common.{◌≡◌, ℕ, zero, suc, ◌+◌, ◌<◌, ◌⊎◌, inl, inr, refl, sym, ◌∙◌, ap, subst, arith, List, [], ◌∷◌, ◌≤◌}
+use Rattle.std.proofs.Common.{◌≡◌, ℕ, zero, suc, ◌+◌, ◌<◌, ◌⊎◌, inl, inr, refl, sym, ◌∙◌, ap, subst, arith, List, []}
+use Rattle.std.proofs.Common.{◌∷◌, ◌≤◌}
 use Rattle.std.proofs.Common.{◌++◌, length, map, get_or, All, Bool, true, false, cond, eqb}
 use Rattle.std.specs.Prelude.{Any}
 use Rattle.std.proofs.lemmas.Bool.{eqb-true, cases_lt}
@@ -44,7 +45,8 @@ pub record IsParting (box left right : List Span) (i m : ℕ) : Type 0 where
   pub left_is : left ≡ below box i m
   pub right_is : right ≡ above box i m
 
-pub linked_split : (count : ℕ) (boxes : List (List Span)) (box : List Span) (left i m : ℕ) (node : Node) → node ≡ Split i m
+pub linked_split : (count : ℕ) (boxes : List (List Span)) (box : List Span) (left i m : ℕ) (node : Node) → node ≡
+    Split i m
     → IsLinked count boxes box left node → IsSplitAt count boxes box left i m
 linked_split count boxes box left i m node e h = subst (IsLinked count boxes box left) e h
 
@@ -150,7 +152,8 @@ module _ (inst : Tables) (cells : List Cell) (boxes : List (List Span)) (w : Are
       (λ (n : Node). Any P (leaves (below (box_at boxes k) (number_of n) (last_of n)) (tree_of cells l)
       ++ leaves (above (box_at boxes k) (number_of n) (last_of n)) (tree_of cells r)))
       (sym h.0.node)
-      (at p.left_is p.right_is (λ o. some_leaf P j lj here l h.1 v.1 o) (λ o. some_leaf P j lj here r h.2 v.2 o) (eqb k j) refl
+      (at p.left_is p.right_is (λ o. some_leaf P j lj here l h.1 v.1 o) (λ o. some_leaf P j lj here r h.2 v.2 o) (eqb
+      k j) refl
       some (cases_lt 0 (times j l)))
     where
       at : box_at boxes (top l) ≡ below (box_at boxes k) h.0.number h.0.last
@@ -174,7 +177,8 @@ module _ (inst : Tables) (cells : List Cell) (boxes : List (List Span)) (w : Are
           any_right P (leaves (below (box_at boxes k) h.0.number h.0.last) (tree_of cells l))
           (leaves (above (box_at boxes k) h.0.number h.0.last) (tree_of cells r)) x
 
-pub splits_are : (cells : List Cell) (box : List Span) (s : Shape) → length (split_boxes box (tree_of cells s)) ≡ forks s
+pub splits_are : (cells : List Cell) (box : List Span) (s : Shape) → length (split_boxes box (tree_of cells s)) ≡
+    forks s
 splits_are cells box (tip k) = refl
 splits_are cells box (fork k l r) =
     let e = splits_are cells (below box (number_of (node_at cells k)) (last_of (node_at cells k))) l in

@@ -1,5 +1,6 @@
 -- How many starts a box has, and why a tree of enough splits has single boxes alone.
-use Rattle.std.proofs.Common.{◌≡◌, ℕ, zero, suc, ◌+◌, ◌-◌, ◌*◌, ◌<◌, ◌≤◌, ◌⊎◌, inl, inr, refl, sym, ◌∙◌, ap, subst, arith}
+use Rattle.std.proofs.Common.{◌≡◌, ℕ, zero, suc, ◌+◌, ◌-◌, ◌*◌, ◌<◌, ◌≤◌, ◌⊎◌, inl, inr, refl, sym, ◌∙◌, ap, subst}
+use Rattle.std.proofs.Common.{arith}
 use Rattle.std.proofs.Common.{List, [], ◌∷◌, ◌++◌, length, get_or, set, Bool, true, false, IsTrue}
 use Rattle.std.specs.Prelude.{Any}
 use Rattle.std.proofs.Math.Nat.{eq-or-lt_of_le}
@@ -111,9 +112,11 @@ volume_parts box i m s =
     here : width (below box i m) i + width (above box i m) i ≡ width box i
     here =
         let a = ap (λ (t : Span). t.to + 1 - t.from)
-        (get_or-set_same box i (record { from = (span_of box i).from; to = m }) (record { from = 0; to = 0 }) s.number) in
+        (get_or-set_same box i (record { from = (span_of box i).from; to = m }) (record { from = 0; to = 0 })
+        s.number) in
         let b = ap (λ (t : Span). t.to + 1 - t.from)
-        (get_or-set_same box i (record { from = m + 1; to = (span_of box i).to }) (record { from = 0; to = 0 }) s.number) in
+        (get_or-set_same box i (record { from = m + 1; to = (span_of box i).to }) (record { from = 0; to = 0 })
+        s.number) in
         omega (arith, a, b, s.from, s.to)
 
 below_ordered : (box : List Span) (i m : ℕ) → IsSplit box i m → IsOrdered box → IsOrdered (below box i m)
@@ -175,7 +178,8 @@ several_volume inst lists box (split i m l x) r h some =
         → length (split_boxes (below box i m) l) + 2 ≤ volume (below box i m))
         → (Any (λ y. ¬ IsSingle y.box) (leaves (above box i m) x)
         → length (split_boxes (above box i m) x) + 2 ≤ volume (above box i m))
-        → Any (λ y. ¬ IsSingle y.box) (leaves (below box i m) l) ⊎ Any (λ y. ¬ IsSingle y.box) (leaves (above box i m) x)
+        → Any (λ y. ¬ IsSingle y.box) (leaves (below box i m) l) ⊎ Any (λ y. ¬ IsSingle y.box) (leaves (above box i m)
+        x)
         → volume (below box i m) + volume (above box i m) ≡ volume box
         → length (split_boxes (below box i m) l ++ split_boxes (above box i m) x)
         ≡ length (split_boxes (below box i m) l) + length (split_boxes (above box i m) x)

@@ -1,6 +1,7 @@
 -- The worth of a part of a box, and the worths by tables.
 use Rattle.std.proofs.Common.{◌≡◌, ℕ, zero, suc, ◌+◌, ◌-◌, ◌<◌, ◌≤◌, ◌⊎◌, inl, inr, refl, sym, ◌∙◌, ap, subst, arith, ℤ}
-use Rattle.std.proofs.Common.{◌+ℤ◌, ◌≤ℤ◌, ◌<ℤ◌, List, length, get_or, set, filter, All, Contains, IsTrue, Option, Some, None}
+use Rattle.std.proofs.Common.{◌+ℤ◌, ◌≤ℤ◌, ◌<ℤ◌, List, length, get_or, set, filter, All, Contains, IsTrue, Option, Some}
+use Rattle.std.proofs.Common.{None}
 use Rattle.std.specs.List.{range_with_len}
 use Rattle.std.proofs.lemmas.List.{length-set}
 use Rattle.std.proofs.Common.{Bool, true}
@@ -77,7 +78,12 @@ part_of_starts : (inst : Tables) (i s : ℕ) (part span : Span) → span.from �
     → Contains (starts_in inst i part) s → Contains (starts_in inst i span) s
 part_of_starts inst i s part span f t c =
     let w = in_interval inst i s part c in
-    in_starts inst i s span (record { from = omega (arith, f, w.from); to = omega (arith, t, w.to); allowed = w.allowed })
+    in_starts inst i s span (record {
+      from = omega (arith, f, w.from);
+      to = omega (arith, t, w.to);
+      allowed =
+          w.allowed;
+    })
 
 -- ---- worths
 least_of_part : (f : ℕ → ℤ) (ks js : List ℕ) → 0 < length js → ((s : ℕ) → Contains js s → Contains ks s)

@@ -88,7 +88,8 @@ module _ (inst : Tables) where
       let own = let f : t + 0 ≡ t = omega arith in subst (λ u. IsTail inst u tail) f (each 0 tail (omega arith) refl) in
       (such t tail from (omega (arith, few)) own, rest)
 
-  pub ex_such : (P : CertificateLine → Type 0) → ((x : ExPrice) → IsExPrice inst x → P (ex_line x)) → (xs : List ExPrice)
+  pub ex_such : (P : CertificateLine → Type 0) → ((x : ExPrice) → IsExPrice inst x → P (ex_line x)) → (xs : List
+      ExPrice)
       → AllByRecursion (IsExPrice inst) xs → AllByRecursion P (map ex_line xs)
   ex_such P such [] each = tt
   ex_such P such (x ∷ xs) each = (such x each.0, ex_such P such xs each.1)

@@ -71,7 +71,8 @@ acceptable inst fit costs one tell law limits cert good =
     record {
       checkable = record {
         in_range = good.in_range;
-        accepted = stands (certificate_text inst cert) cert _ refl (spells limits inst fit cert good tell) (accepted all);
+        accepted = stands (certificate_text inst cert) cert _ refl (spells limits inst fit cert good tell) (accepted
+            all);
         bounds = all.bounds;
       };
       accepted = all;

@@ -216,7 +216,8 @@ module _ (Answers : Shown → Answer → Type 0) (old mid : Shown) (a : Answer) 
       → Ends (λ at. OrMemory (Answers at)) old new status
   told_ends new status stays (told_written wrote files keeps says) =
       written_ends wrote new status (stays wrote) (stays new) files keeps says
-  told_ends new status stays (told_unwritten at word stops keeps says) = unwritten_ends at new word status stops keeps says
+  told_ends new status stays (told_unwritten at word stops keeps says) = unwritten_ends at new word status stops keeps
+      says
 
 pub told_later : (a : Answer) (old new : Shown) (status : ℕ) → TellsAnswer a old new status → old.faults ≤ new.faults
 told_later a old new status (told_written wrote files keeps says) = omega (arith, files.later, keeps.later)

@@ -21,7 +21,8 @@ read_cause_due source name files turns old new r (inl cause) =
     refuses_instance standard_limits source old new
     (λ i. OnPlan standard_limits i (reading old new) 3 name (λ p. Repairs standard_limits i p files turns)) r cause
 read_cause_due source name files turns old new r (inr plan) =
-    refuses_plan standard_limits source name old plan.at new plan.inst (λ i p. Repairs standard_limits i p files turns) r
+    refuses_plan standard_limits source name old plan.at new plan.inst (λ i p. Repairs standard_limits i p files
+    turns) r
     plan.reads (is_read source.instance old plan.at plan.read plan.later) plan.cause
 
 pub both_read : (limits : Limits) (source : Source) (name : List ℕ) (old mid : Shown) (inst : Tables)

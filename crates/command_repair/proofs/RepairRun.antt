@@ -65,7 +65,8 @@ repair_other limits slack met other i p j q files turns a ci cp =
     on_other met other 2 i j (RefusesInstance limits) (TakesOne limits slack) (OnOld limits met p files turns)
     (OnOld limits other q files turns) a ci
     (λ inst b. on_other met other 3 p q (RefusesPlan limits inst) (Spells limits inst)
-    (λ old. Repairs limits inst old files turns) (λ old. Repairs limits inst old files turns) b cp (λ x c repairs. repairs))
+    (λ old. Repairs limits inst old files turns) (λ old. Repairs limits inst old files turns) b cp (λ x c
+    repairs. repairs))
 
 pub repair_stays : (limits : Limits) (source : Source) (name : List ℕ) (files : RepairFiles) (turns : ℕ)
     (old mid new : Shown)
@@ -238,7 +239,8 @@ module _ (limits : Limits) (source : Source) (name : List ℕ) (files : RepairFi
   old_behind inst a reads (unread fails) writes says =
       behind_unread_plan inst reads (record { fails = fails; says = says })
   old_behind inst a reads (refused bytes b held is) writes says =
-      subst (λ (n : ℕ). BehindRepair limits source name files turns old new n) (sym (plan_status limits inst bytes b is))
+      subst (λ (n : ℕ). BehindRepair limits source name files turns old new n) (sym (plan_status limits inst bytes b
+      is))
       (behind_refused_plan inst reads (say_refusal name (RefusesPlan limits inst) old new bytes b held is says))
   old_behind inst a reads (stands bytes plan b held spells repairs) writes says =
       repaired_behind
@@ -458,7 +460,8 @@ module _ (source : Source) (name : List ℕ) (files : RepairFiles) (turns : ℕ)
   stays at = repair_stays standard_limits source name files turns old mid at reads.later
 
   -- the files were read, and their solution was told, or memory ran out
-  pub solution_ends : (inst : Tables) (plan : List (Option ℕ)) (status : ℕ) → AreRead standard_limits source name old inst plan
+  pub solution_ends : (inst : Tables) (plan : List (Option ℕ)) (status : ℕ) → AreRead standard_limits source name old
+      inst plan
       → mid.last ≡ old.last → TellsSolution inst plan files turns mid new status
       → Ends (DueRepair standard_limits source name files turns old) old new status
   solution_ends inst plan status read last (told a repairs tells) =

@@ -1,4 +1,5 @@
-//! The command `repair`: the instance and the plan are read, their solution is made and written, and the report is said.
+//! The command `repair`: the instance and the plan are read, their solution is made and written, and the report is
+//! said.
 ghost use Rattle.std.specs.Prelude.{◌≡◌, ◌≤◌, Some, IfOk, IfErr, OnOk};
 ghost use Rattle.instance_model.specs.Limits.{standard_limits};
 ghost use Rattle.instance_shape.specs.Ranges.{AreStandard};

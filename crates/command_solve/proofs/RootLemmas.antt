@@ -100,5 +100,6 @@ pub above_root : (inst : Tables) (prices : PriceList) (given : Option (List ℕ)
     → IsSearched risk_base risk_value inst (Some prices) given turns answer → (b : ℤ) → answer.cert.bound ≡ Least b
     → root_worth inst prices ≤ℤ b
 above_root inst prices given turns answer law fit range searched b bound =
-    tree_above inst prices given answer.best answer.cert searched.lists b bound law fit range searched.best searched.tree
+    tree_above inst prices given answer.best answer.cert searched.lists b bound law fit range searched.best
+    searched.tree
     searched.splits searched.bounding searched.bound

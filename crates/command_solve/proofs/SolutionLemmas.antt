@@ -177,7 +177,8 @@ module _ (inst : Tables) (i : ℕ) (without : IsWithoutStart inst i) where
   }
 
   pub no_start_solution : IsAcceptable standard_limits inst (empty_certificate i) → (cert : Certificate)
-      (changes : List Change) (text : List ℕ) → cert ≡ empty_certificate i → changes ≡ [] → text ≡ none_report inst cert changes
+      (changes : List Change) (text : List ℕ) → cert ≡ empty_certificate i → changes ≡ [] → text ≡ none_report inst
+      cert changes
       → (turns : ℕ) → IsSolution inst turns (record {
         report = record { status = 10; text = text };
         certificate = cert;

@@ -25,7 +25,8 @@ use Rattle.command_table.specs.Tabling.{Tabulates, AnswersTable}
 use Rattle.command_table.specs.Tabling.Tabulates.{broken_start}
 use Rattle.command_table.specs.Read.{AreRead}
 
-pub table_reads : (limits : Limits) (source : Source) (name : List ℕ) (old mid : Shown) (inst : Tables) (plan : List (Option ℕ))
+pub table_reads : (limits : Limits) (source : Source) (name : List ℕ) (old mid : Shown) (inst : Tables) (plan : List
+    (Option ℕ))
     → ReadsInstance limits source old inst → IsRead old mid → ReadsPlan limits name inst mid plan
     → length plan ≡ length inst.names → AreRead limits source name old inst plan
 table_reads limits source name old mid inst plan reads read reads_plan each =
@@ -35,7 +36,8 @@ table_reads limits source name old mid inst plan reads read reads_plan each =
       each = each;
     }
 
-pub table_answer : (limits : Limits) (source : Source) (name : List ℕ) (from to : ℕ) (old mid new : Shown) (inst : Tables)
+pub table_answer : (limits : Limits) (source : Source) (name : List ℕ) (from to : ℕ) (old mid new : Shown) (inst :
+    Tables)
     (plan : List (Option ℕ)) (status : ℕ) → AreRead limits source name old inst plan
     → SaysAnswer (Tabulates inst plan from to) mid new status
     → SaysAnswer (AnswersTable limits (reading old mid) source.slack source.instance name from to) mid new

@@ -7,7 +7,8 @@ use Rattle.command_frame.specs.Sources.{Source}
 use Rattle.command_frame.specs.Files.{ReadsInstance, ReadsPlan}
 
 -- both files of `table` were read
-pub record AreRead (limits : Limits) (source : Source) (name : List ℕ) (old : Shown) (inst : Tables) (plan : List (Option ℕ))
+pub record AreRead (limits : Limits) (source : Source) (name : List ℕ) (old : Shown) (inst : Tables) (plan : List
+    (Option ℕ))
     : Type 0 where
   pub reads : ReadsInstance limits source old inst
   pub reads_plan : ReadsPlan limits name inst old plan

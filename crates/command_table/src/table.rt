@@ -31,7 +31,8 @@ struct Files {
     plan: Plan,
 }
 
-/// Reads both files, and says the reports of the periods from `from` to `to`, or to the horizon where that comes before.
+/// Reads both files, and says the reports of the periods from `from` to `to`, or to the horizon where that comes
+/// before.
 pub fn table_files<D: Desk>(
     alloc: Global,
     source: &Source<'_>,

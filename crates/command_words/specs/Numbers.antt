@@ -1,5 +1,6 @@
 -- File words, slacks, turns, periods, seeds and counts. A word is the list of its bytes.
-use Rattle.std.specs.Prelude.{ℕ, ◌-◌, ◌*◌, ◌^◌, List, length, take, drop, codes, bytes_eq, nat_le, nat_lt, ◌&&◌, not, Bool}
+use Rattle.std.specs.Prelude.{ℕ, ◌-◌, ◌*◌, ◌^◌, List, length, take, drop, codes, bytes_eq, nat_le, nat_lt, ◌&&◌, not}
+use Rattle.std.specs.Prelude.{Bool}
 use Rattle.std.specs.Prelude.{Option, Some, None, if◌then◌else◌}
 use Rattle.instance_shape.specs.Keys.{all_bytes, is_digit, number_of}
 

@@ -186,7 +186,8 @@ module _ (inst : Tables) (fit : IsFitting inst) (old : List (Option ℕ)) (turns
 -- ---- what the search says
 
 -- the same for the old starts that the goal was made of, and for the plan that was lent
-pub found_for : (inst : Tables) (old goal : List (Option ℕ)) (turns : ℕ) (given lent : Option (List ℕ)) (answer : TreeEnd)
+pub found_for : (inst : Tables) (old goal : List (Option ℕ)) (turns : ℕ) (given lent : Option (List ℕ)) (answer :
+    TreeEnd)
     → goal ≡ old → lent ≡ given
     → IsSearched (change_base goal) (change_value goal) inst None lent turns answer
     → IsValid (change_base goal) (change_value goal) inst answer.cert → IsInRange inst answer.cert

@@ -46,7 +46,8 @@ value_le : (old : List (Option ℕ)) (inst : Tables) (a b : List ℕ) → change
 unfolding change_value
 value_le old inst a b h = more_changes (changes_of old a) (changes_of old b) h
 
-pub fewer_le : (old : List (Option ℕ)) (inst : Tables) (a b : List ℕ) → change_value old inst a ≤ℤ change_value old inst b
+pub fewer_le : (old : List (Option ℕ)) (inst : Tables) (a b : List ℕ) → change_value old inst a ≤ℤ change_value old
+    inst b
     → changes_of old a ≤ changes_of old b
 unfolding change_value
 fewer_le old inst a b h = omega (arith, signed_arith)

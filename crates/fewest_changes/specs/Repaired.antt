@@ -42,7 +42,8 @@ pub record IsRepairTree (inst : Tables) (old : List (Option ℕ)) (turns : ℕ) 
       (λ leaf. IsBounding (change_base old) (change_value old) inst cert.lists plan leaf.box leaf.node)
       (leaves (root_box inst) tree)
   pub no_worse : IsBestOver (change_value old) inst given plan
-  pub bound : IsLeastOf (IsAmong (change_base old) (change_value old) inst cert.lists plan (leaves (root_box inst) tree))
+  pub bound : IsLeastOf (IsAmong (change_base old) (change_value old) inst cert.lists plan (leaves (root_box inst)
+      tree))
       cert.bound
 
 -- a plan to set out from, the plan that the search is given, if there is one, and the tree

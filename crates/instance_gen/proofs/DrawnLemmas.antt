@@ -12,7 +12,8 @@ use Rattle.instance_model.proofs.EntryLemmas.{count_sum_same}
 use Rattle.instance_gen.specs.Drawing.{Runs, Drawn, with_starts, with_intervention, interventions_of, nothing_drawn}
 use Rattle.instance_gen.proofs.DurationLemmas.{IsShort, drawn_durations, length-drawn_durations, drawn_durations-short}
 use Rattle.instance_gen.proofs.DurationLemmas.{short-at}
-use Rattle.instance_gen.proofs.RunLemmas.{IsSmallWhole, AreBefore, starts-length, starts-small, starts-count, starts-before}
+use Rattle.instance_gen.proofs.RunLemmas.{IsSmallWhole, AreBefore, starts-length, starts-small, starts-count}
+use Rattle.instance_gen.proofs.RunLemmas.{starts-before}
 
 -- the durations and load cells of one intervention
 pub record IsRow (ds : List ℕ) (cells : List LoadCell) : Type 0 where
@@ -101,7 +102,8 @@ last_delta seed n =
     ap (λ (rows : List (List ℕ)). get_or rows n []) (next_delta before)
     ∙ last before.delta (drawn_durations before.source).durations [] n (length-delta seed n)
 
-last_loads : (seed n : ℕ) → get_or (interventions_of seed (suc n)).loads n [] ≡ (next_runs (interventions_of seed n)).cells
+last_loads : (seed n : ℕ) → get_or (interventions_of seed (suc n)).loads n [] ≡ (next_runs (interventions_of seed
+    n)).cells
 unfolding interventions_of
 last_loads seed n =
     let before = interventions_of seed n in

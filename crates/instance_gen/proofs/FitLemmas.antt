@@ -288,7 +288,8 @@ fitting seed n few =
       loads_each = works ∙ sym names;
       cells = λ i l. cells_fit seed n i (omega (arith, l, names));
       loads_few = rw names (omega (arith, work, few));
-      risks_each = risks ∙ sym (all_entries_are seed n 8 (scenarios_before (drawn_tables seed n)) (scenarios_even seed n));
+      risks_each = risks ∙ sym (all_entries_are seed n 8 (scenarios_before (drawn_tables seed n)) (scenarios_even seed
+          n));
       risks_few = omega (arith, risks, runs, few);
       risks_small = all_small drawn.risks (risks-small seed n);
       soft_each = length-replicate (length drawn.risks / 8) false

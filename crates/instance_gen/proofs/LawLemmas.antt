@@ -1,5 +1,6 @@
 -- The text of a drawn instance is read as this instance, and the instance has each load cell.
-use Rattle.std.proofs.Common.{inl, inr, arith, ◌≡◌, ℕ, ◌+◌, ◌-◌, ◌/◌, ◌<◌, ◌≤◌, ◌∙◌, ap, sym, refl, subst, ℤ, pos, ◌+ℤ◌, ◌-ℤ◌}
+use Rattle.std.proofs.Common.{inl, inr, arith, ◌≡◌, ℕ, ◌+◌, ◌-◌, ◌/◌, ◌<◌, ◌≤◌, ◌∙◌, ap, sym, refl, subst, ℤ, pos, ◌+ℤ◌}
+use Rattle.std.proofs.Common.{◌-ℤ◌}
 use Rattle.std.proofs.Common.{false, List, [], ◌∷◌, ◌++◌, map, length, decimal, All, get_or, codes, IsTrue}
 use Rattle.std.proofs.Common.{Option, Some, None}
 use Rattle.std.specs.Prelude.{IsSome, option_map, find, slice_index, slice_index_or}
@@ -16,7 +17,8 @@ use Rattle.instance_model.specs.Tables.{Tables, is_allowed, in_run, is_cell_of}
 use Rattle.instance_model.specs.Fitting.{IsFitting}
 use Rattle.instance_model.proofs.EntryLemmas.{IsRunning-from}
 use Rattle.instance_shape.specs.Defined.{Defines}
-use Rattle.instance_text.specs.Conditions.{HasSpellableNames, IsUnrounded, IsWithin, SpellsCount, SpellsNumbers, widened}
+use Rattle.instance_text.specs.Conditions.{HasSpellableNames, IsUnrounded, IsWithin, SpellsCount, SpellsNumbers}
+use Rattle.instance_text.specs.Conditions.{widened}
 use Rattle.instance_text.specs.Styles.{Style}
 use Rattle.instance_text.specs.Written.{instance_text}
 use Rattle.instance_writer.specs.Views.{HasEachCell}
@@ -102,15 +104,18 @@ names_spelled seed n few = record {
 
 added_nothing : (zs : List ℤ) → map (λ z. z +ℤ pos 0) zs ≡ zs
 added_nothing [] = refl
-added_nothing (z ∷ zs) = let e : z +ℤ pos 0 ≡ z = omega (arith, ints) in rw e (ap (λ (xs : List ℤ). z ∷ xs) (added_nothing zs))
+added_nothing (z ∷ zs) = let e : z +ℤ pos 0 ≡ z = omega (arith, ints) in rw e (ap (λ (xs : List ℤ). z ∷ xs)
+    (added_nothing zs))
 
 taken_nothing : (zs : List ℤ) → map (λ z. z -ℤ pos 0) zs ≡ zs
 taken_nothing [] = refl
-taken_nothing (z ∷ zs) = let e : z -ℤ pos 0 ≡ z = omega (arith, ints) in rw e (ap (λ (xs : List ℤ). z ∷ xs) (taken_nothing zs))
+taken_nothing (z ∷ zs) = let e : z -ℤ pos 0 ≡ z = omega (arith, ints) in rw e (ap (λ (xs : List ℤ). z ∷ xs)
+    (taken_nothing zs))
 
 not_widened : (inst : Tables) → widened (pos 0) inst ≡ inst
 not_widened inst =
-    ap (λ (zs : List ℤ). record inst { upper = zs; lower = map (λ z. z -ℤ pos 0) inst.lower }) (added_nothing inst.upper)
+    ap (λ (zs : List ℤ). record inst { upper = zs; lower = map (λ z. z -ℤ pos 0) inst.lower }) (added_nothing
+    inst.upper)
     ∙ ap (λ (zs : List ℤ). record inst { lower = zs }) (taken_nothing inst.lower)
 
 pub texts_read : ((style : Style) (limits : Limits) (slack : ℤ) (inst : Tables)
@@ -157,7 +162,8 @@ load_there seed n i s c t h k allowed running =
     row_has (get_or (interventions_of seed n).delta i []) (get_or (interventions_of seed n).loads i []) s t c row
     run.start (omega (arith, run.among, many)) run.from (omega (arith, run.to, long)) k
 
-loads_are : (seed n i : ℕ) → slice_index_or (drawn_tables seed n).loads i [] ≡ get_or (interventions_of seed n).loads i []
+loads_are : (seed n i : ℕ) → slice_index_or (drawn_tables seed n).loads i [] ≡ get_or (interventions_of seed n).loads
+    i []
 unfolding drawn_tables
 loads_are seed n i = refl
 
@@ -169,6 +175,7 @@ pub each_cell : (seed n : ℕ) → HasEachCell (drawn_tables seed n)
 each_cell seed n = λ i s c t l m allowed running.
     let names = names-count seed n in
     let resources = resources-count seed n in
-    some_load (λ (cell : LoadCell). cell.load) (find (is_cell_of s t c) (slice_index_or (drawn_tables seed n).loads i []))
+    some_load (λ (cell : LoadCell). cell.load) (find (is_cell_of s t c) (slice_index_or (drawn_tables seed n).loads i
+    []))
     (subst (HasCell s t c) (sym (loads_are seed n i))
     (load_there seed n i s c t (omega (arith, l, names)) (omega (arith, m, resources)) allowed running))

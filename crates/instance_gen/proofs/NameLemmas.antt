@@ -48,7 +48,8 @@ new_name letter n small =
     list_any_none (bytes_eq (letter ++ decimal (n + 1))) (numbered_names letter n) (λ k d l.
     let within : k < n = omega (arith, l, length-names letter n) in
     rw (name_at letter n k d within)
-    (differs (letter ++ decimal (n + 1)) (letter ++ decimal (1 + k)) (apart letter (1 + k) (n + 1) (omega arith) small)))
+    (differs (letter ++ decimal (n + 1)) (letter ++ decimal (1 + k)) (apart letter (1 + k) (n + 1) (omega arith)
+    small)))
 
 names-more : (letter : List ℕ) (n : ℕ)
     → numbered_names letter (n + 1) ≡ numbered_names letter n ++ (letter ++ decimal (n + 1)) ∷ []

@@ -63,7 +63,10 @@ risks-small zero d h = h
 risks-small (suc n) d h =
     let before = with_risks n d in
     let below = draw-below 100 before.source (omega arith) in
-    All-push IsSmallWhole before.risks _ (risks-small n d h) (small_whole (draw 100 before.source).0 (omega (arith, below)))
+    All-push IsSmallWhole before.risks _ (risks-small n d h) (small_whole (draw 100 before.source).0 (omega (
+      arith,
+      below,
+    )))
 
 period-small : (s t : ℕ) (d : Runs) → All IsSmallWhole d.risks → All IsSmallWhole (with_period s t d).risks
 unfolding with_period
@@ -316,6 +319,7 @@ starts-has ds (suc n) k j c d l m h =
       | inr past ↦
           let e : k ≡ n = omega (arith, l, past) in
           let long : j < slice_index ds n = subst (λ (i : ℕ). j < slice_index ds i) e m in
-          subst (λ (i : ℕ). HasCell (i + 1) (i + 1 + j) c (with_run (n + 1) (slice_index ds n) (with_starts ds n d)).cells)
+          subst (λ (i : ℕ). HasCell (i + 1) (i + 1 + j) c (with_run (n + 1) (slice_index ds n) (with_starts ds n
+          d)).cells)
           (sym e) (run-has (n + 1) c (slice_index ds n) j (with_starts ds n d) long h)
     ]

@@ -44,7 +44,8 @@ number_spelled n h =
     record {
       token = subst IsNumber (sym text) (p, whole_parts n wide);
       exact = ap fixed text
-          ∙ fixed_exact (decimal n) p (n * 10 ^ 12) (whole_parts n wide) (omega (arith, value)) (omega arith) (omega arith);
+          ∙ fixed_exact (decimal n) p (n * 10 ^ 12) (whole_parts n wide) (omega (arith, value)) (omega arith) (omega
+          arith);
     }
 
 pub count_spelled : (z : ℤ) → IsSmallWhole z → SpellsCount plain_numbers z

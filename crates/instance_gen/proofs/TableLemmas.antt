@@ -38,5 +38,6 @@ pub tables_from : (seed n : ℕ) (drawn : Drawn) (scenarios : List ℕ) (resourc
       rounded = 0;
     } ≡ drawn_tables seed n
 unfolding drawn_tables
-tables_from seed n drawn scenarios resources seasons names exclusions upper lower in_season excluded soft a b c d e f g h i j k =
+tables_from seed n drawn scenarios resources seasons names exclusions upper lower in_season excluded soft a b c d e f
+    g h i j k =
     cc

@@ -9,8 +9,10 @@ use Rattle.fixed_num.proofs.SumLemmas.{list_of-from}
 use Rattle.std.specs.declared.alloc.Global.{Global}
 use Rattle.instance_model.specs.declared.parts.Parts.{Parts}
 use Rattle.instance_model.specs.declared.offsets.Offsets.{Offsets}
-use Rattle.instance_model.specs.Tables.{Tables, scenarios_of, tmax, delta_of, is_allowed, in_run, entries_at, entries_of}
-use Rattle.instance_model.specs.Tables.{entries_before, entry_place, scenarios_before, periods_before, risk_of, risk_place}
+use Rattle.instance_model.specs.Tables.{Tables, scenarios_of, tmax, delta_of, is_allowed, in_run, entries_at}
+use Rattle.instance_model.specs.Tables.{entries_of}
+use Rattle.instance_model.specs.Tables.{entries_before, entry_place, scenarios_before, periods_before, risk_of}
+use Rattle.instance_model.specs.Tables.{risk_place}
 use Rattle.instance_model.specs.Naturals.{count_sum}
 use Rattle.instance_model.specs.RunRisks.{list_place}
 use Rattle.instance_model.specs.Fitting.{IsFitting}

@@ -1,5 +1,6 @@
 -- What the invariant of an instance gives where risks or a soft flag are read.
-use Rattle.std.proofs.Common.{◌≡◌, ℕ, ◌+◌, ◌-◌, ◌<◌, ◌≤◌, ◌^◌, length, true, false, get_or, List, [], ◌∷◌, zero, suc, refl, arith, subst, sym}
+use Rattle.std.proofs.Common.{◌≡◌, ℕ, ◌+◌, ◌-◌, ◌<◌, ◌≤◌, ◌^◌, length, true, false, get_or, List, [], ◌∷◌, zero, suc}
+use Rattle.std.proofs.Common.{refl, arith, subst, sym}
 use Rattle.std.proofs.Common.{◌∙◌, ap, Bool, ℤ, pos, map, flat_map, Vec}
 use Rattle.std.proofs.lemmas.List.{length-map, get_or-map}
 use Rattle.std.specs.declared.alloc.Global.{Global}

@@ -127,7 +127,8 @@ run_numbers inst i m zero rows f h a l =
 run_numbers inst i m (suc j) rows f h a l =
     let p = lists_to inst i m in
     let before = run_numbers inst i m j rows f h a (omega arith) in
-    let more = pieces_more (λ (r : RiskRow). r.values) rows (p + j) no_list (in_lists inst i m j rows h a (omega arith)) in
+    let more = pieces_more (λ (r : RiskRow). r.values) rows (p + j) no_list (in_lists inst i m j rows h a (omega
+    arith)) in
     let count : length (get_or rows (p + j) no_list).values ≡ scenarios_of inst (m + 1 + j) =
     subst (λ (n : ℕ). length (get_or rows n no_list).values ≡ scenarios_of inst (m + 1 + j)) (list_place_is inst i m j)
     (h.counts (m + 1) (m + 1 + j) a (omega arith) (omega arith)) in
@@ -161,7 +162,13 @@ start_numbers inst i (suc m) rows f h = by (is_allowed inst i (m + 1)) refl (sta
         let d = periods_of_run inst i (m + 1) a in
         let run = run_numbers inst i m (delta_of inst i (m + 1)) rows f h a (omega arith) in
         let e = entries_at-allowed inst (scenarios_before inst) i (m + 1) a in
-        ap (numbers_before rows) (lists_more ∙ ap (λ k. lists_to inst i m + k) d) ∙ omega (arith, run, e, q, numbers_more)
+        ap (numbers_before rows) (lists_more ∙ ap (λ k. lists_to inst i m + k) d) ∙ omega (
+          arith,
+          run,
+          e,
+          q,
+          numbers_more,
+        )
     by false a q =
         let d = entries_at-refused inst periods_before i (m + 1) a in
         let e = entries_at-refused inst (scenarios_before inst) i (m + 1) a in
@@ -224,7 +231,8 @@ stands inst i s t a r =
     }
 
 -- a list of a run is one of its intervention's
-pub place_in_lists : (inst : Tables) (i s t : ℕ) (rows : List RiskRow) → AreRuns inst i rows → is_allowed inst i s ≡ true
+pub place_in_lists : (inst : Tables) (i s t : ℕ) (rows : List RiskRow) → AreRuns inst i rows → is_allowed inst i s ≡
+    true
     → IsRunning inst i s t → list_place inst i s t < length rows
 place_in_lists inst i s t rows h a r =
     let q = stands inst i s t a r in
@@ -241,7 +249,8 @@ unfolding entry_place entries_before
 numbers_at inst i s t rows f h a r =
     let q = stands inst i s t a r in
     let n : list_place inst i s t ≡ lists_to inst i q.m + q.j =
-    ap (λ z. list_place inst i z t) q.start ∙ ap (list_place inst i (q.m + 1)) q.period ∙ list_place_is inst i q.m q.j in
+    ap (λ z. list_place inst i z t) q.start ∙ ap (list_place inst i (q.m + 1)) q.period ∙ list_place_is inst i q.m q.j
+    in
     let run = run_numbers inst i q.m q.j rows f h q.allowed (omega (arith, q.within)) in
     let before = start_numbers inst i q.m rows f h in
     let e : s - 1 ≡ q.m = omega (arith, q.start) in

@@ -153,7 +153,8 @@ impl Pull {
     }
 
     /// The next event, where it is a number without a sign and an exponent, of at most 7 digits before the point and 12
-    /// behind it, in a list or an object, and the comma behind it was pushed, or the bracket that closes the list, whose
+    /// behind it, in a list or an object, and the comma behind it was pushed, or the bracket that closes the list,
+    /// whose
     /// event comes next: its place and its exact value. `None` says nothing of the events that are due. It takes no
     /// memory, and is a shorter way to most numbers than `next_event`.
     #[inline]

@@ -1,6 +1,7 @@
 //! Bytes between tokens: brackets, commas, colons and blanks, and the first bytes of tokens.
 
-ghost use Rattle.std.specs.Prelude.{◌≡◌, ◌≢◌, [], ℕ, List, ◌+◌, IfOk, OnOk, OnErr, IfSome, IsTrue, not, true, false, ◌⊎◌};
+ghost use Rattle.std.specs.Prelude.{◌≡◌, ◌≢◌, [], ℕ, List, ◌+◌, IfOk, OnOk, OnErr, IfSome, IsTrue, not, true, false};
+ghost use Rattle.std.specs.Prelude.{◌⊎◌};
 ghost use Rattle.std.specs.Prelude.{drop};
 ghost use Rattle.json_machine.specs.Machines.{state_of, mode_of, levels_of, answer_of, IsSound, SameMachine};
 ghost use Rattle.json_machine.specs.Machines.{IsAtMostOne, AnswerNear};

@@ -34,7 +34,8 @@ BoundsCountChanges-proof b n =
     )
 
 -- a bound up to 10^36 says at most 10^18
-pub ceil_small : (b : ℤ) → unsigned_abs b ≤ 10 ^ 36 → ceil_of b 1_000_000_000_000_000_000 ≤ℤ pos 1_000_000_000_000_000_000
+pub ceil_small : (b : ℤ) → unsigned_abs b ≤ 10 ^ 36 → ceil_of b 1_000_000_000_000_000_000 ≤ℤ pos
+    1_000_000_000_000_000_000
 ceil_small b h =
     (IsCeil-ceil_of b 1_000_000_000_000_000_000 (omega arith)).least (pos 1_000_000_000_000_000_000)
     (omega (arith, signed_arith))

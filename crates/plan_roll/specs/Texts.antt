@@ -17,7 +17,8 @@ pub record HasSmallBands (inst : Tables) : Type 0 where
   pub upper : All (λ z. unsigned_abs z < 10 ^ 20) inst.upper
   pub lower : All (λ z. unsigned_abs z < 10 ^ 20) inst.lower
 
--- What the text of the rolled instance is read as: where bytes define the instance without a slack, the text defines, with
+-- What the text of the rolled instance is read as: where bytes define the instance without a slack, the text defines,
+-- with
 -- each slack, the rolled one of what the bytes define with that slack. The limits are the same.
 abbrev pub TextIsRead : Tables → List (Option ℕ) → ℕ → Type 0
 TextIsRead inst plan period =

@@ -1,5 +1,6 @@
 //! The interventions in progress in a period.
-ghost use Rattle.std.specs.Prelude.{◌≡◌, ◌*◌, ◌<◌, ◌≤◌, ◌^◌, length, IfOk, IsTrue, unsigned_abs, slice_index, map, Some};
+ghost use Rattle.std.specs.Prelude.{◌≡◌, ◌*◌, ◌<◌, ◌≤◌, ◌^◌, length, IfOk, IsTrue, unsigned_abs, slice_index, map};
+ghost use Rattle.std.specs.Prelude.{Some};
 ghost use Rattle.fixed_num.specs.Sums.{total};
 ghost use Rattle.instance_model.specs.Plans.{AreAllowedStarts, is_running};
 ghost use Rattle.instance_model.specs.RiskNumbers.{numbers_of};

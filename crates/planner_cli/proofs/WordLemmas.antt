@@ -8,7 +8,8 @@ use Rattle.planner_cli.specs.Words.{Command, evaluate, replay, check, given_plan
 use Rattle.planner_cli.specs.Words.{replaying, checking, evaluate_of, replay_of, check_of, IsOneCommand}
 use Rattle.planner_cli.specs.Words.{solve, are_file_words, are_apart, solving, solve_files, solve_of}
 use Rattle.planner_cli.specs.Words.{table, tabling, table_of, after_check, after_replay, after_evaluate}
-use Rattle.planner_cli.specs.Words.{after_solve, after_table, names_differ, rebound, rebounding, rebound_of, roll, rolling}
+use Rattle.planner_cli.specs.Words.{after_solve, after_table, names_differ, rebound, rebounding, rebound_of, roll}
+use Rattle.planner_cli.specs.Words.{rolling}
 use Rattle.planner_cli.specs.Words.{roll_files, roll_of, after_rebound, rehearse, rehearsing, rehearse_of}
 use Rattle.command_words.specs.Numbers.{is_file_word, slack_of, turns_of, period_of, seed_of, count_of}
 use Rattle.command_solve.specs.Solving.{SolveFiles}

@@ -1,6 +1,7 @@
 -- Starts whose kept numbers are least, as the code finds them, and sums over them.
 use Rattle.std.proofs.Common.{◌≡◌, ℕ, ◌+◌, ◌*◌, ◌<◌, ◌≤◌, ◌⊎◌, inl, inr, refl, sym, ◌∙◌, ap, subst, arith, ℤ, pos, ◌+ℤ◌}
-use Rattle.std.proofs.Common.{◌-ℤ◌, ◌*ℤ◌, ◌≤ℤ◌, List, [], ◌∷◌, ◌++◌, length, get_or, IsTrue, unsigned_abs, ◌^◌, to_z, FitsSigned}
+use Rattle.std.proofs.Common.{◌-ℤ◌, ◌*ℤ◌, ◌≤ℤ◌, List, [], ◌∷◌, ◌++◌, length, get_or, IsTrue, unsigned_abs, ◌^◌, to_z}
+use Rattle.std.proofs.Common.{FitsSigned}
 use Rattle.std.specs.Int.{w128}
 use Rattle.std.proofs.lemmas.Bool.{cases_lt}
 use Rattle.std.proofs.lemmas.Int.{to_z_pos, fits_signed_from_abs}
@@ -70,7 +71,11 @@ choice_more inst entries n choice more s h e here = record {
   where
     at : (i : ℕ) → i < n + 1 → (i < n) ⊎ (n ≤ i) → IsLeastStart inst entries i (get_or more i 0)
     at i l (inl b) = subst (IsLeastStart inst entries i)
-        (sym (ap (λ (xs : List ℕ). get_or xs i 0) e ∙ get_or_append_left choice (s ∷ []) 0 i (omega (arith, b, h.each))))
+        (sym (ap (λ (xs : List ℕ). get_or xs i 0) e ∙ get_or_append_left choice (s ∷ []) 0 i (omega (
+          arith,
+          b,
+          h.each,
+        ))))
         (h.at i b)
     at i l (inr b) =
         let q : n ≡ i = omega (arith, l, b) in

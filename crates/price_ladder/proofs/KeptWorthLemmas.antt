@@ -179,7 +179,8 @@ pub settled_kept : (inst : Tables) (prices : PriceList) (entries : List ℤ) (fi
 settled_kept inst prices entries fixed beside values bases f s =
     let kept : AreValues inst (price_at inst prices) beside.entries.items =
     subst (AreValues inst (price_at inst prices)) (sym s.same) values in
-    let g : beside.worth ≡ sum_over inst (kept_at inst beside.entries.items) beside.choice.items +ℤ fixed_part inst prices =
+    let g : beside.worth ≡ sum_over inst (kept_at inst beside.entries.items) beside.choice.items +ℤ fixed_part inst
+    prices =
     s.total ∙ ap (λ (z : ℤ). sum_over inst (kept_at inst beside.entries.items) beside.choice.items +ℤ z) f in
     record {
       values = kept;
@@ -292,7 +293,8 @@ pub switched : (inst : Tables) (old new : PriceList) (t : ℕ) (tail : Option Ta
     → AreValues inst (shifted_of inst before after entries) more → fixed ≡ fixed_part inst old
     → IsSettled inst more fixed beside → IsBeside inst new beside
 switched inst old new t tail before after entries more fixed beside f e values b d small m is s =
-    settled_kept inst new more fixed beside (shifted_values inst old new t tail before after entries more e values b d m)
+    settled_kept inst new more fixed beside (shifted_values inst old new t tail before after entries more e values b d
+    m)
     (small_bases inst new after f d small) (is ∙ sym (tail_fixed inst old new t tail e)) s
 
 pub shifted_small : (inst : Tables) (before after entries more : List ℤ) → AreSmall inst (10 ^ 30) before

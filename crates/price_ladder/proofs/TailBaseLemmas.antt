@@ -33,7 +33,8 @@ base_idle inst old new t tail i s one e idle =
     at u true r =
         let apart : (u + 1) - 1 ≢ t - 1 = λ q. let p : u + 1 ≡ t = omega (arith, q, one) in
         unequal (in_run inst i s t) (subst (λ (k : ℕ). in_run inst i s k ≡ true) p r) idle in
-        ap (λ (x : Option Tail). term_of inst x i s (u + 1)) (get_or-set_other old.tails (t - 1) ((u + 1) - 1) tail _ apart)
+        ap (λ (x : Option Tail). term_of inst x i s (u + 1)) (get_or-set_other old.tails (t - 1) ((u + 1) - 1) tail _
+        apart)
 
 pub rebased_idle : (inst : Tables) (prices : PriceList) (t : ℕ) (bases : List ℤ) (i s : ℕ) (z : ℤ)
     → in_run inst i s t ≡ false → z ≡ kept_at inst bases i s → unsigned_abs z < 10 ^ 30

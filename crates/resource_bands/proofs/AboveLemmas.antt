@@ -87,7 +87,8 @@ load_after-same inst board first second c t load after each can same el ea =
     ap (λ (i : ℕ). set (set board i (Some first.to)) second.i (Some second.to)) same
     ∙ set-set board second.i (Some first.to) (Some second.to) in
     let moved = load_sum-set inst board second.i c t (Some second.to) each can.number in
-    ea ∙ ap (λ (x : ℤ). x +ℤ (load_at inst c t second.i (Some second.to) -ℤ load_at inst c t second.i (Some second.from)))
+    ea ∙ ap (λ (x : ℤ). x +ℤ (load_at inst c t second.i (Some second.to) -ℤ load_at inst c t second.i (Some
+    second.from)))
     el
     ∙ ap (λ (o : Option ℕ). load_sum inst board c t +ℤ (load_at inst c t second.i (Some second.to)
     -ℤ load_at inst c t second.i o)) (sym can.before) ∙ sym moved
@@ -120,4 +121,6 @@ load_after-both inst board first second c t load between after each one two othe
 pub handed_on : (limit gap number : ℤ) → FitsSigned w128 limit → number ≡ gap
     → IsTrue (lt_z (to_z w128 (of_z w128 limit)) number) → limit <ℤ gap
 handed_on limit gap number fits e h =
-    subst (λ (x : ℤ). limit <ℤ x) e (subst (λ (x : ℤ). x <ℤ number) (to_z-of_z fits) (record { lt = subst T (sym h) tt }))
+    subst (λ (x : ℤ). limit <ℤ x) e (subst (λ (x : ℤ). x <ℤ number) (to_z-of_z fits) (record {
+      lt = subst T (sym h) tt;
+    }))

@@ -55,7 +55,12 @@ rise_from-next inst runs periods from t one l idle =
     let f : ℕ → ℤ = λ u. rise_at inst runs periods (u + 1) in
     let e : from - 1 + (t - from) ≡ t - 1 = omega (arith, one, l) in
     let s = sum_below-idle f (from - 1) (t - from)
-    (λ u a b. rise_at-idle inst runs periods (u + 1) (idle (u + 1) (omega (arith, a, one)) (omega (arith, b, one, l)))) in
+    (λ u a b. rise_at-idle inst runs periods (u + 1) (idle (u + 1) (omega (arith, a, one)) (omega (
+      arith,
+      b,
+      one,
+      l,
+    )))) in
     ap (λ (x : ℤ). sum_below inst.periods f -ℤ x) (sym s ∙ ap (λ (n : ℕ). sum_below n f) e)
 
 -- the next period, and those behind it

@@ -15,7 +15,8 @@ use Rattle.scenario_rows.specs.Changes.{changed, changed_sums}
 use Rattle.scenario_rows.specs.Shifts.{IsIdle, shifted, shifted_by, CanShift}
 use Rattle.scenario_rows.proofs.ListLemmas.{total_small}
 use Rattle.scenario_rows.proofs.RowLemmas.{total_changed}
-use Rattle.scenario_rows.proofs.ShiftLemmas.{CanShift-rest, length-shifted, shifted-idle, shifted-running, shifted-by_risks}
+use Rattle.scenario_rows.proofs.ShiftLemmas.{CanShift-rest, length-shifted, shifted-idle, shifted-running}
+use Rattle.scenario_rows.proofs.ShiftLemmas.{shifted-by_risks}
 
 -- the runs that are left change these sums to those at the end
 pub record IsOnTheWay (inst : Tables) (t : ℕ) (left : List RunChange) (end sums : List ℤ) : Type 0 where

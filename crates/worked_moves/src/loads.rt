@@ -54,7 +54,8 @@ fn a_run_goes_off_board_and_on(rt: HostRuntime) -> Result<(), Fail> {
     Ok(())
 }
 
-/// Whether the load is too high after the one run is moved from period 2 to period 1, by more than 1 and by more than 2,
+/// Whether the load is too high after the one run is moved from period 2 to period 1, by more than 1 and by more than
+/// 2,
 /// and whether it is where the run stays; none where a start isn't allowed.
 fn looked_up(alloc: Global, inst: &Instance) -> Result<Option<[bool; 3]>, AllocError>
     requires { length inst.now.names ≡ 1 }

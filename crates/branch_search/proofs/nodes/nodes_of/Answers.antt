@@ -16,18 +16,23 @@ loop-step-init c = record {
 
 pub bounds-cells-k : goal.bounds-cells-k
 bounds-cells-k c = top_known c.args.cells.now c.requires.0 c.loop-step.nodes.items c.pop.new.self.items c.in-Some.k
-    (at_top c.args.cells.now c.requires.0 c.loop-step.nodes.items c.loop-step.stack.items c.pop.new.self.items c.in-Some.k (c.loop-step.invariant.listed c.requires.0 c.requires.1) c.in-Some.ensures.items)
+    (at_top c.args.cells.now c.requires.0 c.loop-step.nodes.items c.loop-step.stack.items c.pop.new.self.items
+    c.in-Some.k (c.loop-step.invariant.listed c.requires.0 c.requires.1) c.in-Some.ensures.items)
 
 pub offset_bounds-cells-k : goal.offset_bounds-cells-k
 offset_bounds-cells-k c =
     let q : c.in-Some.k < length c.args.cells.now = top_known c.args.cells.now c.requires.0 c.loop-step.nodes.items
-    c.pop.new.self.items c.in-Some.k (at_top c.args.cells.now c.requires.0 c.loop-step.nodes.items c.loop-step.stack.items c.pop.new.self.items c.in-Some.k (c.loop-step.invariant.listed c.requires.0 c.requires.1) c.in-Some.ensures.items) in
+    c.pop.new.self.items c.in-Some.k (at_top c.args.cells.now c.requires.0 c.loop-step.nodes.items
+    c.loop-step.stack.items c.pop.new.self.items c.in-Some.k (c.loop-step.invariant.listed c.requires.0
+    c.requires.1) c.in-Some.ensures.items) in
     search rules
 
 pub overflow_add-cell : goal.overflow_add-cell
 overflow_add-cell c =
     let q = (split_listed c.args.cells.now c.requires.0 c.loop-step.nodes.items c.pop.new.self.items c.in-Some.k
-    c.in-Split.i c.in-Split.last (at_top c.args.cells.now c.requires.0 c.loop-step.nodes.items c.loop-step.stack.items c.pop.new.self.items c.in-Some.k (c.loop-step.invariant.listed c.requires.0 c.requires.1) c.in-Some.ensures.items) c.in-Split.is).known in
+    c.in-Split.i c.in-Split.last (at_top c.args.cells.now c.requires.0 c.loop-step.nodes.items c.loop-step.stack.items
+    c.pop.new.self.items c.in-Some.k (c.loop-step.invariant.listed c.requires.0 c.requires.1)
+    c.in-Some.ensures.items) c.in-Split.is).known in
     search rules
 
 pub loop-step-preserved : goal.loop-step-preserved
@@ -44,10 +49,13 @@ loop-step-preserved c =
           c.in_ok-push-2.ensures.items,
         )
             (split_listed c.args.cells.now s c.loop-step.nodes.items c.pop.new.self.items c.in-Some.k
-            w.in-Split.i w.in-Split.last (at_top c.args.cells.now s c.loop-step.nodes.items c.loop-step.stack.items c.pop.new.self.items c.in-Some.k (c.loop-step.invariant.listed s h) c.in-Some.ensures.items) w.in-Split.is).listed
+            w.in-Split.i w.in-Split.last (at_top c.args.cells.now s c.loop-step.nodes.items c.loop-step.stack.items
+            c.pop.new.self.items c.in-Some.k (c.loop-step.invariant.listed s h) c.in-Some.ensures.items)
+            w.in-Split.is).listed
         | in_default-node w ↦ rw (w.stack-is, c.in_ok-push-2.ensures.items)
             (leaf_listed c.args.cells.now s c.loop-step.nodes.items c.pop.new.self.items c.in-Some.k
-            (at_top c.args.cells.now s c.loop-step.nodes.items c.loop-step.stack.items c.pop.new.self.items c.in-Some.k (c.loop-step.invariant.listed s h) c.in-Some.ensures.items) w.in_default-node.not-Split)
+            (at_top c.args.cells.now s c.loop-step.nodes.items c.loop-step.stack.items c.pop.new.self.items
+            c.in-Some.k (c.loop-step.invariant.listed s h) c.in-Some.ensures.items) w.in_default-node.not-Split)
       ];
     }
 

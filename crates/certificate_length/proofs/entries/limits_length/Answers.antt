@@ -14,7 +14,8 @@ loop-c-init c =
     let none : 0 * inst.periods ≡ 0 = omega arith in
     ap (λ (ls : List CertificateLine). counted_length (text_of_lines ls))
     (sym (limits_none (limit_form c.args.side) inst.periods 0))
-    ∙ ap (λ (k : ℕ). counted_length (text_of_lines (limit_lines (limit_form c.args.side) inst.periods 0 (take k table))))
+    ∙ ap (λ (k : ℕ). counted_length (text_of_lines (limit_lines (limit_form c.args.side) inst.periods 0 (take k
+    table))))
     (sym none)
 
 pub loop-c-preserved : goal.loop-c-preserved

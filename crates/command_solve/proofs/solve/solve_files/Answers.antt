@@ -18,7 +18,8 @@ returns-in-Ok g c =
     let new = g.D.Desk.shows c.solve_instance.new.desk in
     let read = c.in-Ok.ensures in
     let status = c.solve_instance.result in
-    solve_runs standard_limits source files c.args.turns old new c.requires.distinct (g.met.D.Desk.names c.args.desk.now)
+    solve_runs standard_limits source files c.args.turns old new c.requires.distinct (g.met.D.Desk.names
+    c.args.desk.now)
     status
     (solution_ends source files c.args.turns old mid new read.only_reads c.in-Ok.inst status
     (subst (λ (l : Limits). ReadsInstance l source old c.in-Ok.inst) c.standard-limits.ensures read.ok) read.last
@@ -34,7 +35,8 @@ returns-in-Err g c =
     let mid = g.D.Desk.shows c.instance_of.new.desk in
     let new = g.D.Desk.shows c.refuse.new.desk in
     let read = c.in-Err.ensures in
-    solve_runs standard_limits source files c.args.turns old new c.requires.distinct (g.met.D.Desk.names c.args.desk.now)
+    solve_runs standard_limits source files c.args.turns old new c.requires.distinct (g.met.D.Desk.names
+    c.args.desk.now)
     c.refuse.result
     (refused_ends source files c.args.turns old mid new read.only_reads c.in-Err.refusal c.refuse.result
     c.refuse.ensures.keeps read.kept

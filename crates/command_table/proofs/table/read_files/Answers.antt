@@ -25,7 +25,8 @@ returns-in_err-plan-clause-err g c =
     let new = g.D.Desk.shows c.plan_of.new.desk in
     let p = err_from_is_err_and c.from_residual-in_err-plan.result c.from_residual-in_err-plan.ensures.1 in
     rw (p.1, p.2)
-    (λ from to. refuses_plan c.args.limits.now (source_view c.args.source.now) c.args.plan.now old mid new c.in_ok-inst.inst
+    (λ from to. refuses_plan c.args.limits.now (source_view c.args.source.now) c.args.plan.now old mid new
+    c.in_ok-inst.inst
     (λ i q. Tabulates i q from to) _ c.in_ok-inst.ensures.ok
     (is_read c.args.source.now.instance.now old mid c.in_ok-inst.ensures.read c.in_ok-inst.ensures.only_reads.later)
     c.in_err-plan.ensures.err)
@@ -41,7 +42,8 @@ pub returns-clause-ok : goal.returns-clause-ok
 returns-clause-ok g c =
     let old = g.D.Desk.shows c.args.desk.now in
     let mid = g.D.Desk.shows c.instance_of.new.desk in
-    table_reads c.args.limits.now (source_view c.args.source.now) c.args.plan.now old mid c.in_ok-inst.inst c.in_ok-plan.plan
+    table_reads c.args.limits.now (source_view c.args.source.now) c.args.plan.now old mid c.in_ok-inst.inst
+    c.in_ok-plan.plan
     c.in_ok-inst.ensures.ok
     (is_read c.args.source.now.instance.now old mid c.in_ok-inst.ensures.read c.in_ok-inst.ensures.only_reads.later)
     c.in_ok-plan.ensures.ok c.in_ok-plan.ensures.each

@@ -18,7 +18,8 @@ returns-in-Ok g c =
     let plan = c.args.plan.now in
     let limits = c.standard-limits.result in
     let e = c.in-Ok.ensures in
-    subst (λ (l : Limits). RunsTable l source plan c.args.from c.args.to old new c.table_read.result) c.standard-limits.ensures
+    subst (λ (l : Limits). RunsTable l source plan c.args.from c.args.to old new c.table_read.result)
+    c.standard-limits.ensures
     (table_runs limits source plan c.args.from c.args.to old new c.table_read.result
     (answer_ends
     (λ at. AnswersTable limits (reading old at) source.slack source.instance plan c.args.from c.args.to) old
@@ -38,7 +39,8 @@ returns-in-Err g c =
     let plan = c.args.plan.now in
     let limits = c.standard-limits.result in
     let e = c.in-Err.ensures in
-    subst (λ (l : Limits). RunsTable l source plan c.args.from c.args.to old new c.refuse.result) c.standard-limits.ensures
+    subst (λ (l : Limits). RunsTable l source plan c.args.from c.args.to old new c.refuse.result)
+    c.standard-limits.ensures
     (table_runs limits source plan c.args.from c.args.to old new c.refuse.result
     (refusal_ends
     (λ at. AnswersTable limits (reading old at) source.slack source.instance plan c.args.from c.args.to) old

@@ -8,10 +8,12 @@ small n i h l =
 
 pub overflow_mul-number : goal.overflow_mul-number
 overflow_mul-number c =
-    let i : c.loop-digit.digit-index ≤ 20 = omega (arith, c.requires.short) in let n = small c.loop-digit.number c.loop-digit.digit-index
+    let i : c.loop-digit.digit-index ≤ 20 = omega (arith, c.requires.short) in let n = small c.loop-digit.number
+    c.loop-digit.digit-index
     c.loop-digit.invariant.small i in omega (arith, n)
 
 pub overflow_add-number : goal.overflow_add-number
 overflow_add-number c =
-    let i : c.loop-digit.digit-index ≤ 20 = omega (arith, c.requires.short) in let n = small c.loop-digit.number c.loop-digit.digit-index
+    let i : c.loop-digit.digit-index ≤ 20 = omega (arith, c.requires.short) in let n = small c.loop-digit.number
+    c.loop-digit.digit-index
     c.loop-digit.invariant.small i in omega (arith, n)

@@ -7,7 +7,8 @@ use Rattle.instance_gen.proofs.draws.durations.Goals as goal
 pub loop-k-init : goal.loop-k-init
 unfolding with_durations
 loop-k-init c =
-    ap (λ (durations : List ℕ). record { source = c.args.source.now; durations = durations }) c.new-durations.ensures.items
+    ap (λ (durations : List ℕ). record { source = c.args.source.now; durations = durations })
+    c.new-durations.ensures.items
 
 pub loop-k-preserved : goal.loop-k-preserved
 loop-k-preserved c =

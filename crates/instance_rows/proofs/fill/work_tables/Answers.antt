@@ -1,4 +1,5 @@
-use Rattle.std.proofs.Common.{◌≡◌, ℕ, ◌++◌, ◌<◌, [], ◌∷◌, List, Vec, Global, map, length, get_or, string_bytes, sym, ◌∙◌, ap}
+use Rattle.std.proofs.Common.{◌≡◌, ℕ, ◌++◌, ◌<◌, [], ◌∷◌, List, Vec, Global, map, length, get_or, string_bytes, sym}
+use Rattle.std.proofs.Common.{◌∙◌, ap}
 use Rattle.std.proofs.Common.{subst, arith, length-append, ◌≤◌}
 use Rattle.std.proofs.lemmas.Iterator.Adapters.{YieldsList-from_vec}
 use Rattle.std.proofs.lemmas.Iterator.Consumers.{YieldsList-turn}
@@ -73,7 +74,8 @@ add_work-requires-clause-order c =
       count c.args.periods names c.loop-work.yielded c.loop-work.tables c.loop-work.invariant.tables,
     ) in
     own_order c.args.periods works c.args.orders.now c.loop-work.orders n c.in-Some.work c.replace-order.result
-    c.index-orders-len.result c.requires.orders (record { below = t.0; item = t.1 }) (λ d. c.loop-work.invariant.rest n d (omega arith)) (c.replace-order.ensures.value
+    c.index-orders-len.result c.requires.orders (record { below = t.0; item = t.1 }) (λ d. c.loop-work.invariant.rest
+    n d (omega arith)) (c.replace-order.ensures.value
     ∙ ap (λ k. get_or c.loop-work.orders k c.index-orders-len.result) i)
 
 pub loop-work-preserved : goal.loop-work-preserved

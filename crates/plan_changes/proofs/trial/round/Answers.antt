@@ -25,7 +25,13 @@ loop-i-preserved c =
           record {
             trial = c.go_back.ensures.trial;
             rounds = round_goes inst old from mid new c.loop-i.any c.if-go_back.any c.loop-i.i c.loop-i.invariant.rounds
-                (omega (arith, c.loop-i-test.true, c.len-i-end.ensures, c.requires.each, c.loop-i.invariant.trial.each)) goes
+                (omega (
+                  arith,
+                  c.loop-i-test.true,
+                  c.len-i-end.ensures,
+                  c.requires.each,
+                  c.loop-i.invariant.trial.each,
+                )) goes
                 w.any-is;
           }
       | else-go_back w ↦
@@ -36,7 +42,8 @@ loop-i-preserved c =
           c.go_back.ensures.cannot in
           record {
             trial = c.go_back.ensures.trial;
-            rounds = round_stays inst old from mid new c.loop-i.any c.if-go_back.any c.loop-i.i c.loop-i.invariant.rounds
+            rounds = round_stays inst old from mid new c.loop-i.any c.if-go_back.any c.loop-i.i
+                c.loop-i.invariant.rounds
                 same cannot w.any-is;
           }
     ]

@@ -27,5 +27,6 @@ loop-i-preserved c =
     }
 
 pub returns-clause-value : goal.returns-clause-value
-returns-clause-value c = sum_over_all c.args.inst.now (kept_at c.args.inst.now c.args.entries.now) c.args.starts.now c.loop-i.i _
+returns-clause-value c = sum_over_all c.args.inst.now (kept_at c.args.inst.now c.args.entries.now) c.args.starts.now
+    c.loop-i.i _
     (omega arith) c.loop-i.invariant.value

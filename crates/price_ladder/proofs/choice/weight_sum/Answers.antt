@@ -22,5 +22,6 @@ loop-i-preserved c =
     }
 
 pub returns-clause-value : goal.returns-clause-value
-returns-clause-value c = sum_over_all c.args.inst.now (weight_of c.args.inst.now c.args.place) c.args.starts.now c.loop-i.i _
+returns-clause-value c = sum_over_all c.args.inst.now (weight_of c.args.inst.now c.args.place) c.args.starts.now
+    c.loop-i.i _
     (omega arith) c.loop-i.invariant.value

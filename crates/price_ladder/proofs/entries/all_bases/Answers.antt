@@ -18,13 +18,16 @@ loop-k-preserved c =
     let is : by_bits c.base_at.result ≡ c.base_at.result =
     back_from_abs c.base_at.result (omega (arith, c.base_at.ensures.small)) in
     record {
-      values = values_more c.args.inst.now (risk_base c.args.inst.now c.args.prices.now) c.loop-k.k c.loop-k.entries.items _ (by_bits c.base_at.result)
+      values = values_more c.args.inst.now (risk_base c.args.inst.now c.args.prices.now) c.loop-k.k
+          c.loop-k.entries.items _ (by_bits c.base_at.result)
           c.loop-k.invariant.values c.in_ok-push.ensures.items (λ a. is ∙ c.base_at.ensures.value a);
       small = subst (λ (xs : List ℤ). All (λ z. unsigned_abs z < 10 ^ 30) xs) (sym c.in_ok-push.ensures.items)
-          (All-push (λ z. unsigned_abs z < 10 ^ 30) c.loop-k.entries.items (by_bits c.base_at.result) c.loop-k.invariant.small
+          (All-push (λ z. unsigned_abs z < 10 ^ 30) c.loop-k.entries.items (by_bits c.base_at.result)
+          c.loop-k.invariant.small
           (subst (λ (z : ℤ). unsigned_abs z < 10 ^ 30) (sym is) c.base_at.ensures.small));
     }
 
 pub returns-clause-value : goal.returns-clause-value
-returns-clause-value c = values_all c.args.inst.now (risk_base c.args.inst.now c.args.prices.now) c.loop-k.k c.loop-k.entries.items c.fits.ensures (omega arith)
+returns-clause-value c = values_all c.args.inst.now (risk_base c.args.inst.now c.args.prices.now) c.loop-k.k
+    c.loop-k.entries.items c.fits.ensures (omega arith)
     c.loop-k.invariant.values

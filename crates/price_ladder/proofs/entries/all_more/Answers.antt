@@ -7,7 +7,8 @@ use Rattle.price_ladder.proofs.entries.all_more.Goals as goal
 
 pub loop-k-init : goal.loop-k-init
 loop-k-init c = record {
-  values = values_none c.args.inst.now (more_of c.args.inst.now c.args.place (by_bits c.args.times) c.args.entries.now) c.in_ok-new.new.items c.in_ok-new.ensures.items;
+  values = values_none c.args.inst.now (more_of c.args.inst.now c.args.place (by_bits c.args.times)
+      c.args.entries.now) c.in_ok-new.new.items c.in_ok-new.ensures.items;
 }
 
 pub loop-k-preserved : goal.loop-k-preserved
@@ -15,7 +16,8 @@ loop-k-preserved c =
     let is : by_bits c.more_at.result ≡ c.more_at.result =
     back_from_abs c.more_at.result (omega (arith, c.more_at.ensures.small)) in
     record {
-      values = values_more c.args.inst.now (more_of c.args.inst.now c.args.place (by_bits c.args.times) c.args.entries.now) c.loop-k.k c.loop-k.new.items _ (by_bits c.more_at.result)
+      values = values_more c.args.inst.now (more_of c.args.inst.now c.args.place (by_bits c.args.times)
+          c.args.entries.now) c.loop-k.k c.loop-k.new.items _ (by_bits c.more_at.result)
           c.loop-k.invariant.values c.in_ok-push.ensures.items (λ a. is ∙ c.more_at.ensures.value a);
     }
 

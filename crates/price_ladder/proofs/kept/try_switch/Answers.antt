@@ -6,7 +6,8 @@ use Rattle.lagrange_bound.specs.Prices.{PriceList}
 use Rattle.price_ladder.specs.Kept.{AreSmall, AreValues, rebased_of, gap_of, sum_over}
 use Rattle.price_ladder.specs.Beside.{IsBeside}
 use Rattle.price_ladder.proofs.KeptLemmas.{entries_small, fixed_small}
-use Rattle.price_ladder.proofs.KeptWorthLemmas.{switched, rebased_values, tail_bounded, raised_is, falls_below, shifted_small, small_from_all, kept_bases, below_target}
+use Rattle.price_ladder.proofs.KeptWorthLemmas.{switched, rebased_values, tail_bounded, raised_is, falls_below}
+use Rattle.price_ladder.proofs.KeptWorthLemmas.{shifted_small, small_from_all, kept_bases, below_target}
 use Rattle.price_ladder.proofs.KeptWorthLemmas.{reaches_target}
 use Rattle.price_ladder.proofs.PlainLemmas.{tail_failed}
 use Rattle.price_ladder.proofs.kept.try_switch.Goals as goal

@@ -22,5 +22,6 @@ loop-i-preserved c =
     }
 
 pub returns-clause-value : goal.returns-clause-value
-returns-clause-value c = sum_over_all c.args.inst.now (gap_of c.args.inst.now c.args.prices.now c.args.t c.args.bases.now) c.args.starts.now c.loop-i.i _
+returns-clause-value c = sum_over_all c.args.inst.now (gap_of c.args.inst.now c.args.prices.now c.args.t
+    c.args.bases.now) c.args.starts.now c.loop-i.i _
     (omega arith) c.loop-i.invariant.value

@@ -12,7 +12,8 @@ returns-then-not-in_run-clause-value c =
 
 pub returns-then-not-in_run-clause-small : goal.returns-then-not-in_run-clause-small
 returns-then-not-in_run-clause-small c =
-    let small = entry_read c.args.inst.now (10 ^ 30) c.args.bases.now c.args.i c.args.s c.entry.result _ c.requires.bases
+    let small = entry_read c.args.inst.now (10 ^ 30) c.args.bases.now c.args.i c.args.s c.entry.result _
+    c.requires.bases
     c.requires.number refl c.requires.allowed c.entry.ensures in
     back_small c.entry.result small
 

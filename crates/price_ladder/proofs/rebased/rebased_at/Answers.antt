@@ -10,6 +10,7 @@ allowed-requires c = place_row c.args.inst.now c.args.k c.periods-periods.result
 
 pub returns-clause-value : goal.returns-clause-value
 returns-clause-value c = λ a.
-    at_place c.args.inst.now (rebased_of c.args.inst.now c.args.prices.now c.args.t c.args.bases.now) c.args.k c.periods-periods.result _
+    at_place c.args.inst.now (rebased_of c.args.inst.now c.args.prices.now c.args.t c.args.bases.now) c.args.k
+    c.periods-periods.result _
     c.periods-periods.ensures.value
     (back_from_abs c.rebased.result (omega (arith, c.rebased.ensures.small)) ∙ c.rebased.ensures.value)

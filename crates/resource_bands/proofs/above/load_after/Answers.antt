@@ -59,7 +59,8 @@ returns-then-first-second-clause-value c =
     let load : c.of-load.result ≡ load_sum inst c.args.loads.now.board c.args.c c.args.t =
     c.of-load.ensures ∙ back_from_abs c.load.result (omega (arith, c.load.ensures.small))
     ∙ c.load.ensures.value inst c.requires.over in
-    let after = load_after-same inst c.args.loads.now.board c.args.first c.args.second c.args.c c.args.t c.of-load.result
+    let after = load_after-same inst c.args.loads.now.board c.args.first c.args.second c.args.c c.args.t
+    c.of-load.result
     c.load_moved.result c.requires.over.each c.requires.second c.if-first-second.true load c.load_moved.ensures in
     after
 
@@ -69,7 +70,8 @@ returns-then-first-second-clause-small c =
     let load : c.of-load.result ≡ load_sum inst c.args.loads.now.board c.args.c c.args.t =
     c.of-load.ensures ∙ back_from_abs c.load.result (omega (arith, c.load.ensures.small))
     ∙ c.load.ensures.value inst c.requires.over in
-    let after = load_after-same inst c.args.loads.now.board c.args.first c.args.second c.args.c c.args.t c.of-load.result
+    let after = load_after-same inst c.args.loads.now.board c.args.first c.args.second c.args.c c.args.t
+    c.of-load.result
     c.load_moved.result c.requires.over.each c.requires.second c.if-first-second.true load c.load_moved.ensures in
     let small = load_sum_small inst (board_after c.args.first c.args.second c.args.loads.now.board) c.args.c c.args.t
     c.fits.ensures in
@@ -81,7 +83,8 @@ returns-else-first-second-clause-value c =
     let load : c.of-load.result ≡ load_sum inst c.args.loads.now.board c.args.c c.args.t =
     c.of-load.ensures ∙ back_from_abs c.load.result (omega (arith, c.load.ensures.small))
     ∙ c.load.ensures.value inst c.requires.over in
-    let after = load_after-both inst c.args.loads.now.board c.args.first c.args.second c.args.c c.args.t c.of-load.result
+    let after = load_after-both inst c.args.loads.now.board c.args.first c.args.second c.args.c c.args.t
+    c.of-load.result
     c.load_moved-else-first-second.result c.load_moved-else-first-second-2.result c.requires.over.each c.requires.first
     c.requires.second c.if-first-second.false load c.load_moved-else-first-second.ensures
     c.load_moved-else-first-second-2.ensures in
@@ -93,7 +96,8 @@ returns-else-first-second-clause-small c =
     let load : c.of-load.result ≡ load_sum inst c.args.loads.now.board c.args.c c.args.t =
     c.of-load.ensures ∙ back_from_abs c.load.result (omega (arith, c.load.ensures.small))
     ∙ c.load.ensures.value inst c.requires.over in
-    let after = load_after-both inst c.args.loads.now.board c.args.first c.args.second c.args.c c.args.t c.of-load.result
+    let after = load_after-both inst c.args.loads.now.board c.args.first c.args.second c.args.c c.args.t
+    c.of-load.result
     c.load_moved-else-first-second.result c.load_moved-else-first-second-2.result c.requires.over.each c.requires.first
     c.requires.second c.if-first-second.false load c.load_moved-else-first-second.ensures
     c.load_moved-else-first-second-2.ensures in

@@ -145,7 +145,8 @@ returns-clause-value g t c =
     c.index-periods-t.is).0 in
     let e = rise_here inst runs periods c.args.from u p c.part.result c.requires.from c.next_touched-t.ensures.from
     c.next_touched-t.ensures.idle at c.part.ensures.value
-    ∙ ap (λ (x : ℤ). (x -ℤ c.part.result) +ℤ rise_from inst runs periods (u + 1)) (sym c.part_after-part.ensures.value) in
+    ∙ ap (λ (x : ℤ). (x -ℤ c.part.result) +ℤ rise_from inst runs periods (u + 1)) (sym
+    c.part_after-part.ensures.value) in
     let bound = c.plus-bound.ensures ∙ ap (λ (x : ℤ). x +ℤ c.least_part_after-least.result) c.minus.ensures in
     let after = c.in_ok-after.ensures.value
     ∙ ap (λ (x : ℤ). x +ℤ rise_from inst runs periods (u + 1)) bound in
@@ -172,7 +173,8 @@ returns-clause-none g t c =
     c.index-periods-t.is).0 in
     let e = rise_here inst runs periods c.args.from u p c.part.result c.requires.from c.next_touched-t.ensures.from
     c.next_touched-t.ensures.idle at c.part.ensures.value
-    ∙ ap (λ (x : ℤ). (x -ℤ c.part.result) +ℤ rise_from inst runs periods (u + 1)) (sym c.part_after-part.ensures.value) in
+    ∙ ap (λ (x : ℤ). (x -ℤ c.part.result) +ℤ rise_from inst runs periods (u + 1)) (sym
+    c.part_after-part.ensures.value) in
     let bound = c.plus-bound.ensures ∙ ap (λ (x : ℤ). x +ℤ c.least_part_after-least.result) c.minus.ensures in
     let after = c.in_ok-after.ensures.value
     ∙ ap (λ (x : ℤ). x +ℤ rise_from inst runs periods (u + 1)) bound in

@@ -14,5 +14,6 @@ sum_after-requires c =
 
 pub returns : goal.returns
 returns c =
-    changed_by-from c.args.change (numbers_of c.args.risks) c.args.sums.now c.loop-k.sums c.loop-k.invariant.each (λ k l.
+    changed_by-from c.args.change (numbers_of c.args.risks) c.args.sums.now c.loop-k.sums c.loop-k.invariant.each (λ k
+    l.
     c.loop-k.invariant.done k (omega (arith, l, c.requires.each)))

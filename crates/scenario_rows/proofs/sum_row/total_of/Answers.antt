@@ -49,4 +49,5 @@ loop-sum-preserved g c =
     }
 
 pub returns-clause-total : goal.returns-clause-total
-returns-clause-total g c = c.loop-sum.invariant.value ∙ ap total (take_all c.loop-sum.sum-index c.args.sums.now (omega arith))
+returns-clause-total g c = c.loop-sum.invariant.value ∙ ap total (take_all c.loop-sum.sum-index c.args.sums.now (omega
+    arith))

@@ -5,5 +5,6 @@ use Rattle.branch_search.proofs.waiting.Waiting.push.Goals as goal
 
 pub returns : goal.returns
 returns c =
-    let p = IsPermutation-map {X = ℤ × ℕ} (λ (r : Reverse (ℤ × Reverse ℕ)). (r.0.0, r.0.1.0)) _ _ c.in_ok-push.ensures.permutation in
+    let p = IsPermutation-map {X = ℤ × ℕ} (λ (r : Reverse (ℤ × Reverse ℕ)). (r.0.0, r.0.1.0)) _ _
+    c.in_ok-push.ensures.permutation in
     rw (← c.self.view_is) (rw (to_z-of_z c.ranges.worth) at p)

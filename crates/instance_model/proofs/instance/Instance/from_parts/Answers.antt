@@ -14,7 +14,8 @@ pub invariant_of-result : goal.invariant_of-result
 invariant_of-result c =
     let sums = subst (λ (xs : List ℕ). AreSums xs c.in_ok-scenarios_before.scenarios_before.items)
     c.as_slice.ensures.value c.in_ok-scenarios_before.ensures in
-    let risks = IsColumnOf-scenarios c.args.parts c.in_ok-scenarios_before.scenarios_before.items c.requires.fits sums in
+    let risks = IsColumnOf-scenarios c.args.parts c.in_ok-scenarios_before.scenarios_before.items c.requires.fits sums
+    in
     let soft = IsColumnOf-periods c.args.parts.periods c.in_ok-periods_before.periods_before.items
     c.requires.fits.few_periods c.in_ok-periods_before.ensures.each c.in_ok-periods_before.ensures.values in
     record {

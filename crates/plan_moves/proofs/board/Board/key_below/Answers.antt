@@ -24,7 +24,10 @@ returns-in_err-score-clause-none g c =
     ≤ℤ score_of b.instance (map Some (after_change c.args.change b.starts))) same c.in_err-score.ensures.none in
     let limit = subst (λ (l : ℤ). l ≤ℤ score)
     (limit_back c.score_limit.result (record { sfits = c.score_limit.type_inv })) above in
-    none_of c.from_residual-in_err-score.result _ (subst (λ (v : ℤ). ¬ KeyBelow (record { violation = v; score = score }) c.args.limit)
+    none_of c.from_residual-in_err-score.result _ (subst (λ (v : ℤ). ¬ KeyBelow (record {
+      violation = v;
+      score = score;
+    }) c.args.limit)
     violation (c.score_limit.ensures.above score small limit))
 
 pub returns-clause-below : goal.returns-clause-below

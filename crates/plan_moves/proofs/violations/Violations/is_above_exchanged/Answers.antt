@@ -21,8 +21,10 @@ returns c = λ h.
     let second_within = subst (λ (b : Board). c.args.j < length b.starts) same c.start_of-second.ensures.within in
     let first = c.start_of-first.ensures.value ∙ ap (λ (b : Board). get_or b.starts c.args.i 0) same in
     let second = c.start_of-second.ensures.value ∙ ap (λ (b : Board). get_or b.starts c.args.j 0) same in
-    let swapped = exchanged_board board starts c.args.i c.args.j c.start_of-first.result c.start_of-second.result one other
-    c.start_change-one.ensures c.start_change-other.ensures first_within second_within c.self.invariant.loads_board first
+    let swapped = exchanged_board board starts c.args.i c.args.j c.start_of-first.result c.start_of-second.result one
+    other
+    c.start_change-one.ensures c.start_change-other.ensures first_within second_within c.self.invariant.loads_board
+    first
     second in
     subst (λ (b : Board). c.args.limit <ℤ violation_of b.instance (map Some (swap b.starts c.args.i c.args.j)))
     c.self.view_is (violation_above inst (board_after one other board) (map Some (swap starts c.args.i c.args.j))

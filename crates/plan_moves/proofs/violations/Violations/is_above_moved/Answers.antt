@@ -17,5 +17,6 @@ returns c = λ h.
     let moved = moved_board board starts c.args.i c.args.s c.start_of.result one c.start_change-one.ensures
     c.self.invariant.loads_board in
     subst (λ (b : Board). c.args.limit <ℤ violation_of b.instance (map Some (set b.starts c.args.i c.args.s)))
-    c.self.view_is (violation_above inst (board_after one one board) (map Some (set starts c.args.i c.args.s)) c.args.limit
+    c.self.view_is (violation_above inst (board_after one one board) (map Some (set starts c.args.i c.args.s))
+    c.args.limit
     above moved)

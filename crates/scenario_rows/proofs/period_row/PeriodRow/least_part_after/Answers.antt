@@ -6,7 +6,8 @@ use Rattle.scenario_rows.proofs.period_row.PeriodRow.least_part_after.Goals as g
 
 pub least_part_after-requires-clause-can : goal.least_part_after-requires-clause-can
 least_part_after-requires-clause-can g c =
-    subst (λ (p : PeriodState). CanShift c.args.inst.now c.args.t c.args.runs.now p.sums) (sym c.self.view_is) c.requires
+    subst (λ (p : PeriodState). CanShift c.args.inst.now c.args.t c.args.runs.now p.sums) (sym c.self.view_is)
+    c.requires
 
 pub returns-clause-least : goal.returns-clause-least
 returns-clause-least g c =

@@ -14,7 +14,8 @@ copy_sums-requires g c = omega (arith, c.requires.sums_room, ap length c.self.vi
 
 pub shift_by_runs-requires : goal.shift_by_runs-requires
 shift_by_runs-requires g c =
-    subst (CanShift c.args.inst.now c.args.t c.args.runs.now) (sym (c.copy_sums.ensures ∙ c.self.view_is)) c.requires.can
+    subst (CanShift c.args.inst.now c.args.t c.args.runs.now) (sym (c.copy_sums.ensures ∙ c.self.view_is))
+    c.requires.can
 
 pub total_of-total-requires : goal.total_of-total-requires
 total_of-total-requires g c =

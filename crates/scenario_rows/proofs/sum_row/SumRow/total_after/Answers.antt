@@ -45,7 +45,8 @@ loop-one-preserved g c = elim c.if-is_running.branch [
       sym c.is_running.ensures ∙ w.if-is_running.false in
       record {
         total = subst (λ (s : ℤ). HasTotal inst c.args.t (drop (k + 1) runs) end s) (sym w.total-is)
-            (HasTotal-idle inst c.args.t runs k none end c.loop-one.total (omega arith) c.loop-one.invariant.total idle);
+            (HasTotal-idle inst c.args.t runs k none end c.loop-one.total (omega arith) c.loop-one.invariant.total
+            idle);
         forward = omega (arith, w.steps-is, c.loop-one.invariant.forward);
       }
 ]
