@@ -18,7 +18,7 @@ use crate::counted_numbers::{MOST_COUNTS, counted_numbers};
 use crate::unread::Unread;
 use arrayvec::ArrayVec;
 use json_grammar::Event;
-use json_machine::{Answer, MOST_LEVELS, Machine, Mode, RawEvent, TakenNumber, blank_count};
+use json_machine::{Answer, MOST_LEVELS, Machine, Mode, RawEvent, TakenToken, blank_count};
 use std::alloc::{AllocError, Global};
 
 /// What came of reading.
@@ -86,7 +86,7 @@ fn read_run(
     read_telling(alloc, machine, unread)
 }
 
-/// Reads a number with the comma behind it, or one byte.
+/// Reads a number with the comma behind it, a key that stands whole, or one byte.
 fn read_telling(
     alloc: Global,
     machine: &mut Machine,
@@ -98,8 +98,8 @@ fn read_telling(
     ensures shortens { Shortens result unread.old unread.new }
     ensures sound { result ≡ Ok Reading.Quiet → IsSound unread.new.at machine.new }
 {
-    let number = machine.take_number(alloc, unread.at(), unread.as_slice())?;
-    if let Some(TakenNumber { length, event }) = number {
+    let token = machine.take_whole(alloc, unread.at(), unread.as_slice())?;
+    if let Some(TakenToken { length, event }) = token {
         unread.pass(length + 1);
         return Ok(Reading::One(event));
     }

@@ -1,3 +1,4 @@
 pub mod Levels
 pub mod Runs
 pub mod PlainNumbers
+pub mod WholeKeys

@@ -2,6 +2,7 @@
 #![tactic(auto)]
 
 mod characters;
+mod key_token;
 mod literal_token;
 mod machine;
 mod number_run;
@@ -16,7 +17,7 @@ mod within;
 pub use characters::blank_count;
 pub use literal_token::Begun;
 pub use machine::{MOST_LEVELS, Machine, Mode};
-pub use number_token::TakenNumber;
+pub use number_token::TakenToken;
 pub use phase::Phase;
 pub use raw_event::{Answer, RawEvent};
 pub use within::Within;

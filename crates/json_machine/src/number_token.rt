@@ -1,7 +1,7 @@
 //! Bytes of numbers, one by one, and numbers that stand whole in a buffer.
 
 ghost use Rattle.std.specs.Prelude.{◌≡◌, ℕ, ◌+◌, ◌≤◌, Ok, None, false, IfOk, OnOk, OnErr, IfSome, IsSome, IsTrue, ◌⊎◌};
-ghost use Rattle.std.specs.Prelude.{vec_len, take, drop};
+ghost use Rattle.std.specs.Prelude.{vec_len, take, drop, length, ◌<◌, ◌^◌};
 ghost use Rattle.json_machine.specs.Machines.{state_of, levels_of, answer_of, event_of, IsSound, SameMachine};
 ghost use Rattle.json_machine.specs.Machines.{AnswerNear};
 ghost use Rattle.json_machine.specs.Views.{phase_of};
@@ -17,9 +17,9 @@ use crate::raw_event::{Answer, RawEvent, joined};
 use json_grammar::Token;
 use std::alloc::{AllocError, Global};
 
-/// A number, and how many bytes it has.
+/// A token that stands whole in a buffer: how many bytes stand before the one that tells it, and its event.
 #[derive(Drop)]
-pub struct TakenNumber {
+pub struct TakenToken {
     pub length: usize,
     pub event: RawEvent,
 }
@@ -57,14 +57,36 @@ impl Machine {
         Ok(joined(number, self.after_step(k, byte)))
     }
 
-    /// Takes a number in front and the comma behind it, where a value may come and the comma is there. It is the way of
-    /// most numbers; `None`: the bytes are left to `step`.
-    pub fn take_number(
+    /// Takes a number in front and the comma behind it, or a key in front and its closing quote, where either may come
+    /// and stands whole. It is the way of most tokens; `None`: the bytes are left to `step`.
+    pub fn take_whole(
         &mut self,
         alloc: Global,
         k: u64,
         bytes: &[u8],
-    ) -> Result<Option<TakenNumber>, AllocError>
+    ) -> Result<Option<TakenToken>, AllocError>
+        requires sound { IsSound k self.old }
+        requires room { k + length bytes.now < 2 ^ 64 }
+        ensures takes { IfOk result (λ taken. IfSome taken (λ token.
+            TakesNumber k (state_of self.old) bytes.now token.length (event_of token.event) (state_of self.new))) }
+        ensures sound { (i : ℕ) → IfOk result (λ taken. IsSome taken → IsSound i self.new) }
+        ensures left { result ≡ Ok None → self.new ≡ self.old }
+        ensures kept { OnErr result (self.new ≡ self.old) }
+    {
+        match self.mode {
+            Mode::FirstKey | Mode::NextKey => self.take_key(alloc, k, bytes),
+            _ => self.take_number(alloc, k, bytes),
+        }
+    }
+
+    /// Takes a number in front and the comma behind it, where a value may come and the comma is there. `None`: the
+    /// bytes are left to `step`.
+    fn take_number(
+        &mut self,
+        alloc: Global,
+        k: u64,
+        bytes: &[u8],
+    ) -> Result<Option<TakenToken>, AllocError>
         requires { IsSound k self.old }
         ensures takes { IfOk result (λ taken. IfSome taken (λ number.
             TakesNumber k (state_of self.old) bytes.now number.length (event_of number.event) (state_of self.new))) }
@@ -86,7 +108,7 @@ impl Machine {
         }
         let token = Token::from_slice(alloc, &bytes[..run.length])?;
         self.mode = behind;
-        Ok(Some(TakenNumber {
+        Ok(Some(TakenToken {
             length: run.length,
             event: RawEvent::Num(k, token),
         }))
