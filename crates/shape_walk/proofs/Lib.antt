@@ -8,6 +8,7 @@ mod FirstIsLeast
 mod FlawLemmas
 mod KeyLemmas
 pub mod Keeping
+mod NumberKeyLemmas
 mod OneMore
 mod TextOrder
 mod Weighing

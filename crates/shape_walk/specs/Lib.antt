@@ -1,3 +1,4 @@
+pub mod Ascending
 pub mod Awaits
 pub mod CountEvents
 pub mod Counts

@@ -11,7 +11,7 @@ use Rattle.shape_walk.specs.declared.seen.Seen.TheVariants.{Texts, Numbers, Noth
 -- the keys that an object has had
 abbrev pub seen_of : Seen → List Key
 seen_of (Texts s) = texts_of s.keys
-seen_of (Numbers s) = numbers_of s.keys
+seen_of (Numbers s) = numbers_of s
 seen_of Nothing = []
 
 -- the keys of an object of a kind count by their texts

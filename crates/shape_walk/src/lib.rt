@@ -5,6 +5,7 @@ mod counts;
 mod frame;
 mod judged;
 mod laws;
+mod number_keys;
 mod open;
 mod seen;
 mod taken;

@@ -13,12 +13,11 @@ ghost use Rattle.shape_walk.specs.Reads.{read_of_key};
 ghost use Rattle.shape_walk.specs.Seen.{seen_of, suits, counts_by_text};
 
 use crate::judged::Judged;
+use crate::number_keys::NumberKeys;
 use crate::taken::{Read, Taken};
 use indexmap::IndexSet;
 use instance_model::Limits;
-use instance_shape::{
-    Flaw, Kind, Spot, Which, add_number, add_text, is_name, kind_of, missing_key, number_of,
-};
+use instance_shape::{Flaw, Kind, Spot, Which, add_text, is_name, kind_of, missing_key, number_of};
 use std::alloc::{AllocError, Global};
 
 /// The keys by what they count as: names and required keys by their texts, periods and starts by their numbers. In
@@ -26,7 +25,7 @@ use std::alloc::{AllocError, Global};
 #[derive(Drop)]
 pub enum Seen {
     Texts(IndexSet<String>),
-    Numbers(IndexSet<u32>),
+    Numbers(NumberKeys),
     Nothing,
 }
 
@@ -38,7 +37,7 @@ impl Seen {
     {
         match kind_of(spot) {
             Kind::Record | Kind::Names => Seen::Texts(IndexSet::new(alloc)),
-            Kind::Numbers => Seen::Numbers(IndexSet::new(alloc)),
+            Kind::Numbers => Seen::Numbers(NumberKeys::none(alloc)),
             _ => Seen::Nothing,
         }
     }
@@ -129,19 +128,19 @@ fn take_text(
 }
 
 /// Adds a key that counts by its number.
-fn take_number(spot: Spot, numbers: &mut IndexSet<u32>, key: &str) -> Result<Judged, AllocError>
+fn take_number(spot: Spot, numbers: &mut NumberKeys, key: &str) -> Result<Judged, AllocError>
     requires { shape.kind_of spot ≡ kinds.Numbers }
     ensures flaw { IfOk result (λ r. (limits : Sizes) (at : ℕ) → r.flaw
-        ≡ first_flaw (key_faults limits spot (numbers_of numbers.old.keys) at key.now)) }
+        ≡ first_flaw (key_faults limits spot (numbers_of numbers.old) at key.now)) }
     ensures taken { IfOk result (λ r. r.taken
         ≡ record { spot = spot; read = read_of_key (shape.kind_of spot) key.now }) }
     ensures added { IfOk result (λ r. r.flaw ≡ None
-        → numbers_of numbers.new.keys ≡ numbers_of numbers.old.keys ++ key_of (shape.kind_of spot) key.now) }
+        → numbers_of numbers.new ≡ numbers_of numbers.old ++ key_of (shape.kind_of spot) key.now) }
 {
     let Some(number) = number_of(key) else {
         return Ok(Judged::unread(spot, Some(Flaw::Shape)));
     };
-    let new = add_number(numbers, number)?;
+    let new = numbers.add(number)?;
     let read = Read::Whole(number);
     Ok(Judged {
         taken: Taken { spot, read },
