@@ -15,8 +15,8 @@ pub record AwaitsCount (walk : Walk) (spot : Spot) : Type 0 where
   pub next : spot ≡ next_spot walk.state.top
   pub counts : kind_of spot ≡ kind.Count
 
--- how many numbers at a spot the limits allow behind so many under risk and under workload; where they bound none, the
--- most that 64 bits tell
+-- how many numbers at a spot the limits allow behind so many under risk and under workload: 2^64 - 1 where they bound
+-- none
 abbrev pub room_at : Limits → Spot → ℕ → ℕ → ℕ
 room_at limits spots.RiskNumber risks workloads = limits.risk_cells - risks
 room_at limits spots.WorkloadNumber risks workloads = limits.workload_entries - workloads

@@ -46,7 +46,7 @@ impl Counts {
         None
     }
 
-    /// How many more numbers at a spot the limits allow; where they bound none, all that 64 bits tell.
+    /// How many more numbers at a spot the limits allow: `u64::MAX` where they bound none.
     pub fn room(&self, limits: &Limits, spot: Spot) -> u64
         requires { AreWithin limits.now self.now }
         ensures { result ≡ room_at limits.now spot self.now.risks self.now.workloads }

@@ -149,7 +149,7 @@ impl ShapeWalk {
         }
     }
 
-    /// How many more numbers at a spot the limits allow; where they bound none, all that 64 bits tell.
+    /// How many more numbers at a spot the limits allow: `u64::MAX` where they bound none.
     #[inline]
     pub fn count_room(&self, spot: Spot) -> u64
         ensures { result ≡ count_room self.now spot }
@@ -157,9 +157,9 @@ impl ShapeWalk {
         self.counts.room(&self.limits, spot)
     }
 
-    /// Takes the next events of a text, which are so many numbers at the spot, the value of each of which is exactly a
-    /// count of 10^-12: what `take_count` does with each of them in turn, at once. The limits allow
-    /// them, so none is a fault. It takes no memory.
+    /// Takes the next events of a text, so many numbers at the spot, each with a value that is exactly a count of 10^-12.
+    /// It does at once what `take_count` does with them one by one; the limits allow them, so there is no fault. It
+    /// takes no memory.
     #[inline]
     pub fn take_counts(&mut self, spot: Spot, count: u64)
         requires awaits { AwaitsCount self.old spot }
