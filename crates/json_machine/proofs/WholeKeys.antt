@@ -1,7 +1,8 @@
 -- Keys that stand whole in a buffer are what the machine reads of their bytes.
 use Rattle.std.specs.Prelude.{◌⊎◌}
 use Rattle.std.specs.List.{prefix_len}
-use Rattle.std.proofs.Common.{◌≡◌, ℕ, suc, ◌+◌, ◌<◌, List, [], ◌∷◌, length, take, drop, get_or, Bool, Some, true, inl, inr}
+use Rattle.std.proofs.Common.{◌≡◌, ℕ, suc, ◌+◌, ◌<◌, List, [], ◌∷◌, length, take, drop, get_or, Bool, Some, true, inl}
+use Rattle.std.proofs.Common.{inr}
 use Rattle.std.proofs.Common.{refl, sym, ◌∙◌, ap, subst, arith}
 use Rattle.std.proofs.Math.Seq.{drop-cons}
 use Rattle.json_grammar.specs.Tree.{key}

@@ -13,7 +13,8 @@ returns-then-contains-clause-new c =
     let before : run ++ others ≡ c.args.self.now = elim c.else-is_empty.branch [
       | else-is_empty-via-then-is_empty+else-lengthen w ↦ ap (λ (k : Inside). k.run ++ k.others.keys) w.self-inside-is
           ∙ ap (λ ns. ns ++ c.self.inside.others.keys) (w.if-lengthen.ensures.kept refl) ∙ c.self.view_is
-      | else-is_empty-via-else-is_empty w ↦ ap (λ (k : Inside). k.run ++ k.others.keys) w.self-inside-is ∙ c.self.view_is
+      | else-is_empty-via-else-is_empty w ↦ ap (λ (k : Inside). k.run ++ k.others.keys) w.self-inside-is ∙
+          c.self.view_is
     ] in
     ap not (in_run run others c.args.self.now c.args.number before c.if-contains.ensures)
 
@@ -23,7 +24,8 @@ returns-clause-new c =
     let before : run ++ others ≡ c.args.self.now = elim c.else-is_empty.branch [
       | else-is_empty-via-then-is_empty+else-lengthen w ↦ ap (λ (k : Inside). k.run ++ k.others.keys) w.self-inside-is
           ∙ ap (λ ns. ns ++ c.self.inside.others.keys) (w.if-lengthen.ensures.kept refl) ∙ c.self.view_is
-      | else-is_empty-via-else-is_empty w ↦ ap (λ (k : Inside). k.run ++ k.others.keys) w.self-inside-is ∙ c.self.view_is
+      | else-is_empty-via-else-is_empty w ↦ ap (λ (k : Inside). k.run ++ k.others.keys) w.self-inside-is ∙
+          c.self.view_is
     ] in
     c.in_ok-new.ensures.added
     ∙ ap not (behind_run run others c.args.self.now c.args.number before c.if-contains.ensures)
