@@ -1,13 +1,13 @@
 -- Which numbers are among those that ascend one by one, and those behind them.
-use Rattle.std.proofs.Common.{◌≡◌, ℕ, zero, suc, ◌+◌, List, [], ◌∷◌, ◌++◌, refl, ap, sym, ◌∙◌, arith, true, false, ◌&&◌}
-use Rattle.std.proofs.Common.{nat_eq}
+use Rattle.std.proofs.Common.{◌≡◌, ℕ, zero, suc, ◌+◌, List, [], ◌∷◌, ◌++◌, refl, ap, sym, ◌∙◌, arith, true, false}
+use Rattle.std.proofs.Common.{◌&&◌, ◌<◌, nat_eq}
 use Rattle.std.specs.Prelude.{◌||◌, nat_le, nat_lt}
 use Rattle.std.specs.List.{list_any}
 use Rattle.std.proofs.lemmas.Bool.Decides.{nat_tests}
 use Rattle.std.proofs.Math.Bool.{or_assoc}
 use Rattle.instance_shape.specs.Keys.{by_number, has_key}
 use Rattle.instance_shape.specs.Seen.{numbers_of}
-use Rattle.shape_walk.specs.Ascending.{ascending}
+use Rattle.shape_walk.specs.Ascending.{ascending, comes_next}
 
 -- where one number stands behind others
 pub numbers_push : (ns : List ℕ) (n : ℕ) → numbers_of (ns ++ n ∷ []) ≡ numbers_of ns ++ by_number n ∷ []
@@ -71,3 +71,26 @@ pub behind_run : (run others ns : List ℕ) (n : ℕ) → run ++ others ≡ ns
 behind_run run others ns n e h =
     sym (numbers_has others n) ∙ ap (λ b. b || has_key (numbers_of others) (by_number n)) h
     ∙ sym (has_either run others n) ∙ ap (λ ms. has_key (numbers_of ms) (by_number n)) e
+
+-- only a number one above the last comes next
+comes_behind : (ms : List ℕ) (m n : ℕ) → comes_next n (ms ++ m ∷ []) ≡ nat_eq n (m + 1)
+comes_behind [] m n = refl
+comes_behind (k ∷ []) m n = refl
+comes_behind (k ∷ (j ∷ js)) m n = comes_behind (j ∷ js) m n
+
+-- which number comes next behind a run
+pub run_next : (first count n : ℕ) (ns : List ℕ) → ascending first count ≡ ns → 0 < count
+    → comes_next n ns ≡ nat_eq n (first + count)
+run_next first zero n ns e h = absurd (omega (arith, h))
+run_next first (suc k) n ns e h =
+    ap (comes_next n) (sym e) ∙ comes_behind (ascending first k) (first + k) n ∙ ap (nat_eq n) (omega arith)
+
+-- behind no numbers each comes next
+pub none_next : (first count n : ℕ) (ns : List ℕ) → ascending first count ≡ ns → count ≡ 0 → comes_next n ns ≡ true
+none_next first zero n ns e h = ap (comes_next n) (sym e)
+none_next first (suc k) n ns e h = absurd (omega (arith, h))
+
+-- a number that doesn't come behind a run, as its first number and their count are kept
+pub not_equal : (first count n from many : ℕ) → from ≡ first → many ≡ count → (n ≡ from + many → ⊥)
+    → false ≡ nat_eq n (first + count)
+not_equal first count n from many here same h = grind (arith, nat_tests)

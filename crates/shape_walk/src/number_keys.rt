@@ -3,6 +3,7 @@
 ghost use Rattle.std.specs.Prelude.{◌≡◌, ◌∷◌, [], ◌++◌, false, not, IfOk, IsTrue};
 ghost use Rattle.instance_shape.specs.Keys.{has_key, by_number};
 ghost use Rattle.instance_shape.specs.Seen.{numbers_of};
+ghost use Rattle.shape_walk.specs.Ascending.{comes_next};
 
 use indexmap::IndexSet;
 use std::alloc::{AllocError, Global};
@@ -88,6 +89,7 @@ impl Run {
 
     /// Adds a number if it is one above the last, or the first of all, and says whether it was.
     fn lengthen(&mut self, number: u32) -> bool
+        ensures next { result ≡ comes_next number self.old }
         ensures new { IsTrue result → has_key (numbers_of self.old) (by_number number) ≡ false }
         ensures added { IsTrue result → self.new ≡ self.old ++ number ∷ [] }
         ensures kept { result ≡ false → self.new ≡ self.old }

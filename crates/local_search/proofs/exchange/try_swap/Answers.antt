@@ -6,6 +6,7 @@ use Rattle.local_search.proofs.LeadsLemmas.{present_each}
 use Rattle.local_search.proofs.exchange.try_swap.Goals as goal
 use Rattle.local_search.proofs.exchange.try_swap.Goals.{}
 use Rattle.local_search.proofs.exchange.try_swap.Goals.{}
+use Rattle.local_search.proofs.exchange.try_swap.Goals.{}
 use Rattle.local_search.proofs.exchange.try_swap.Goals.{else-first-second-via-then-first-second+then-allowed+else-allowed-2}
 use Rattle.local_search.proofs.exchange.try_swap.Goals.{else-first-second-via-then-first-second+else-allowed}
 use Rattle.local_search.proofs.exchange.try_swap.Goals.{else-first-second-via-else-first-second}

@@ -7,6 +7,7 @@ use Rattle.text_lines.proofs.number.wide_value_of_digits.Goals.{then-is_empty-vi
 use Rattle.text_lines.proofs.number.wide_value_of_digits.Goals.{then-is_empty-via-else-is_empty+then-bytes-most}
 use Rattle.text_lines.proofs.number.wide_value_of_digits.Goals.{}
 use Rattle.text_lines.proofs.number.wide_value_of_digits.Goals.{}
+use Rattle.text_lines.proofs.number.wide_value_of_digits.Goals.{}
 use Rattle.text_lines.proofs.number.wide_value_of_digits.Goals.{then-is_empty-via-else-is_empty+else-bytes-most+then-not-are_digits}
 
 pub returns-then-is_empty-clause-none : goal.returns-then-is_empty-clause-none
