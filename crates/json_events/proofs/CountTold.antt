@@ -32,19 +32,20 @@ use Rattle.json_machine.proofs.PlainNumbers.{value_mode}
 use Rattle.json_machine.proofs.Runs.{blanks_taken}
 use Rattle.json_events.proofs.Standing.{behind, told_given, for_some_told}
 
-waits : (mode : machine.Mode) → (mode ≡ want) ⊎ (mode ≡ first) → Waits mode
+-- where a value may come, blanks change nothing
+pub waits : (mode : machine.Mode) → (mode ≡ want) ⊎ (mode ≡ first) → Waits mode
 waits mode (inl e) = subst Waits (sym e) in_want
 waits mode (inr e) = subst Waits (sym e) in_first
 
--- blanks, a number and the byte behind it, from an offset on
+-- blanks, a token and the byte behind it, from an offset on
 pub item_read : (stream rest : List ℕ) (at blanks size : ℕ) (levels : List Bool) (mode : machine.Mode) (t : State)
-    (events told : List Event) → (mode ≡ want) ⊎ (mode ≡ first) → blanks ≡ prefix_len is_blank rest
+    (events told : List Event) → Waits mode → blanks ≡ prefix_len is_blank rest
     → HasRead stream at (st levels mode) told → rest ≡ drop at stream
     → TakesWithEnd (at + blanks) (st levels mode) (drop blanks rest) size events t
     → HasRead stream (at + blanks + (size + 1)) t (told ++ events)
-item_read stream rest at blanks size levels mode t events told m skip h r is =
+item_read stream rest at blanks size levels mode t events told w skip h r is =
     let s = st levels mode in
-    let quiet : run at s (take blanks rest) ≡ Some (s, []) = rw skip (blanks_taken at levels rest (waits mode m)) in
+    let quiet : run at s (take blanks rest) ≡ Some (s, []) = rw skip (blanks_taken at levels rest w) in
     let fits : blanks ≤ length rest = rw skip (prefix_len-le-length is_blank rest) in
     ended_read stream (drop blanks rest) (at + blanks) size s t events told
     (quiet_read stream rest at blanks s s told h r fits quiet) (ap (drop blanks) r ∙ drop-drop blanks at stream) is
@@ -70,7 +71,8 @@ count_told m n u v w blanks size rest count more mode skip a b same takes exact 
         read = subst (λ z. HasRead stream z (state_of n) (told ++ events)) end
             (item_read stream (unread_of u) u.at blanks size (levels_of m.levels.items)
             (mode_of m.mode m.at m.token.items) (state_of n) events told
-            (value_mode m.mode m.at m.token.items mode) skip h.read h.rest there);
+            (waits (mode_of m.mode m.at m.token.items) (value_mode m.mode m.at m.token.items mode)) skip h.read h.rest
+            there);
         rest = rest_behind v w (size + 1) stream (rest_behind u v blanks stream h.rest a b) c d;
         sound = sound u.at w.at h.sound;
       };

@@ -14,7 +14,7 @@ use Rattle.json_events.specs.CountedNumbers.{IsCountedItem, AreCountedRuns, IsCo
 use Rattle.json_events.specs.Unreads.{unread_of}
 use Rattle.json_events.specs.declared.unread.Unread.{Unread}
 use Rattle.json_events.proofs.ReadingLemmas.{rest_behind}
-use Rattle.json_events.proofs.CountTold.{item_read}
+use Rattle.json_events.proofs.CountTold.{item_read, waits}
 
 pub item_within : (bs : List ℕ) (n : ℕ) (count : ℤ) → IsCountedItem bs n count → n ≤ length bs
 item_within bs n count item = omega (arith, item.all, item.run.within, length-drop item.blanks bs)
@@ -73,7 +73,7 @@ items_read {bytes} at levels mode v comma (AreCountedRuns.more {counts} {used} {
       reads = λ stream told h e.
           let there : rest ≡ drop (at + used) stream = ap (drop used) e ∙ drop-drop used at stream in
           let read = item_read stream rest (at + used) item.blanks item.size levels before.last (st levels want)
-          (event ∷ []) (told ++ before.events) before.value item.skips (before.reads stream told h e) there takes in
+          (event ∷ []) (told ++ before.events) (waits before.last before.value) item.skips (before.reads stream told h e) there takes in
           subst (λ es. HasRead stream (at + (used + next)) (st levels want) es)
           (append_assoc told before.events (event ∷ []))
           (subst (λ k. HasRead stream k (st levels want) ((told ++ before.events) ++ event ∷ [])) end read);

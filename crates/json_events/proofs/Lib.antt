@@ -2,6 +2,8 @@ pub mod ReadingLemmas
 pub mod Standing
 pub mod CountedNumbers
 pub mod CountTold
+pub mod KeyRuns
+pub mod KeyTold
 pub mod CountedRuns
 pub mod CountsGiven
 pub mod EightDigits

@@ -5,3 +5,4 @@ pub mod Pulls
 pub mod Steps
 pub mod CountedNumbers
 pub mod Counts
+pub mod NumberKeys

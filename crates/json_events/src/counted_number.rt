@@ -30,9 +30,9 @@ pub(crate) struct CountedRun {
 
 /// How many digits are in front, and the number that they write behind another one.
 #[derive(Clone, Copy, Drop)]
-struct DigitRun {
-    length: usize,
-    value: u64,
+pub(crate) struct DigitRun {
+    pub length: usize,
+    pub value: u64,
 }
 
 /// The number in front that is told by its count, where a comma follows it.
@@ -94,7 +94,7 @@ fn ends_item(byte: u8) -> bool
 
 /// The digits in front, at most so many, behind those of a number.
 #[inline]
-fn digits_behind(front: u64, bytes: &[u8], most: usize) -> DigitRun
+pub(crate) fn digits_behind(front: u64, bytes: &[u8], most: usize) -> DigitRun
     requires room { (front + 1) * 10 ^ most ≤ 2 ^ 64 }
     ensures writes { WritesDigits front bytes.now result.length result.value }
     ensures most { result.length ≤ most }

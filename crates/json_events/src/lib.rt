@@ -3,6 +3,7 @@
 
 mod counted_number;
 mod counted_numbers;
+mod number_key;
 mod number_lanes;
 mod pull;
 mod sound_event;
@@ -11,4 +12,5 @@ mod up_to_event;
 
 pub use counted_number::CountedNumber;
 pub use counted_numbers::MOST_COUNTS;
+pub use number_key::NumberKey;
 pub use pull::{Pull, Pulled};

@@ -9,13 +9,16 @@ ghost use Rattle.json_grammar.specs.Prefix.{IsSyntaxFault, IsShallow, IsDepthFau
 ghost use Rattle.json_grammar.specs.Stream.{IsShallowPrefix, IsNextDue, IsDueCount, IsNextOfEach, IsGivenText};
 ghost use Rattle.json_events.specs.Pulls.{Stands, IsUnfinished, given_after, finished_after};
 ghost use Rattle.json_events.specs.Steps.{Steps, IsIdle, IsUsedUp, Concludes};
-ghost use Rattle.json_events.specs.Counts.{IsNextCount, AreNextCounts};
+ghost use Rattle.json_events.specs.Counts.{IsNextCount, AreNextCounts, IsNextNumberKey};
 
 use crate::counted_number::CountedNumber;
 use crate::counted_numbers::MOST_COUNTS;
+use crate::number_key::NumberKey;
 use crate::sound_event::sound_event;
 use crate::unread::Unread;
-use crate::up_to_event::{CountedReading, Reading, read_counted, read_counts, read_up_to_event};
+use crate::up_to_event::{
+    CountedReading, Reading, read_counted, read_counts, read_number_key, read_up_to_event,
+};
 use arrayvec::ArrayVec;
 use json_grammar::{Event, TextFault};
 use json_machine::Machine;
@@ -153,8 +156,7 @@ impl Pull {
     }
 
     /// The next event, where it is a number without a sign and an exponent, of at most 7 digits before the point and 12
-    /// behind it, in a list or an object, and the comma behind it was pushed, or the bracket that closes the list,
-    /// whose
+    /// behind it, in a list or an object, and the comma behind it was pushed, or the bracket that closes the list, whose
     /// event comes next: its place and its exact value. `None` says nothing of the events that are due. It takes no
     /// memory, and is a shorter way to most numbers than `next_event`.
     #[inline]
@@ -173,6 +175,26 @@ impl Pull {
         let CountedReading { number, second } = read_counted(&mut self.machine, &mut self.unread)?;
         self.held = second;
         Some(number)
+    }
+
+    /// The next event, where it is a key of 1 to 9 digits whose closing quote was pushed: its place, and the number that
+    /// the digits write. `None` says nothing of the events that are due. It takes no memory.
+    #[inline]
+    pub fn next_number_key(&mut self) -> Option<NumberKey>
+        requires { IsUnfinished self.old }
+        ensures stands { (stream : List ℕ) (given : ℕ) → Stands self.old stream given false →
+            IsSome result → Stands self.new stream (given + 1) false }
+        ensures key { (stream : List ℕ) (given : ℕ) → Stands self.old stream given false →
+            IfSome result (λ key. IsNextNumberKey stream given key.at key.number) }
+        ensures none { result ≡ None → self.new ≡ self.old }
+        ensures unfinished { IsUnfinished self.new }
+    {
+        if !self.is_idle() {
+            return None;
+        }
+        let key = read_number_key(&mut self.machine, &mut self.unread)?;
+        self.held = None;
+        Some(key)
     }
 
     /// Replaces the counts by those of the numbers that come next in a list, at most so many, as far as each is a

@@ -1,13 +1,14 @@
 //! Reading a stream up to the next byte that tells something.
 
 ghost use Rattle.std.specs.Prelude.{◌≡◌, ℕ, ◌+◌, ◌<◌, ◌^◌, ◌≢◌, ◌⊎◌, List, slice_get, Some, IfSome, IsSome, Ok, None};
-ghost use Rattle.std.specs.Prelude.{false, length, take, pos, [], ◌∷◌, ◌≤◌};
+ghost use Rattle.std.specs.Prelude.{false, length, take, drop, pos, [], ◌∷◌, ◌≤◌};
 ghost use Rattle.std.specs.Option.{option_map, option_to_list};
 ghost use Rattle.json_grammar.specs.Tree as json;
 ghost use Rattle.json_grammar.specs.Events.{event_view};
 ghost use Rattle.json_laws.specs.Machine.{State};
 ghost use Rattle.json_machine.specs.Machines.{IsSound, state_of, answer_of};
-ghost use Rattle.json_machine.specs.NumberRuns.{TakesWithEnd};
+ghost use Rattle.json_machine.specs.NumberRuns.{TakesNumber, TakesWithEnd};
+ghost use Rattle.json_events.specs.NumberKeys.{IsKeyRun, TellsKey};
 ghost use Rattle.decimal_numbers.specs.Exact.{fixed};
 ghost use Rattle.json_events.specs.Unreads.{unread_of};
 ghost use Rattle.json_events.specs.Readings.{HasTold, ReadsOn, Shortens, IsTelling, told_events};
@@ -15,6 +16,7 @@ ghost use Rattle.json_events.specs.CountedNumbers.{finishes, TellsCount, TellsCo
 
 use crate::counted_number::{CountedNumber, CountedRun, count_of, ended_number};
 use crate::counted_numbers::{MOST_COUNTS, counted_numbers};
+use crate::number_key::{KeyRun, NumberKey, number_key};
 use crate::unread::Unread;
 use arrayvec::ArrayVec;
 use json_grammar::Event;
@@ -130,6 +132,41 @@ pub fn read_counted(machine: &mut Machine, unread: &mut Unread) -> Option<Counte
         number: CountedNumber { at, count },
         second,
     })
+}
+
+/// Reads a key that is a number of few digits, and the blanks before it. `None`: nothing is read.
+#[inline]
+pub fn read_number_key(machine: &mut Machine, unread: &mut Unread) -> Option<NumberKey>
+    ensures tells { IfSome result (λ key.
+        TellsKey key.at key.number machine.old unread.old machine.new unread.new) }
+    ensures left_machine { result ≡ None → machine.new ≡ machine.old }
+    ensures left_unread { result ≡ None → unread.new ≡ unread.old }
+{
+    let bytes = unread.as_slice();
+    let blanks = blank_count(bytes);
+    let KeyRun { count, number } = take_number_key(machine, &bytes[blanks..])?;
+    unread.pass(blanks);
+    let at = unread.at();
+    unread.pass(count + 2);
+    Some(NumberKey { at, number })
+}
+
+/// Takes a key in front that is a number of few digits, where a key may come. `None`: nothing is taken.
+#[inline]
+fn take_number_key(machine: &mut Machine, bytes: &[u8]) -> Option<KeyRun>
+    ensures takes { (k : ℕ) → IfSome result (λ run.
+        TakesNumber k (state_of machine.old) bytes.now (1 + run.count)
+        (json.key k (k + (run.count + 2)) (take run.count (drop 1 bytes.now))) (state_of machine.new)) }
+    ensures run { IfSome result (λ run. IsKeyRun bytes.now run.count run.number) }
+    ensures sound { (k i : ℕ) → IsSound k machine.old → IsSome result → IsSound i machine.new }
+    ensures waits { IsSome result → (machine.old.mode ≡ Mode.FirstKey) ⊎ (machine.old.mode ≡ Mode.NextKey) }
+    ensures left { result ≡ None → machine.new ≡ machine.old }
+{
+    let run = number_key(bytes)?;
+    if !machine.pass_key(bytes, run.count) {
+        return None;
+    }
+    Some(run)
 }
 
 /// Takes a number in front that is told by its count, and the comma behind it, where a value may come and the comma

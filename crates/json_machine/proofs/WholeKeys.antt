@@ -8,8 +8,17 @@ use Rattle.std.proofs.Math.Seq.{drop-cons}
 use Rattle.json_grammar.specs.Tree.{key}
 use Rattle.json_laws.specs.Machine.{State, st, Mode, first_key, next_key, colon, string, plain, is_plain, step, go}
 use Rattle.json_laws.specs.Machine.{after_string, string_event, tell, run, run_then}
+use Rattle.json_machine.specs.Machines.{mode_of}
 use Rattle.json_machine.specs.NumberRuns.{TakesNumber}
+use Rattle.json_machine.specs.declared.machine.Mode as modes
+use Rattle.json_machine.specs.declared.machine.Mode.TheVariants.{FirstKey, NextKey}
 use Rattle.json_machine.proofs.Runs.{plain_taken}
+
+-- where a key may come
+pub key_mode : (mode : modes.Mode) (at : ℕ) (token : List ℕ) → (mode ≡ FirstKey) ⊎ (mode ≡ NextKey)
+    → (mode_of mode at token ≡ first_key) ⊎ (mode_of mode at token ≡ next_key)
+key_mode mode at token (inl e) = inl (ap (λ m. mode_of m at token) e)
+key_mode mode at token (inr e) = inr (ap (λ m. mode_of m at token) e)
 
 -- the quote that begins a key
 quote_goes : (k : ℕ) (levels : List Bool) (mode : Mode) → (mode ≡ first_key) ⊎ (mode ≡ next_key)

@@ -1,9 +1,11 @@
 -- Numbers that stand whole in a buffer. Not part of any promise: only private functions cite it.
-use Rattle.std.specs.Prelude.{◌≡◌, ℕ, ◌+◌, ◌≤◌, ◌<◌, ◌⊎◌, List, [], ◌∷◌, ◌++◌, length, take, get_or, Bool, true}
-use Rattle.std.specs.Prelude.{Some}
+use Rattle.std.specs.Prelude.{◌≡◌, ℕ, ◌+◌, ◌≤◌, ◌<◌, ◌⊎◌, List, [], ◌∷◌, ◌++◌, length, take, drop, get_or, Bool}
+use Rattle.std.specs.Prelude.{true, Some}
+use Rattle.std.specs.List.{prefix_len}
 use Rattle.json_grammar.specs.Tree as json
 use Rattle.json_grammar.specs.Grammar.{IsDigit}
 use Rattle.json_laws.specs.Machine.{State, st, Phase, want, number, minus, may_end, go, step, after_step, run}
+use Rattle.json_laws.specs.Machine.{is_plain}
 use Rattle.json_machine.specs.Machines.{levels_of}
 use Rattle.json_machine.specs.declared.machine.Machine.{Machine}
 use Rattle.json_machine.specs.declared.machine.Mode.TheVariants.{Want, First}
@@ -54,3 +56,10 @@ pub record IsBeforeComma (bytes : List ℕ) (count : ℕ) : Type 0 where
 pub record AwaitsItem (machine : Machine) : Type 0 where
   pub value : (machine.mode ≡ Want) ⊎ (machine.mode ≡ First)
   pub comma : (k : ℕ) → after_step k (levels_of machine.levels.items) 44 ≡ go (levels_of machine.levels.items) want
+
+-- the first bytes are a key whose characters, so many, are plain, with its quotes
+pub record IsWholeKey (bytes : List ℕ) (count : ℕ) : Type 0 where
+  pub opens : get_or bytes 0 0 ≡ 34
+  pub plain : count ≡ prefix_len is_plain (drop 1 bytes)
+  pub within : 1 + count < length bytes
+  pub closes : get_or bytes (1 + count) 0 ≡ 34

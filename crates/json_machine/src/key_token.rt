@@ -1,8 +1,10 @@
 //! Keys that stand whole in a buffer.
 
 ghost use Rattle.std.specs.Prelude.{◌≡◌, ℕ, ◌+◌, ◌<◌, ◌^◌, ◌⊎◌, Ok, None, length, IfOk, OnErr, IfSome, IsSome};
+ghost use Rattle.std.specs.Prelude.{IsTrue, drop, false, take};
+ghost use Rattle.json_grammar.specs.Tree as json;
 ghost use Rattle.json_machine.specs.Machines.{state_of, event_of, IsSound};
-ghost use Rattle.json_machine.specs.NumberRuns.{TakesNumber};
+ghost use Rattle.json_machine.specs.NumberRuns.{IsWholeKey, TakesNumber};
 
 use crate::characters::plain_count;
 use crate::machine::{Machine, Mode};
@@ -41,5 +43,23 @@ impl Machine {
             length: 1 + count,
             event: RawEvent::Key(k, k + (count as u64 + 2), text),
         }))
+    }
+
+    /// Takes a key in front, of so many characters, where a key may come, and tells no event of it: the caller knows
+    /// the key. False: nothing is taken.
+    #[inline]
+    pub fn pass_key(&mut self, bytes: &[u8], count: usize) -> bool
+        requires { IsWholeKey bytes.now count }
+        ensures takes { (k : ℕ) → IsTrue result → TakesNumber k (state_of self.old) bytes.now (1 + count)
+            (json.key k (k + (count + 2)) (take count (drop 1 bytes.now))) (state_of self.new) }
+        ensures sound { (k i : ℕ) → IsSound k self.old → IsTrue result → IsSound i self.new }
+        ensures waits { IsTrue result → (self.old.mode ≡ Mode.FirstKey) ⊎ (self.old.mode ≡ Mode.NextKey) }
+        ensures left { result ≡ false → self.new ≡ self.old }
+    {
+        if !matches!(self.mode, Mode::FirstKey | Mode::NextKey) {
+            return false;
+        }
+        self.mode = Mode::Colon;
+        true
     }
 }

@@ -8,14 +8,8 @@ use Rattle.json_machine.specs.Machines.{levels_of, mode_of}
 use Rattle.json_machine.specs.declared.machine.Mode.{Mode}
 use Rattle.json_machine.specs.declared.machine.Mode.TheVariants.{FirstKey, NextKey}
 use Rattle.json_machine.proofs.PlainNumbers.{behind}
-use Rattle.json_machine.proofs.WholeKeys.{key_taken}
+use Rattle.json_machine.proofs.WholeKeys.{key_mode, key_taken}
 use Rattle.json_machine.proofs.machine.Machine.take_key.Goals as goal
-
--- where a key may come
-key_mode : (mode : Mode) (at : ℕ) (token : List ℕ) → (mode ≡ FirstKey) ⊎ (mode ≡ NextKey)
-    → (mode_of mode at token ≡ first_key) ⊎ (mode_of mode at token ≡ next_key)
-key_mode mode at token (inl e) = inl (ap (λ m. mode_of m at token) e)
-key_mode mode at token (inr e) = inr (ap (λ m. mode_of m at token) e)
 
 -- the characters are among the bytes behind the quote
 among : (n : ℕ) (bs : List ℕ) → n ≡ prefix_len is_plain bs → n ≤ length bs
