@@ -97,8 +97,7 @@ fn fill(alloc: Global, rows: FileRows, checked: Checked, slack: Fixed) -> Result
     let in_season = in_season(alloc, rows.periods, rows.season_periods.as_slice())?;
     let works = rows.works;
     let resources = rows.resources;
-    let mut orders = checked.orders;
-    let filled = work_tables(alloc, rows.periods, &resources, works, &mut orders)?;
+    let filled = work_tables(alloc, rows.periods, &resources, works, checked.orders)?;
     Ok(Parts {
         periods: rows.periods,
         alpha: rows.alpha,

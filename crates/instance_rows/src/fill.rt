@@ -31,13 +31,13 @@ pub fn work_tables(
     periods: u32,
     resources: &IndexSet<String>,
     works: Vec<Work>,
-    orders: &mut [Vec<usize>],
+    mut orders: Vec<Vec<usize>>,
 ) -> Result<WorkTables, AllocError>
     requires few { periods ≤ 512 }
     requires few_resources { length resources.now.keys ≤ 1024 }
     requires names { AllPairs (λ a b. a ≢ b) (map string_bytes resources.now.keys) }
     requires ready { All (λ w. IsReady periods w) (map work_view works.items) }
-    requires orders { map (λ o. o.items) orders.old ≡ map (λ w. order_of periods (work_view w)) works.items }
+    requires orders { map (λ o. o.items) orders.items ≡ map (λ w. order_of periods (work_view w)) works.items }
     ensures { IfOk result (AreTablesOf periods (map string_bytes resources.now.keys) (map work_view works.items)) }
 {
     let mut tables = WorkTables {

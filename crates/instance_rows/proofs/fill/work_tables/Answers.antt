@@ -73,10 +73,10 @@ add_work-requires-clause-order c =
       c.len-in-loop-work.ensures,
       count c.args.periods names c.loop-work.yielded c.loop-work.tables c.loop-work.invariant.tables,
     ) in
-    own_order c.args.periods works c.args.orders.now c.loop-work.orders n c.in-Some.work c.replace-order.result
-    c.index-orders-len.result c.requires.orders (record { below = t.0; item = t.1 }) (λ d. c.loop-work.invariant.rest
-    n d (omega arith)) (c.replace-order.ensures.value
-    ∙ ap (λ k. get_or c.loop-work.orders k c.index-orders-len.result) i)
+    own_order c.args.periods works c.args.orders.items c.loop-work.orders.items n c.in-Some.work c.replace-order.result
+    c.index_mut.result.now c.requires.orders (record { below = t.0; item = t.1 }) (λ d. c.loop-work.invariant.rest
+    n d (omega arith)) (c.replace-order.ensures.value ∙ c.index_mut.ensures.value
+    ∙ ap (λ k. get_or c.loop-work.orders.items k c.index_mut.result.now) i)
 
 pub loop-work-preserved : goal.loop-work-preserved
 loop-work-preserved c =
@@ -100,10 +100,40 @@ loop-work-preserved c =
       tables = subst (λ (ws : List WorkRow). AreTablesOf c.args.periods names ws c.add_work.new.tables)
           (sym (map-append work_view c.loop-work.yielded (c.in-Some.work ∷ [])))
           (c.in_ok-add_work.ensures (map work_view c.loop-work.yielded) c.loop-work.invariant.tables);
-      each = length-set c.loop-work.orders c.len-in-loop-work.result c.replace-order.new.dest
+      each = length-set c.loop-work.orders.items c.len-in-loop-work.result c.replace-order.new.dest
           ∙ c.loop-work.invariant.each;
       rest = λ k d l.
-          get_or-set_other c.loop-work.orders c.len-in-loop-work.result k c.replace-order.new.dest d
+          get_or-set_other c.loop-work.orders.items c.len-in-loop-work.result k c.replace-order.new.dest d
           (λ e. later k l e)
           ∙ c.loop-work.invariant.rest k d (omega (arith, l, length-append c.loop-work.yielded (c.in-Some.work ∷ [])));
     }
+
+-- a turn's number is one of an order
+in_orders : (periods : ℕ) (works : List Work) (orders now : List (Vec ℕ Global)) (n : ℕ) (work : Work)
+    → map (λ (o : Vec ℕ Global). o.items) orders ≡ map (λ w. order_of periods (work_view w)) works
+    → IsTurn works n work → length now ≡ length orders → n < length now
+in_orders periods works orders now n work same t each =
+    omega (
+      arith,
+      ap length same,
+      length-map orders (λ (o : Vec ℕ Global). o.items),
+      length-map works (λ w. order_of periods (work_view w)),
+      t.below,
+      each,
+    )
+
+pub index_mut-requires : goal.index_mut-requires
+index_mut-requires c =
+    let works = c.args.works.items in
+    let h = c.into_iter-work-iterator.ensures.into_iter_gives in
+    let t = YieldsList-turn (YieldsList-from_vec {s = c.into_iter-work-iterator.result} works h.0 (omega (arith, h.1)))
+    c.loop-work.yielded c.loop-work.work-iterator c.loop-work.yielded_by c.next.result c.next.new.self c.in-Some.work
+    c.in-Some.is c.next.ensures.steps in
+    omega (
+      arith,
+      c.len-in-loop-work.ensures,
+      count c.args.periods (map string_bytes c.args.resources.now.keys) c.loop-work.yielded c.loop-work.tables
+          c.loop-work.invariant.tables,
+      in_orders c.args.periods works c.args.orders.items c.loop-work.orders.items (length c.loop-work.yielded) c.in-Some.work
+          c.requires.orders (record { below = t.0; item = t.1 }) c.loop-work.invariant.each,
+    )

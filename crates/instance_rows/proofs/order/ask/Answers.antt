@@ -38,13 +38,13 @@ equal a b h = grind (arith, nat_tests)
 unequal : (a b : ℕ) → (a ≡ b → ⊥) → (a == b) ≡ false
 unequal a b h = grind (arith, nat_tests)
 
-pub returns-then-list-asked-clause-told : goal.returns-then-list-asked-clause-told
-returns-then-list-asked-clause-told c =
+pub returns-then-len-asked-clause-told : goal.returns-then-len-asked-clause-told
+returns-then-len-asked-clause-told c =
     let rs = c.args.asked.now.lists.now in let r = list_view c.list.result in
     let at = place_some (is_list_at c.args.period c.args.start) rs c.in-Some.k
     (sym (c.find.ensures rs c.requires.known) ∙ c.in-Some.is) in
     at_place c.args.asked.now.counts.now c.args.asked.now.name.now c.args.period c.args.start c.in-Some.k rs r false at
-    (c.list.ensures r) (unequal _ _ c.if-list-asked.true)
+    (c.list.ensures r) (unequal _ _ (λ e. c.if-len-asked.true (c.len.ensures ∙ e)))
     ∙ ap (λ (n : List ℕ). Some (scenario_count n c.args.period c.args.start)) (sym c.in_ok-to_string-2.ensures.ok)
 
 pub returns-clause-told : goal.returns-clause-told
@@ -53,4 +53,4 @@ returns-clause-told c =
     let at = place_some (is_list_at c.args.period c.args.start) rs c.in-Some.k
     (sym (c.find.ensures rs c.requires.known) ∙ c.in-Some.is) in
     at_place c.args.asked.now.counts.now c.args.asked.now.name.now c.args.period c.args.start c.in-Some.k rs r true at
-    (c.list.ensures r) (equal _ _ c.if-list-asked.false)
+    (c.list.ensures r) (equal _ _ (sym c.len.ensures ∙ c.if-len-asked.false))
