@@ -7,8 +7,7 @@ use Rattle.instance_shape.specs.declared.spot.Spot.{Spot}
 use Rattle.instance_shape.specs.declared.spot.Spot.TheVariants as spot
 use Rattle.instance_shape.specs.declared.spot.Kind.TheVariants as kind
 use Rattle.instance_shape.specs.Shape.{kind_of}
-use Rattle.instance_rows.specs.FileRows.{RiskRow}
-use Rattle.instance_rows.specs.RiskLists.{add_all_to_last}
+use Rattle.instance_model.specs.RiskLists.{RiskRow, add_all_to_last}
 use Rattle.shape_walk.specs.declared.taken.Read.TheVariants.{Count}
 use Rattle.shape_walk.specs.CountEvents.{HasCount, HaveCounts}
 use Rattle.shape_walk.specs.Reads.{read_of}
