@@ -323,6 +323,9 @@ fn told_of_file(
     }
 }
 
+/// How long the pieces of a file are that is read by pieces.
+const PIECES: [usize; 9] = [1, 7, 15, 16, 17, 63, 64, 65, 4096];
+
 /// Of each edited file this is told, whether it is read from bytes or by pieces.
 fn tells(rt: &impl Abort, alloc: Global, limits: &Limits, edits: &[Edit]) -> Result<(), AllocError>
     requires { AreStandard limits.now }
@@ -332,7 +335,7 @@ fn tells(rt: &impl Abort, alloc: Global, limits: &Limits, edits: &[Edit]) -> Res
         let bytes = text.as_bytes();
         let answer = told(alloc, read_instance(alloc, limits, slack(), bytes))?;
         assert_eq!(rt; answer.as_str(), *want, "{new}");
-        for most in [1usize, 7, 4096] {
+        for most in PIECES {
             let answer = told_of_file(alloc, of_file(alloc, limits, bytes, most, None))?;
             assert_eq!(rt; answer.as_str(), *want, "{new} by {most}");
         }
@@ -416,7 +419,7 @@ fn is_good(rt: &impl Abort, inst: &Instance) {
 /// A file of this text is read by pieces of each size as the instance of the file.
 fn reads_pieces(rt: &impl Abort, alloc: Global, text: &str) -> Result<(), StreamFault> {
     let limits = Limits::standard();
-    for most in [1usize, 7, 4096] {
+    for most in PIECES {
         is_good(rt, &of_file(alloc, &limits, text.as_bytes(), most, None)?);
     }
     Ok(())
