@@ -9,6 +9,7 @@ mod FlawLemmas
 mod KeyLemmas
 pub mod Keeping
 mod NumberKeyLemmas
+pub mod NumberTexts
 mod OneMore
 mod TextOrder
 mod Weighing

@@ -1,7 +1,12 @@
 //! What is open in a text.
 
-ghost use Rattle.std.specs.Prelude.{◌≡◌, ℕ, ◌++◌, None, IfOk, OnOk};
+ghost use Rattle.std.specs.Prelude.{◌≡◌, ◌↔◌, ℕ, List, ◌++◌, true, None, IfOk, OnOk, IsTrue};
+ghost use Rattle.instance_model.specs.declared.limits.Limits.{Limits as Sizes};
+ghost use Rattle.instance_shape.specs.declared.spot.Kind.TheVariants as kinds;
+ghost use Rattle.instance_shape.specs.Keys.{is_digits, number_of};
+ghost use Rattle.instance_shape.specs.Shape as shape;
 ghost use Rattle.instance_shape.specs.Shape.{kind_of as kind};
+ghost use Rattle.shape_walk.specs.declared.taken.Read.TheVariants as reads;
 ghost use Rattle.shape_walk.specs.Flaws.{first_flaw};
 ghost use Rattle.shape_walk.specs.Frames.{frame_of};
 ghost use Rattle.shape_walk.specs.Kept.{open_spot, object_spot};
@@ -129,6 +134,52 @@ impl Frame {
             }
             Frame::Outside | Frame::List(_, _) => Ok(Judged::unread(Spot::Skipped, None)),
         }
+    }
+
+    /// Whether it is an object whose keys are periods or starts.
+    #[inline]
+    pub fn has_number_keys(&self) -> bool
+        ensures { IsTrue result ↔ (kind (object_spot (frame_of self.now)) ≡ kinds.Numbers) }
+    {
+        match self {
+            Frame::Object(open) => matches!(kind_of(open.spot), Kind::Numbers),
+            Frame::Outside | Frame::List(_, _) => false,
+        }
+    }
+
+    /// Takes a key in it that is a period or start, by the number that it writes.
+    pub fn take_number_key(&mut self, number: u32) -> Result<Judged, AllocError>
+        requires { kind (object_spot (frame_of self.old)) ≡ kinds.Numbers }
+        ensures flaw { IfOk result (λ r. (limits : Sizes) (at : ℕ) (key : List ℕ)
+            → is_digits key ≡ true → number_of key ≡ number
+            → r.flaw ≡ first_flaw (machine.faults_of_key limits at key (frame_of self.old))) }
+        ensures taken { IfOk result (λ r. r.taken
+            ≡ record { spot = object_spot (frame_of self.old); read = reads.Whole number }) }
+        ensures frame { IfOk result (λ r. (key : List ℕ) → is_digits key ≡ true → number_of key ≡ number
+            → r.flaw ≡ None → frame_of self.new ≡ machine.behind_key key (frame_of self.old)) }
+    {
+        match self {
+            Frame::Object(open) => {
+                let judged = open.seen.take_number(open.spot, number)?;
+                open.next = under_numbers(open.spot);
+                Ok(judged)
+            }
+            Frame::Outside | Frame::List(_, _) => unreachable!(),
+        }
+    }
+}
+
+/// The spot of the values under the periods or starts of an object at a spot.
+fn under_numbers(spot: Spot) -> Spot
+    requires { kind spot ≡ kinds.Numbers }
+    ensures { (key : List ℕ) → result ≡ shape.under spot key }
+{
+    match spot {
+        Spot::WorkloadResource => Spot::WorkloadPeriod,
+        Spot::WorkloadPeriod => Spot::WorkloadNumber,
+        Spot::Risk => Spot::RiskPeriod,
+        Spot::RiskPeriod => Spot::RiskStart,
+        _ => unreachable!(),
     }
 }
 

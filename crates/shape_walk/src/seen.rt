@@ -1,14 +1,15 @@
 //! The keys that an open object has had.
 
-ghost use Rattle.std.specs.Prelude.{◌≡◌, ℕ, ◌++◌, [], None, true, cond, IfOk, string_bytes, not, ◌&&◌};
+ghost use Rattle.std.specs.Prelude.{◌≡◌, ℕ, List, ◌∷◌, ◌++◌, [], None, true, cond, IfOk, string_bytes, not, ◌&&◌};
 ghost use Rattle.instance_model.specs.declared.limits.Limits.{Limits as Sizes};
 ghost use Rattle.instance_shape.specs.declared.spot.Kind.TheVariants as kinds;
 ghost use Rattle.instance_shape.specs.declared.fault.Flaw.TheVariants as flaws;
-ghost use Rattle.instance_shape.specs.Keys.{is_name, key_of};
+ghost use Rattle.instance_shape.specs.Keys.{is_name, is_digits, number_of, key_of, by_number};
 ghost use Rattle.instance_shape.specs.Seen.{texts_of, numbers_of};
 ghost use Rattle.instance_shape.specs.Shape as shape;
 ghost use Rattle.instance_shape.specs.ShapeFaults.{where_so, key_faults, key_limit, first_past, takes_names, missing};
 ghost use Rattle.shape_walk.specs.Flaws.{first_flaw};
+ghost use Rattle.shape_walk.specs.declared.taken.Read.TheVariants as reads;
 ghost use Rattle.shape_walk.specs.Reads.{read_of_key};
 ghost use Rattle.shape_walk.specs.Seen.{seen_of, suits, counts_by_text};
 
@@ -79,6 +80,23 @@ impl Seen {
             Seen::Nothing => Ok(Judged::unread(spot, None)),
         }
     }
+
+    /// Adds a key of an object at a spot whose keys are periods or starts, by the number that it writes.
+    pub fn take_number(&mut self, spot: Spot, number: u32) -> Result<Judged, AllocError>
+        requires suits { suits self.old (shape.kind_of spot) ≡ true }
+        requires numbers { shape.kind_of spot ≡ kinds.Numbers }
+        ensures flaw { IfOk result (λ r. (limits : Sizes) (at : ℕ) (key : List ℕ)
+            → is_digits key ≡ true → number_of key ≡ number
+            → r.flaw ≡ first_flaw (key_faults limits spot (seen_of self.old) at key)) }
+        ensures taken { IfOk result (λ r. r.taken ≡ record { spot = spot; read = reads.Whole number }) }
+        ensures added { IfOk result (λ r. r.flaw ≡ None → seen_of self.new ≡ seen_of self.old ++ by_number number ∷ []) }
+        ensures suits { suits self.new (shape.kind_of spot) ≡ true }
+    {
+        match self {
+            Seen::Numbers(numbers) => add_number(spot, numbers, number),
+            Seen::Texts(_) | Seen::Nothing => unreachable!(),
+        }
+    }
 }
 
 /// The limit on the number of keys of an object at a spot.
@@ -137,13 +155,28 @@ fn take_number(spot: Spot, numbers: &mut NumberKeys, key: &str) -> Result<Judged
     ensures added { IfOk result (λ r. r.flaw ≡ None
         → numbers_of numbers.new ≡ numbers_of numbers.old ++ key_of (shape.kind_of spot) key.now) }
 {
-    let Some(number) = number_of(key) else {
-        return Ok(Judged::unread(spot, Some(Flaw::Shape)));
-    };
+    match number_of(key) {
+        Some(number) => add_number(spot, numbers, number),
+        None => Ok(Judged::unread(spot, Some(Flaw::Shape))),
+    }
+}
+
+/// Adds a period or start.
+fn add_number(spot: Spot, numbers: &mut NumberKeys, number: u32) -> Result<Judged, AllocError>
+    requires { shape.kind_of spot ≡ kinds.Numbers }
+    ensures flaw { IfOk result (λ r. (limits : Sizes) (at : ℕ) (key : List ℕ)
+        → is_digits key ≡ true → number_of key ≡ number
+        → r.flaw ≡ first_flaw (key_faults limits spot (numbers_of numbers.old) at key)) }
+    ensures taken { IfOk result (λ r. r.taken ≡ record { spot = spot; read = reads.Whole number }) }
+    ensures added { IfOk result (λ r. r.flaw ≡ None
+        → numbers_of numbers.new ≡ numbers_of numbers.old ++ by_number number ∷ []) }
+{
     let new = numbers.add(number)?;
-    let read = Read::Whole(number);
     Ok(Judged {
-        taken: Taken { spot, read },
+        taken: Taken {
+            spot,
+            read: Read::Whole(number),
+        },
         flaw: if new { None } else { Some(Flaw::Double) },
     })
 }

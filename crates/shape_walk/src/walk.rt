@@ -1,16 +1,17 @@
 //! The walk over the events of a text.
 
 ghost use Rattle.std.specs.Prelude.{◌≡◌, ◌∷◌, [], ◌++◌, ◌↔◌, ℕ, ℤ, List, Bool, false, None, Some, IfOk, OnOk, IfSome};
-ghost use Rattle.std.specs.Prelude.{◌≤◌, IsTrue, is_none, length};
+ghost use Rattle.std.specs.Prelude.{◌≤◌, IsTrue, is_none, length, true};
 ghost use Rattle.json_grammar.specs.Tree as json;
 ghost use Rattle.json_grammar.specs.Tree.{events_of};
 ghost use Rattle.json_grammar.specs.Events.{event_view};
 ghost use Rattle.instance_model.specs.declared.limits.Limits.{Limits as Sizes};
+ghost use Rattle.instance_shape.specs.Keys.{is_digits, number_of};
 ghost use Rattle.instance_shape.specs.ShapeFaults.{shape_faults, IsLeast};
 ghost use Rattle.instance_shape.specs.declared.fault.Fault.{Fault as FaultValue};
 ghost use Rattle.json_grammar.specs.Stream.{AscendFrom};
 ghost use Rattle.decimal_numbers.specs.Exact.{fixed};
-ghost use Rattle.shape_walk.specs.Awaits.{AwaitsCount, count_room};
+ghost use Rattle.shape_walk.specs.Awaits.{AwaitsCount, AwaitsNumberKey, count_room};
 ghost use Rattle.shape_walk.specs.CountEvents.{HaveCounts, StandAt, AreReadAs};
 ghost use Rattle.shape_walk.specs.declared.taken.Read.TheVariants as reads;
 ghost use Rattle.shape_walk.specs.Kept.{spot_after};
@@ -176,6 +177,38 @@ impl ShapeWalk {
     {
         self.top.pass_all(count);
         self.counts.count_all(&self.limits, spot, count);
+    }
+
+    /// Whether the next key of the text, where there is one in what is open, has to be a period or start, and no fault is
+    /// known.
+    #[inline]
+    pub fn awaits_number_key(&self) -> bool
+        ensures { IsTrue result ↔ AwaitsNumberKey self.now }
+    {
+        self.fault.is_none() && self.top.has_number_keys()
+    }
+
+    /// Takes the next event of a text, which is a key that has the form of a period or start and writes the number: what
+    /// `take` does with each such event.
+    ///
+    /// # Errors
+    ///
+    /// Where memory runs out; the walk is then of no more use.
+    pub fn take_number_key(&mut self, at: u64, number: u32) -> Result<Taken, AllocError>
+        requires { AwaitsNumberKey self.old }
+        ensures stands { OnOk result ((limits : Sizes) (es : List json.Event) (end : ℕ) (text : List ℕ)
+            → is_digits text ≡ true → number_of text ≡ number → StandsAfter limits self.old es
+            → StandsAfter limits self.new (es ++ json.key at end text ∷ [])) }
+        ensures spot { IfOk result (λ taken. (limits : Sizes) (es : List json.Event) (end : ℕ) (text : List ℕ)
+            → StandsAfter limits self.old es → taken.spot ≡ spot_after es (json.key at end text)) }
+        ensures read { IfOk result (λ taken. (end : ℕ) (text : List ℕ)
+            → is_digits text ≡ true → number_of text ≡ number
+            → taken.read ≡ read_of taken.spot (json.key at end text)) }
+        ensures whole { IfOk result (λ taken. taken.read ≡ reads.Whole number) }
+    {
+        let judged = self.top.take_number_key(number)?;
+        self.fault = fault_at(at, judged.flaw);
+        Ok(judged.taken)
     }
 
     /// The first fault so far. Behind all events of a text it is none exactly where the text has no fault of shape, and

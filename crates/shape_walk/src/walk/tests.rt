@@ -285,3 +285,50 @@ fn counts_are_taken_at_once_up_to_their_limit(rt: HostRuntime) -> Result<(), Fai
     assert_eq!(rt; walk.fault(), fault(51, Flaw::Limit(Which::RiskCells)));
     Ok(())
 }
+
+#[test]
+fn where_number_keys_are_awaited(rt: HostRuntime) -> Result<(), Fail> {
+    let table: [(&[u8], bool); 8] = [
+        (b"{\"Interventions\":{\"I\":{\"workload\":{\"c\":{", true),
+        (
+            b"{\"Interventions\":{\"I\":{\"workload\":{\"c\":{\"1\":{\"1\":7,",
+            true,
+        ),
+        (b"{\"Interventions\":{\"I\":{\"risk\":{", true),
+        (b"{\"Interventions\":{\"I\":{\"risk\":{\"1\":{", true),
+        (
+            b"{\"Interventions\":{\"I\":{\"risk\":{\"1\":{\"1\":[",
+            false,
+        ),
+        (b"{\"Interventions\":{\"I\":{\"workload\":{", false),
+        (b"", false),
+        // behind a fault
+        (b"{\"T\":0,\"Interventions\":{\"I\":{\"risk\":{", false),
+    ];
+    for (bytes, want) in table {
+        let walk = walk_along(rt.alloc(), &Limits::standard(), bytes)?;
+        assert_eq!(rt; walk.awaits_number_key(), want);
+    }
+    Ok(())
+}
+
+/// Takes a key that writes a number, where one is awaited.
+fn take_awaited_key(walk: &mut ShapeWalk, at: u64, number: u32) -> Result<(), AllocError> {
+    if walk.awaits_number_key() {
+        walk.take_number_key(at, number)?;
+    }
+    Ok(())
+}
+
+#[test]
+fn number_keys_are_taken_once(rt: HostRuntime) -> Result<(), Fail> {
+    let bytes = b"{\"Interventions\":{\"I\":{\"workload\":{\"c\":{\"1\":{\"007\":7,";
+    let mut walk = walk_along(rt.alloc(), &Limits::standard(), bytes)?;
+    take_awaited_key(&mut walk, 52, 8)?;
+    assert_eq!(rt; walk.fault(), None);
+    assert_eq!(rt; walk.awaits_count(), Some(Spot::WorkloadNumber));
+    take_awaited_key(&mut walk, 58, 7)?;
+    assert_eq!(rt; walk.fault(), fault(58, Flaw::Double));
+    assert!(rt; !walk.awaits_number_key());
+    Ok(())
+}
