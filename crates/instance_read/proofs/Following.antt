@@ -4,8 +4,8 @@ use Rattle.std.proofs.Common.{None, refl, sym, ◌∙◌, ap, subst, arith, appe
 use Rattle.std.specs.Prelude.{ℤ, slice_get, Result, Ok, Err, IfOk, OnOk}
 use Rattle.std.specs.declared.alloc.AllocError.{AllocError}
 use Rattle.std.proofs.lemmas.List.{length_push, take_all}
-use Rattle.json_grammar.specs.Tree.{Tree, Event, events_of}
-use Rattle.json_events.specs.Counts.{IsNextCount, AreNextCounts}
+use Rattle.json_grammar.specs.Tree.{Tree, Event, key, events_of}
+use Rattle.json_events.specs.Counts.{IsNextCount, AreNextCounts, IsNextNumberKey}
 use Rattle.decimal_numbers.specs.Exact.{fixed}
 use Rattle.json_grammar.specs.Grammar.{IsText}
 use Rattle.json_grammar.specs.Prefix.{IsSyntaxFault, IsDepthFault, IsShallow}
@@ -17,10 +17,12 @@ use Rattle.json_grammar.specs.declared.fault.TextFault.TheVariants.{Syntax, TooD
 use Rattle.instance_model.specs.declared.limits.Limits.{Limits}
 use Rattle.instance_shape.specs.declared.fault.Fault.{Fault}
 use Rattle.instance_shape.specs.declared.spot.Spot.{Spot}
+use Rattle.instance_shape.specs.Keys.{is_digits, number_of}
 use Rattle.shape_walk.specs.Standing.{Walk, StandsAfter}
 use Rattle.shape_walk.specs.CountEvents.{HaveCounts, StandAt}
 use Rattle.shape_walk.specs.Kept.{kept, spot_after}
 use Rattle.shape_walk.proofs.Keeping.{kept_more}
+use Rattle.shape_walk.proofs.NumberTexts.{has_form, has_value}
 use Rattle.instance_read.specs.Keeping.{keep, keep_each, nothing_kept}
 use Rattle.instance_read.specs.Keepers.{kept_of}
 use Rattle.instance_read.specs.Readers.{HaveTaken, IsFollowing, IsEnding, Follows, Ends, HaveFault, HaveLastFault}
@@ -96,6 +98,36 @@ follow_count limits old new walk walk' keeper keeper' bytes at count s none stan
           (walks h.events number.token number.exact h.taken.stands) none (spot h.events number.token h.taken.stands)
           (keeps number.token number.exact);
       first = λ rest root t. one_more (events_of root) h.events e (h.first rest root t) (number.next rest root t);
+    }
+
+-- the same of a key of which the number alone is told, and which is kept where there is no fault behind it
+pub follow_key : (limits : Limits) (old new : PullView) (walk walk' : Walk) (keeper keeper' : Keeper) (bytes : List ℕ)
+    (at number : ℕ) (s : Spot) → walk.fault ≡ None
+    → ((given : ℕ) → Stands old bytes given false → Stands new bytes (given + 1) false)
+    → ((given : ℕ) → Stands old bytes given false → IsNextNumberKey bytes given at number)
+    → ((es : List Event) (end : ℕ) (text : List ℕ) → is_digits text ≡ true → number_of text ≡ number
+    → StandsAfter limits walk es → StandsAfter limits walk' (es ++ key at end text ∷ []))
+    → ((es : List Event) (end : ℕ) (text : List ℕ) → StandsAfter limits walk es → s ≡ spot_after es (key at end text))
+    → (walk'.fault ≡ None → (end : ℕ) (text : List ℕ) → is_digits text ≡ true → number_of text ≡ number
+    → kept_of keeper' ≡ keep s (key at end text) (kept_of keeper))
+    → IsFollowing limits old walk keeper bytes → IsFollowing limits new walk' keeper' bytes
+follow_key limits old new walk walk' keeper keeper' bytes at number s none stands next walks spot keeps h =
+    let k = next (length h.events) h.pulled in
+    let form = has_form k.text k.some k.few k.digits in
+    let value = has_value k.text number k.value in
+    let e = key at k.end k.text in
+    record {
+      events = h.events ++ e ∷ [];
+      pulled =
+          subst (λ (n : ℕ). Stands new bytes n false) (sym (length_push h.events e))
+          (stands (length h.events) h.pulled);
+      taken = record {
+        stands = walks h.events k.end k.text form value h.taken.stands;
+        kept = λ fine. keeps fine k.end k.text form value ∙ ap (keep s e) (h.taken.kept none)
+            ∙ ap (λ q. keep q e (kept keep h.events nothing_kept)) (spot h.events k.end k.text h.taken.stands)
+            ∙ sym (kept_more keep h.events e nothing_kept);
+      };
+      first = λ rest root t. one_more (events_of root) h.events e (h.first rest root t) (k.next rest root t);
     }
 
 -- ---- many numbers, of which the values alone are told

@@ -13,7 +13,7 @@ use arrayvec::ArrayVec;
 use instance_shape::Spot;
 use json_events::{MOST_COUNTS, Pull, Pulled};
 use json_grammar::{Event, TextFault};
-use shape_walk::ShapeWalk;
+use shape_walk::{Read, ShapeWalk};
 use std::alloc::AllocError;
 
 /// Takes the next event of a text. It is kept as long as there is no fault of shape.
@@ -106,6 +106,34 @@ fn take_counts(
     Ok(())
 }
 
+/// Takes the key that comes next, where a period or start is awaited and it is told by its number: the way of most of
+/// these keys, without an event. Tells whether there was one. It is kept as long as there is no fault of shape.
+fn take_number_key(
+    pull: &mut Pull,
+    walk: &mut ShapeWalk,
+    keeper: &mut Keeper,
+) -> Result<bool, AllocError>
+    requires { IsUnfinished pull.old }
+    ensures follows { (limits : Sizes) (bytes : List ℕ) → IsFollowing limits pull.old walk.old keeper.old bytes
+        → OnOk result (IsFollowing limits pull.new walk.new keeper.new bytes) }
+    ensures unfinished { IsUnfinished pull.new }
+{
+    if !walk.awaits_number_key() {
+        return Ok(false);
+    }
+    let Some(key) = pull.next_number_key() else {
+        return Ok(false);
+    };
+    let taken = walk.take_number_key(key.at, key.number)?;
+    if walk.fault().is_some() {
+        return Ok(true);
+    }
+    if let Read::Whole(number) = taken.read {
+        keeper.take_number_key(taken.spot, number)?;
+    }
+    Ok(true)
+}
+
 /// Takes the events that the bytes tell that have come, up to a fault of the text.
 pub fn take_events(
     pull: &mut Pull,
@@ -120,6 +148,9 @@ pub fn take_events(
     let mut counts = ArrayVec::new();
     'events: for _ in 0..u64::MAX {
         take_counts(pull, walk, keeper, &mut counts)?;
+        if take_number_key(pull, walk, keeper)? {
+            continue;
+        }
         match pull.next_event() {
             Ok(Pulled::Event(event)) => take_event(walk, keeper, event)?,
             Ok(Pulled::More) => return Ok(None),

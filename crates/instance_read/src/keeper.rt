@@ -112,6 +112,25 @@ impl Keeper {
         }
     }
 
+    /// Takes the next event of a text, which is a key at the spot that is read as the number: a period or start.
+    pub fn take_number_key(&mut self, spot: Spot, number: u32) -> Result<(), AllocError>
+        ensures { (at end : ℕ) (text : List ℕ) → read_of spot (json.key at end text) ≡ reads.Whole number
+            → OnOk result (kept_of self.new ≡ spec.keep spot (json.key at end text) (kept_of self.old)) }
+    {
+        match spot {
+            Spot::WorkloadResource | Spot::Risk => {
+                self.period = number;
+                Ok(())
+            }
+            Spot::WorkloadPeriod => {
+                self.start = number;
+                Ok(())
+            }
+            Spot::RiskPeriod => self.work.risks.open(self.period, number),
+            _ => Ok(()),
+        }
+    }
+
     /// Keeps counts one by one.
     fn add_counts(&mut self, spot: Spot, counts: &[i64]) -> Result<(), AllocError>
         ensures { OnOk result (kept_of self.new ≡ spec.keep_counts spot counts.now (kept_of self.old)) }
