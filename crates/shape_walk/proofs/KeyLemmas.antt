@@ -9,7 +9,8 @@ use Rattle.instance_shape.specs.declared.spot.Spot.{Spot}
 use Rattle.instance_shape.specs.declared.spot.Spot.TheVariants as spot
 use Rattle.instance_shape.specs.declared.spot.Kind.{Kind}
 use Rattle.instance_shape.specs.declared.spot.Kind.TheVariants as kind
-use Rattle.instance_shape.specs.Keys.{Key, by_text, by_number, key_of, has_key, is_name, is_digits, number_of, is_double}
+use Rattle.instance_shape.specs.Keys.{Key, by_text, by_number, key_of, has_key, is_name, is_digits, number_of}
+use Rattle.instance_shape.specs.Keys.{is_double}
 use Rattle.instance_shape.specs.Seen.{texts_of, numbers_of}
 use Rattle.instance_shape.specs.Shape.{kind_of}
 use Rattle.instance_shape.specs.ShapeFaults.{where_so, key_faults, takes_names, takes_numbers, first_past, key_limit}

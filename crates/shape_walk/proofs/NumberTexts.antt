@@ -1,6 +1,6 @@
 -- A key of 1 to 9 digits has the form of a period or start, which is the number that they write.
-use Rattle.std.proofs.Common.{◌≡◌, ℕ, suc, ◌≤◌, ◌-◌, ◌+◌, ◌*◌, List, [], ◌∷◌, Bool, true, false, cond, length, refl, sym}
-use Rattle.std.proofs.Common.{◌∙◌, arith}
+use Rattle.std.proofs.Common.{◌≡◌, ℕ, suc, ◌≤◌, ◌-◌, ◌+◌, ◌*◌, List, [], ◌∷◌, Bool, true, false, cond, length, refl}
+use Rattle.std.proofs.Common.{◌∙◌, sym, arith}
 use Rattle.std.proofs.lemmas.Bool.Decides.{nat_tests}
 use Rattle.json_grammar.specs.Bytes.{is_digit}
 use Rattle.json_grammar.specs.Token.{digit_count}

@@ -89,7 +89,8 @@ impl Seen {
             → is_digits key ≡ true → number_of key ≡ number
             → r.flaw ≡ first_flaw (key_faults limits spot (seen_of self.old) at key)) }
         ensures taken { IfOk result (λ r. r.taken ≡ record { spot = spot; read = reads.Whole number }) }
-        ensures added { IfOk result (λ r. r.flaw ≡ None → seen_of self.new ≡ seen_of self.old ++ by_number number ∷ []) }
+        ensures added { IfOk result (λ r. r.flaw ≡ None
+            → seen_of self.new ≡ seen_of self.old ++ by_number number ∷ []) }
         ensures suits { suits self.new (shape.kind_of spot) ≡ true }
     {
         match self {

@@ -179,8 +179,8 @@ impl ShapeWalk {
         self.counts.count_all(&self.limits, spot, count);
     }
 
-    /// Whether the next key of the text, where there is one in what is open, has to be a period or start, and no fault is
-    /// known.
+    /// Whether the innermost that is open is an object whose keys are periods or starts, and no fault is known. What has
+    /// come so far doesn't tell whether a key comes next.
     #[inline]
     pub fn awaits_number_key(&self) -> bool
         ensures { IsTrue result ↔ AwaitsNumberKey self.now }
@@ -188,7 +188,7 @@ impl ShapeWalk {
         self.fault.is_none() && self.top.has_number_keys()
     }
 
-    /// Takes the next event of a text, which is a key that has the form of a period or start and writes the number: what
+    /// Takes the next event of a text, which is a key in the form of a period or start that writes the number: what
     /// `take` does with each such event.
     ///
     /// # Errors

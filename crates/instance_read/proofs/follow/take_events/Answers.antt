@@ -15,8 +15,8 @@ returns-in-Err c =
       follows = λ limits bytes h.
           let q = c.in_ok-take_number_key.ensures.follows limits bytes
           (c.in_ok-take_counts.ensures.follows limits bytes (c.events.invariant.follows limits bytes h)) in
-          told_follows c.told.result f limits c.next_event.new.self c.take_number_key.new.walk c.take_number_key.new.keeper
-          bytes c.told.ensures.same c.told.ensures.not_memory (λ m.
+          told_follows c.told.result f limits c.next_event.new.self c.take_number_key.new.walk
+          c.take_number_key.new.keeper bytes c.told.ensures.same c.told.ensures.not_memory (λ m.
           stays bytes f m (λ at i. e.syntax bytes (length q.events) at q.pulled (c.in-Err.is ∙ ap Err i))
           (λ at i. e.first bytes (length q.events) at q.pulled (c.in-Err.is ∙ ap Err i))
           (λ at i. e.too_deep bytes (length q.events) at q.pulled (c.in-Err.is ∙ ap Err i)));
