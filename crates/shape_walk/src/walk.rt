@@ -160,8 +160,7 @@ impl ShapeWalk {
 
     /// Takes the next events of a text, so many numbers at the spot, each with a value that is exactly a count of
     /// 10^-12. It does at once what `take_count` does with them one by one; the limits allow them, so there is no
-    /// fault.
-    /// It takes no memory.
+    /// fault. It takes no memory.
     #[inline]
     pub fn take_counts(&mut self, spot: Spot, count: u64)
         requires awaits { AwaitsCount self.old spot }
