@@ -73,7 +73,8 @@ items_read {bytes} at levels mode v comma (AreCountedRuns.more {counts} {used} {
       reads = λ stream told h e.
           let there : rest ≡ drop (at + used) stream = ap (drop used) e ∙ drop-drop used at stream in
           let read = item_read stream rest (at + used) item.blanks item.size levels before.last (st levels want)
-          (event ∷ []) (told ++ before.events) (waits before.last before.value) item.skips (before.reads stream told h e) there takes in
+          (event ∷ []) (told ++ before.events) (waits before.last before.value) item.skips
+          (before.reads stream told h e) there takes in
           subst (λ es. HasRead stream (at + (used + next)) (st levels want) es)
           (append_assoc told before.events (event ∷ []))
           (subst (λ k. HasRead stream k (st levels want) ((told ++ before.events) ++ event ∷ [])) end read);

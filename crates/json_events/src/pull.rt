@@ -156,9 +156,9 @@ impl Pull {
     }
 
     /// The next event, where it is a number without a sign and an exponent, of at most 7 digits before the point and 12
-    /// behind it, in a list or an object, and the comma behind it was pushed, or the bracket that closes the list, whose
-    /// event comes next: its place and its exact value. `None` says nothing of the events that are due. It takes no
-    /// memory, and is a shorter way to most numbers than `next_event`.
+    /// behind it, in a list or an object, and the comma behind it was pushed, or the bracket that closes the list: its
+    /// place and its exact value. The event of a bracket comes next. `None` says nothing of the events that are due. It
+    /// takes no memory, and is a shorter way to most numbers than `next_event`.
     #[inline]
     pub fn next_counted(&mut self) -> Option<CountedNumber>
         requires { IsUnfinished self.old }
@@ -177,8 +177,8 @@ impl Pull {
         Some(number)
     }
 
-    /// The next event, where it is a key of 1 to 9 digits whose closing quote was pushed: its place, and the number that
-    /// the digits write. `None` says nothing of the events that are due. It takes no memory.
+    /// The next event, where it is a key of 1 to 9 digits whose closing quote was pushed: its place, and the number
+    /// that the digits write. `None` says nothing of the events that are due. It takes no memory.
     #[inline]
     pub fn next_number_key(&mut self) -> Option<NumberKey>
         requires { IsUnfinished self.old }

@@ -178,8 +178,8 @@ impl ShapeWalk {
         self.counts.count_all(&self.limits, spot, count);
     }
 
-    /// Whether the innermost that is open is an object whose keys are periods or starts, and no fault is known. What has
-    /// come so far doesn't tell whether a key comes next.
+    /// Whether the innermost that is open is an object whose keys are periods or starts, and no fault is known. What
+    /// has come so far doesn't tell whether a key comes next.
     #[inline]
     pub fn awaits_number_key(&self) -> bool
         ensures { IsTrue result ↔ AwaitsNumberKey self.now }

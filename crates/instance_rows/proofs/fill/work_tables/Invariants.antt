@@ -7,5 +7,6 @@ abbrev pub invariant-loop-work : goal.invariant-loop-work
 invariant-loop-work l = record {
   tables : AreTablesOf l.periods (map string_bytes l.resources.keys) (map work_view l.yielded) l.tables;
   each : length l.orders.items ≡ length l.initial.orders.items;
-  rest : (k : ℕ) (d : Vec ℕ Global) → length l.yielded ≤ k → get_or l.orders.items k d ≡ get_or l.initial.orders.items k d;
+  rest : (k : ℕ) (d : Vec ℕ Global) → length l.yielded ≤ k
+      → get_or l.orders.items k d ≡ get_or l.initial.orders.items k d;
 }

@@ -4,9 +4,6 @@ use Rattle.plan_moves.specs.KeptPlans.{present}
 use Rattle.local_search.proofs.ChangeLemmas.{equal_starts_lower_not, first_not_allowed, second_not_allowed}
 use Rattle.local_search.proofs.LeadsLemmas.{present_each}
 use Rattle.local_search.proofs.exchange.try_swap.Goals as goal
-use Rattle.local_search.proofs.exchange.try_swap.Goals.{}
-use Rattle.local_search.proofs.exchange.try_swap.Goals.{}
-use Rattle.local_search.proofs.exchange.try_swap.Goals.{}
 use Rattle.local_search.proofs.exchange.try_swap.Goals.{else-first-second-via-then-first-second+then-allowed+else-allowed-2}
 use Rattle.local_search.proofs.exchange.try_swap.Goals.{else-first-second-via-then-first-second+else-allowed}
 use Rattle.local_search.proofs.exchange.try_swap.Goals.{else-first-second-via-else-first-second}

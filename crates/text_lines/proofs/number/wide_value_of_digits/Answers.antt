@@ -5,9 +5,6 @@ use Rattle.text_lines.proofs.DigitLemmas.{each-digits, digits-each, digits_value
 use Rattle.text_lines.proofs.number.wide_value_of_digits.Goals as goal
 use Rattle.text_lines.proofs.number.wide_value_of_digits.Goals.{then-is_empty-via-then-is_empty}
 use Rattle.text_lines.proofs.number.wide_value_of_digits.Goals.{then-is_empty-via-else-is_empty+then-bytes-most}
-use Rattle.text_lines.proofs.number.wide_value_of_digits.Goals.{}
-use Rattle.text_lines.proofs.number.wide_value_of_digits.Goals.{}
-use Rattle.text_lines.proofs.number.wide_value_of_digits.Goals.{}
 use Rattle.text_lines.proofs.number.wide_value_of_digits.Goals.{then-is_empty-via-else-is_empty+else-bytes-most+then-not-are_digits}
 
 pub returns-then-is_empty-clause-none : goal.returns-then-is_empty-clause-none

@@ -9,5 +9,5 @@ returns-clause-takes c k _ =
     let n = c.args.count in
     let key = c.requires in
     key_taken k n (levels_of m.levels.items) (mode_of m.mode m.at m.token.items) c.args.bytes.now
-    (take n (drop 1 c.args.bytes.now)) (k + (n + 2)) (key_mode m.mode m.at m.token.items (search rules)) key.opens key.plain
-    key.within key.closes refl refl
+    (take n (drop 1 c.args.bytes.now)) (k + (n + 2)) (key_mode m.mode m.at m.token.items (search rules)) key.opens
+    key.plain key.within key.closes refl refl
