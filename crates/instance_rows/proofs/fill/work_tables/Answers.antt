@@ -134,6 +134,6 @@ index_mut-requires c =
       c.len-in-loop-work.ensures,
       count c.args.periods (map string_bytes c.args.resources.now.keys) c.loop-work.yielded c.loop-work.tables
           c.loop-work.invariant.tables,
-      in_orders c.args.periods works c.args.orders.items c.loop-work.orders.items (length c.loop-work.yielded) c.in-Some.work
-          c.requires.orders (record { below = t.0; item = t.1 }) c.loop-work.invariant.each,
+      in_orders c.args.periods works c.args.orders.items c.loop-work.orders.items (length c.loop-work.yielded)
+          c.in-Some.work c.requires.orders (record { below = t.0; item = t.1 }) c.loop-work.invariant.each,
     )
