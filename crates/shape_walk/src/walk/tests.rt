@@ -312,22 +312,23 @@ fn where_number_keys_are_awaited(rt: HostRuntime) -> Result<(), Fail> {
     Ok(())
 }
 
-/// Takes a key that writes a number, where one is awaited.
-fn take_awaited_key(walk: &mut ShapeWalk, at: u64, number: u32) -> Result<(), AllocError> {
-    if walk.awaits_number_key() {
-        walk.take_number_key(at, number)?;
+/// What a walk reads of a key that writes a number, where one is awaited.
+fn read_awaited_key(walk: &mut ShapeWalk, at: u64, number: u32) -> Result<Read, AllocError> {
+    if !walk.awaits_number_key() {
+        return Ok(Read::Nothing);
     }
-    Ok(())
+    let taken = walk.take_number_key(at, number)?;
+    Ok(taken.read)
 }
 
 #[test]
 fn number_keys_are_taken_once(rt: HostRuntime) -> Result<(), Fail> {
     let bytes = b"{\"Interventions\":{\"I\":{\"workload\":{\"c\":{\"1\":{\"007\":7,";
     let mut walk = walk_along(rt.alloc(), &Limits::standard(), bytes)?;
-    take_awaited_key(&mut walk, 52, 8)?;
+    assert_eq!(rt; read_awaited_key(&mut walk, 52, 8)?, Read::Whole(8));
     assert_eq!(rt; walk.fault(), None);
     assert_eq!(rt; walk.awaits_count(), Some(Spot::WorkloadNumber));
-    take_awaited_key(&mut walk, 58, 7)?;
+    assert_eq!(rt; read_awaited_key(&mut walk, 58, 7)?, Read::Whole(7));
     assert_eq!(rt; walk.fault(), fault(58, Flaw::Double));
     assert!(rt; !walk.awaits_number_key());
     Ok(())
