@@ -177,19 +177,21 @@ kept_each s (e ∷ more) es a =
     ∙ ap (keep_each s more) (kept_more keep es e nothing_kept
     ∙ ap (λ q. keep q e (kept keep es nothing_kept)) (sym a.0))
 
--- where there are none, nothing more is taken
+-- where no event is given, nothing more is taken
+pub follow_quiet : (limits : Limits) (old new : PullView) (walk : Walk) (keeper : Keeper) (bytes : List ℕ)
+    → ((given : ℕ) → Stands old bytes given false → Stands new bytes given false)
+    → IsFollowing limits old walk keeper bytes → IsFollowing limits new walk keeper bytes
+follow_quiet limits old new walk keeper bytes stands h =
+    record { events = h.events; pulled = stands (length h.events) h.pulled; taken = h.taken; first = h.first }
+
 pub follow_none : (limits : Limits) (old new : PullView) (walk : Walk) (keeper : Keeper) (bytes : List ℕ)
     (counts : List ℤ) → length counts ≡ 0
     → ((given : ℕ) → Stands old bytes given false → Stands new bytes (given + length counts) false)
     → IsFollowing limits old walk keeper bytes → IsFollowing limits new walk keeper bytes
 follow_none limits old new walk keeper bytes counts z stands h =
-    let same : length h.events + length counts ≡ length h.events = omega arith in
-    record {
-      events = h.events;
-      pulled = subst (λ (n : ℕ). Stands new bytes n false) same (stands (length h.events) h.pulled);
-      taken = h.taken;
-      first = h.first;
-    }
+    follow_quiet limits old new walk keeper bytes (λ given s.
+    let same : given + length counts ≡ given = omega (arith, z) in
+    subst (λ (n : ℕ). Stands new bytes n false) same (stands given s)) h
 
 pub follow_counts : (limits : Limits) (old new : PullView) (walk walk' : Walk) (keeper keeper' : Keeper)
     (bytes : List ℕ) (counts : List ℤ) (s : Spot) → walk.fault ≡ None

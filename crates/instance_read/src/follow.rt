@@ -134,6 +134,25 @@ fn take_number_key(
     Ok(true)
 }
 
+/// Takes what comes next as far as it is told without an event: numbers, and a key behind them. Tells whether there was
+/// a key.
+#[inline]
+fn take_told(
+    pull: &mut Pull,
+    walk: &mut ShapeWalk,
+    keeper: &mut Keeper,
+    counts: &mut ArrayVec<i64, MOST_COUNTS>,
+) -> Result<bool, AllocError>
+    requires { IsUnfinished pull.old }
+    ensures follows { (limits : Sizes) (bytes : List ℕ) → IsFollowing limits pull.old walk.old keeper.old bytes
+        → OnOk result (IsFollowing limits pull.new walk.new keeper.new bytes) }
+    ensures unfinished { IsUnfinished pull.new }
+{
+    pull.pass_separator();
+    take_counts(pull, walk, keeper, counts)?;
+    take_number_key(pull, walk, keeper)
+}
+
 /// Takes the events that the bytes tell that have come, up to a fault of the text.
 pub fn take_events(
     pull: &mut Pull,
@@ -147,8 +166,7 @@ pub fn take_events(
 {
     let mut counts = ArrayVec::new();
     'events: for _ in 0..u64::MAX {
-        take_counts(pull, walk, keeper, &mut counts)?;
-        if take_number_key(pull, walk, keeper)? {
+        if take_told(pull, walk, keeper, &mut counts)? {
             continue;
         }
         match pull.next_event() {

@@ -1,13 +1,13 @@
 -- What each way to read on comes to.
 use Rattle.std.specs.Prelude.{slice_get}
-use Rattle.std.proofs.Common.{◌≡◌, ℕ, ◌+◌, ◌≤◌, ◌<◌, List, [], ◌∷◌, ◌++◌, length, take, drop, get_or, Option, Some}
+use Rattle.std.proofs.Common.{◌≡◌, ℕ, ◌+◌, ◌≤◌, ◌<◌, List, [], ◌∷◌, ◌++◌, length, take, drop, get_or, Bool, Option, Some}
 use Rattle.std.proofs.Common.{None, Ok, refl, sym, ◌∙◌, ap, subst, length-drop, arith}
 use Rattle.std.proofs.lemmas.Option.{get_or_from_slice_get, slice_get_within}
 use Rattle.std.proofs.lemmas.List.{get_or-drop, drop-drop}
 use Rattle.json_grammar.specs.Tree.{Event}
 use Rattle.json_grammar.specs.Prefix.{IsSyntaxFault, IsDepthFault, IsShallow}
 use Rattle.json_laws.specs.Machine.{State, step, run}
-use Rattle.json_machine.specs.Machines.{state_of, IsSound}
+use Rattle.json_machine.specs.Machines.{state_of, levels_of, IsSound}
 use Rattle.json_machine.specs.NumberRuns.{TakesNumber, TakesWithEnd}
 use Rattle.json_events.specs.Unreads.{unread_of}
 use Rattle.json_laws.specs.Reads.{HasRead}
@@ -93,6 +93,19 @@ pub byte_read : (m n : Machine) (u v : Unread) (b : ℕ) (r : Reading) (stream :
     → unread_of v ≡ drop 1 (unread_of u) → IsTelling r → ReadsOn (Ok r) n v stream told
 byte_read m n u v b r stream told h f e l s a d t =
     reads_told r n v stream told t (byte_told m n u v b stream told (told_events r) h f e l s a d)
+
+-- behind a byte that tells nothing and opens and closes nothing
+pub quiet_byte : (m n : Machine) (u v : Unread) (k b : ℕ) (stream : List ℕ) (told : List Event)
+    → HasTold m u stream told → slice_get (unread_of u) 0 ≡ Some b → k ≡ u.at
+    → step k (state_of m).levels (state_of m).mode b ≡ Some (state_of n, []) → n.levels ≡ m.levels → IsSound (k + 1) n
+    → v.at ≡ u.at + 1 → unread_of v ≡ drop 1 (unread_of u) → HasTold n v stream (told ++ [])
+quiet_byte m n u v k b stream told h f a e same s c d =
+    let levels = (read_levels stream u.at (state_of m) told h.read).open_levels in
+    let many : length (levels_of n.levels.items) ≡ length (levels_of m.levels.items) =
+    ap (λ (bs : List Bool). length (levels_of bs)) (ap (λ l. l.items) same) in
+    byte_told m n u v b stream told [] h f
+    (subst (λ z. step z (state_of m).levels (state_of m).mode b ≡ Some (state_of n, [])) a e)
+    (omega (arith, levels, many)) (subst (λ z. IsSound (z + 1) n) a s) c d
 
 -- behind a run of quiet bytes from an offset on
 pub quiet_read : (stream rest : List ℕ) (at count : ℕ) (s t : State) (told : List Event) → HasRead stream at s told

@@ -17,7 +17,8 @@ use crate::number_key::NumberKey;
 use crate::sound_event::sound_event;
 use crate::unread::Unread;
 use crate::up_to_event::{
-    CountedReading, Reading, read_counted, read_counts, read_number_key, read_up_to_event,
+    CountedReading, Reading, read_counted, read_counts, read_number_key, read_separator,
+    read_up_to_event,
 };
 use arrayvec::ArrayVec;
 use json_grammar::{Event, TextFault};
@@ -152,6 +153,21 @@ impl Pull {
             Step::Fault(fault) => Err(fault),
             Step::Used => Ok(Pulled::More),
             Step::Over => unreachable!(),
+        }
+    }
+
+    /// Reads the comma behind a value or the colon behind a key, where it is the next byte that has come, so that the
+    /// calls below find the number or the key behind it. What is said of it is that no event is given and that all else
+    /// stands, which holds of reading nothing too: it is a shorter way alone. It takes no memory.
+    #[inline]
+    pub fn pass_separator(&mut self)
+        requires { IsUnfinished self.old }
+        ensures stands { (stream : List ℕ) (given : ℕ) → Stands self.old stream given false →
+            Stands self.new stream given false }
+        ensures unfinished { IsUnfinished self.new }
+    {
+        if self.is_idle() {
+            read_separator(&mut self.machine, &mut self.unread);
         }
     }
 

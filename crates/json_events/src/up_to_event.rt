@@ -111,6 +111,21 @@ fn read_telling(
     }
 }
 
+/// Reads the comma behind a value or the colon behind a key, where it is the first byte: it tells nothing.
+#[inline]
+pub fn read_separator(machine: &mut Machine, unread: &mut Unread)
+    requires { IsSound unread.old.at machine.old }
+    ensures reads { (stream : List ℕ) (told : List json.Event) → HasTold machine.old unread.old stream told →
+        HasTold machine.new unread.new stream told }
+{
+    let Some(byte) = unread.first() else {
+        return;
+    };
+    if machine.pass_separator(unread.at(), byte) {
+        unread.pass(1);
+    }
+}
+
 /// Reads a number that is told by its count with the comma behind it, or the bracket that closes a list, and the blanks
 /// before it. `None`: nothing is read.
 #[inline]

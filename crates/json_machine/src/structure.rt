@@ -118,11 +118,33 @@ impl Machine {
         self.mode = Mode::After;
     }
 
-    /// A byte between tokens that tells nothing: the comma behind a value, a colon, or the quote before a key. It is a
-    /// shorter way than `step`. False: the byte is left to that.
+    /// A byte between tokens that tells nothing: a comma or colon, as by `pass_separator`, or the quote before a key.
+    /// It is a shorter way than `step`. False: the byte is left to that.
     #[tactic(auto, using(crate::proofs::Levels::levels), unfolding(json_laws::specs::Machine::step, json_laws::specs::Machine::after_step))]
     #[inline]
     pub fn pass_between(&mut self, k: u64, byte: u8) -> bool
+        requires { IsSound k self.old }
+        ensures moves { IsTrue result → step k (state_of self.old).levels (state_of self.old).mode byte
+            ≡ go (state_of self.new).levels (state_of self.new).mode }
+        ensures sound { IsTrue result → IsSound (k + 1) self.new }
+        ensures levels { self.new.levels ≡ self.old.levels }
+        ensures left { result ≡ false → self.new ≡ self.old }
+    {
+        match self.mode {
+            Mode::FirstKey | Mode::NextKey if byte == b'"' => {
+                self.at = k;
+                self.mode = Mode::Str(true, Within::Plain);
+                true
+            }
+            _ => self.pass_separator(k, byte),
+        }
+    }
+
+    /// The comma behind a value that stands in a list or an object, or the colon behind a key: bytes that tell nothing.
+    /// False: the byte is left to `step`.
+    #[tactic(auto, using(crate::proofs::Levels::levels), unfolding(json_laws::specs::Machine::step, json_laws::specs::Machine::after_step))]
+    #[inline]
+    pub fn pass_separator(&mut self, k: u64, byte: u8) -> bool
         requires { IsSound k self.old }
         ensures moves { IsTrue result → step k (state_of self.old).levels (state_of self.old).mode byte
             ≡ go (state_of self.new).levels (state_of self.new).mode }
@@ -144,11 +166,6 @@ impl Machine {
             },
             Mode::Colon if byte == b':' => {
                 self.mode = Mode::Want;
-                true
-            }
-            Mode::FirstKey | Mode::NextKey if byte == b'"' => {
-                self.at = k;
-                self.mode = Mode::Str(true, Within::Plain);
                 true
             }
             _ => false,

@@ -13,10 +13,9 @@ returns-in-Err c =
     let e = c.next_event.ensures in
     record {
       follows = λ limits bytes h.
-          let q = c.in_ok-take_number_key.ensures.follows limits bytes
-          (c.in_ok-take_counts.ensures.follows limits bytes (c.events.invariant.follows limits bytes h)) in
-          told_follows c.told.result f limits c.next_event.new.self c.take_number_key.new.walk
-          c.take_number_key.new.keeper bytes c.told.ensures.same c.told.ensures.not_memory (λ m.
+          let q = c.in_ok-take_told.ensures.follows limits bytes (c.events.invariant.follows limits bytes h) in
+          told_follows c.told.result f limits c.next_event.new.self c.take_told.new.walk
+          c.take_told.new.keeper bytes c.told.ensures.same c.told.ensures.not_memory (λ m.
           stays bytes f m (λ at i. e.syntax bytes (length q.events) at q.pulled (c.in-Err.is ∙ ap Err i))
           (λ at i. e.first bytes (length q.events) at q.pulled (c.in-Err.is ∙ ap Err i))
           (λ at i. e.too_deep bytes (length q.events) at q.pulled (c.in-Err.is ∙ ap Err i)));
@@ -31,12 +30,11 @@ events-preserved c =
     record {
       unfinished = c.next_event.ensures.unfinished;
       follows = λ limits bytes h.
-          follow_more limits c.take_number_key.new.pull new c.take_number_key.new.walk c.take_event.new.walk
-          c.take_number_key.new.keeper c.take_event.new.keeper bytes (event_view e)
+          follow_more limits c.take_told.new.pull new c.take_told.new.walk c.take_event.new.walk
+          c.take_told.new.keeper c.take_event.new.keeper bytes (event_view e)
           (λ given s. subst (λ (r : Result Pulled TextFault). Stands new bytes (given_after r given) false) told
           (c.next_event.ensures.stands bytes given s))
           (λ given s. c.next_event.ensures.next bytes given e s told)
           (λ es t. c.in_ok-take_event-in-Ok-Event.ensures limits es t)
-          (c.in_ok-take_number_key.ensures.follows limits bytes
-          (c.in_ok-take_counts.ensures.follows limits bytes (c.events.invariant.follows limits bytes h)));
+          (c.in_ok-take_told.ensures.follows limits bytes (c.events.invariant.follows limits bytes h));
     }
