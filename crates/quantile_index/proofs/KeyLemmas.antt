@@ -1,8 +1,8 @@
 -- Sort keys of sums: their entries in the order of the keys are the ranking of the sums.
 use Rattle.std.proofs.Common.{◌≡◌, ℕ, zero, suc, ◌+◌, ◌-◌, ◌*◌, ◌/◌, ◌%◌, ◌^◌, ◌<◌, ◌≤◌, ℤ, pos, negsuc}
-use Rattle.std.proofs.Common.{◌+ℤ◌, ◌*ℤ◌, ◌≤ℤ◌, Bool, true, false, List, [], ◌∷◌, ◌++◌, length, map, get_or, take, drop}
+use Rattle.std.proofs.Common.{◌+ℤ◌, ◌*ℤ◌, ◌≤ℤ◌, true, false, List, [], ◌∷◌, ◌++◌, length, map, get_or, take, drop}
 use Rattle.std.proofs.Common.{count_by, cond}
-use Rattle.std.proofs.Common.{refl, sym, ap, subst, ◌∙◌, inl, inr, arith, All, int_cmp, is_lt, unsigned_abs}
+use Rattle.std.proofs.Common.{refl, sym, ap, subst, ◌∙◌, inl, inr, arith, All, nat_cmp, is_lt, unsigned_abs}
 use Rattle.std.specs.List.Sorted.{IsPermutation, IsSortedBy}
 use Rattle.std.proofs.Math.Nat.{mod-lt}
 use Rattle.std.proofs.lemmas.Nat.{div-add-mod'}
@@ -18,7 +18,7 @@ use Rattle.fixed_num.proofs.SignedLemmas.{signed_arith, back_from_abs}
 use Rattle.quantile_index.specs.declared.entry.Entry.{Entry}
 use Rattle.quantile_index.specs.Order.{IsBefore, IsOrdered}
 use Rattle.quantile_index.specs.Ranking.{numbered, has_scenario, IsSameBag, IsRanking}
-use Rattle.quantile_index.specs.SortKeys.{key_of, place_of, entry_of, IsKeyIn}
+use Rattle.quantile_index.specs.SortKeys.{key_of, place_of, entry_of, IsKeyIn, key_above, key_less}
 use Rattle.quantile_index.proofs.BagLemmas.{count_yes, count_no, none_numbered, length-numbered}
 use Rattle.quantile_index.proofs.OrderLemmas.{before_trans, AllEntries-map}
 
@@ -145,9 +145,6 @@ entries_written keys entries each h =
 
 -- ---- the order that a sort makes
 
-abbrev key_less : ℤ → ℤ → Bool
-key_less x y = is_lt (int_cmp x y)
-
 not_less : (x y : ℤ) → key_less y x ≡ false → x ≤ℤ y
 not_less x y h = grind (arith, ints)
 
@@ -234,6 +231,37 @@ IsRanking-sorted sums read sorted e moved up =
           let one = numbered_once 1 sums s in omega (arith, c, one)) up;
       bag = bag;
     }
+
+-- ---- keys by how far they are above the least
+
+pub keys_above : (least : ℤ) (keys : List ℤ) (narrow : List ℕ) → length narrow ≡ length keys
+    → ((k : ℕ) → k < length keys → get_or keys k (pos 0) ≡ key_above least (get_or narrow k 0))
+    → keys ≡ map (key_above least) narrow
+keys_above least keys narrow each h =
+    ext_get_or (pos 0) keys (map (key_above least) narrow) (sym each ∙ sym (length-map narrow (key_above least)))
+    (λ k l. h k l ∙ sym (get_or-map (key_above least) narrow k 0 (pos 0) (omega (arith, l, each))))
+
+narrow_not_less : (m n : ℕ) → is_lt (nat_cmp m n) ≡ false → n ≤ m
+narrow_not_less m n h = grind arith
+
+not_less_from : (x y : ℤ) → y ≤ℤ x → key_less x y ≡ false
+not_less_from x y h = grind (arith, ints)
+
+above_not_less : (least : ℤ) (m n : ℕ) → is_lt (nat_cmp m n) ≡ false
+    → key_less (key_above least m) (key_above least n) ≡ false
+above_not_less least m n h =
+    let low = narrow_not_less m n h in
+    not_less_from (key_above least m) (key_above least n) (omega (arith, ints, low))
+
+-- keys are in order where these numbers are
+pub sorted_above : (least : ℤ) (narrow : List ℕ) → IsSortedBy (λ m n. is_lt (nat_cmp m n)) narrow
+    → IsSortedBy key_less (map (key_above least) narrow)
+sorted_above least narrow up = λ k d low more.
+    let next : k + 1 < length narrow = omega (arith, more, length-map narrow (key_above least)) in
+    rw (
+      get_or-map (key_above least) narrow (k + 1) 0 d next,
+      get_or-map (key_above least) narrow k 0 d (omega (arith, next)),
+    ) (above_not_less least (get_or narrow (k + 1) 0) (get_or narrow k 0) (up k 0 low next))
 
 -- ---- a list around one of its keys
 

@@ -17,12 +17,13 @@ pub record IsRanking (entries : List Entry) (sums : List ℤ) : Type 0 where
   pub ordered : IsOrdered entries
   pub bag : IsSameBag entries (numbered 1 sums)
 
--- the same, for 1 to 1,024 sums, beside room for as many sort keys
-pub record IsRow (entries : List Entry) (sums : List ℤ) (keys : ℕ) : Type 0 where
+-- the same, for 1 to 1,024 sums, beside room for as many sort keys of each width
+pub record IsRow (entries : List Entry) (sums : List ℤ) (keys narrow : ℕ) : Type 0 where
   pub ranking : IsRanking entries sums
   pub some : 1 ≤ length sums
   pub few : length sums ≤ 1024
   pub room : keys ≡ length sums
+  pub narrow_room : narrow ≡ length sums
 
 -- the entry with i entries before it has this sum
 pub record HasSumAt (entries : List Entry) (i : ℕ) (sum : ℤ) : Type 0 where

@@ -20,6 +20,7 @@ pub struct FlatRow {
     sums: Vec<Sum>,
     entries: Vec<Entry>,
     keys: Vec<i128>,
+    narrow: Vec<u64>,
 }
 
 impl Model for FlatRow {
@@ -30,7 +31,7 @@ impl Model for FlatRow {
 
     ghost view = { λ r. r.sums.items };
 
-    ghost invariant = { λ r. IsRow r.entries.items r.sums.items (length r.keys.items) };
+    ghost invariant = { λ r. IsRow r.entries.items r.sums.items (length r.keys.items) (length r.narrow.items) };
 }
 
 /// Where the entry of scenario `k` is.
@@ -145,10 +146,12 @@ impl Row for FlatRow {
         let entries = ranked::<Brand>(alloc, from, Blank::new(1))?;
         let sums = Vec::from_slice(alloc, from)?;
         let keys = vec![in alloc; 0; from.len()]?;
+        let narrow = vec![in alloc; 0; from.len()]?;
         Ok(FlatRow {
             sums,
             entries,
             keys,
+            narrow,
         })
     }
 
@@ -165,7 +168,7 @@ impl Row for FlatRow {
     }
 
     fn replace_all<L: Ledger>(&mut self, from: &[Sum], steps: &mut Steps<L>) {
-        rank(from, &mut self.keys, steps);
+        rank(from, &mut self.keys, &mut self.narrow, steps);
         write_entries(from, &self.keys, &mut self.entries);
         self.sums.copy_from_slice(from);
     }

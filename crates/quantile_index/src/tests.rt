@@ -67,6 +67,63 @@ fn change_all<R: Row, L: Ledger>(rt: &impl Abort, alloc: Global, blank: Blank) -
     Ok(())
 }
 
+/// A row of four sums, all changed at once: to sums whose sort keys have 64 bits above the least, to others that are
+/// too far apart, and to equal ones.
+fn change_widths<R: Row, L: Ledger>(
+    rt: &impl Abort,
+    alloc: Global,
+    blank: Blank,
+) -> Result<(), Fail>
+    requires name { blank.name ≡ L.name }
+    requires parts { blank.parts ≡ L.parts }
+    requires some { 0 < blank.parts }
+{
+    let mut steps = Steps::<L>::zero(blank);
+    let zero = Sum::zero();
+    let three = sum_of(3)?;
+    // 1,024 times this sum is the first number that hasn't 64 bits.
+    let edge = sum_of(18_014_398_509_481_984)?;
+    let high = sum_of(90_000_000_000_000_000_000)?;
+    let low = sum_of(-90_000_000_000_000_000_000)?;
+    let mut row = R::make(alloc, &[high, high, zero, low])?;
+    // The least and the greatest key are 2^64 - 3 apart, and then 2^64 + 1.
+    row.replace_all(&[edge, three, three, zero], &mut steps);
+    assert_ranks(rt, &row, &[0, 3, 3, 18_014_398_509_481_984], &mut steps);
+    row.replace_all(&[edge, three, zero, edge], &mut steps);
+    assert_ranks(
+        rt,
+        &row,
+        &[0, 3, 18_014_398_509_481_984, 18_014_398_509_481_984],
+        &mut steps,
+    );
+    row.replace_all(&[high, low, three, low], &mut steps);
+    assert_ranks(
+        rt,
+        &row,
+        &[
+            -90_000_000_000_000_000_000,
+            -90_000_000_000_000_000_000,
+            3,
+            90_000_000_000_000_000_000,
+        ],
+        &mut steps,
+    );
+    row.replace_all(&[high, high, high, high], &mut steps);
+    row.replace(3, three, &mut steps);
+    assert_ranks(
+        rt,
+        &row,
+        &[
+            3,
+            90_000_000_000_000_000_000,
+            90_000_000_000_000_000_000,
+            90_000_000_000_000_000_000,
+        ],
+        &mut steps,
+    );
+    Ok(())
+}
+
 /// Gives each scenario a sum, one after another: 1, 2 and so on, or the same from the last one on.
 fn refill<R: Row, L: Ledger>(row: &mut R, rising: bool, steps: &mut Steps<L>) -> Result<(), Fail>
     ensures { length (R.sums row.new) ≡ length (R.sums row.old) }
@@ -126,4 +183,10 @@ fn finds_ranks_among_1024_sums(rt: HostRuntime) -> Result<(), Fail> {
 fn changes_all_sums_at_once(rt: HostRuntime) -> Result<(), Fail> {
     change_all::<TreeRow, Brand>(&rt, rt.alloc(), Blank::new(1))?;
     change_all::<FlatRow, Brand>(&rt, rt.alloc(), Blank::new(1))
+}
+
+#[test]
+fn changes_all_sums_near_and_far(rt: HostRuntime) -> Result<(), Fail> {
+    change_widths::<TreeRow, Brand>(&rt, rt.alloc(), Blank::new(1))?;
+    change_widths::<FlatRow, Brand>(&rt, rt.alloc(), Blank::new(1))
 }

@@ -24,6 +24,7 @@ pub struct TreeRow {
     sums: Vec<Sum>,
     tree: Tree,
     keys: Vec<i128>,
+    narrow: Vec<u64>,
 }
 
 impl Model for TreeRow {
@@ -34,7 +35,7 @@ impl Model for TreeRow {
 
     ghost view = { λ r. r.sums.items };
 
-    ghost invariant = { λ r. IsRow r.tree.0 r.sums.items (length r.keys.items) };
+    ghost invariant = { λ r. IsRow r.tree.0 r.sums.items (length r.keys.items) (length r.narrow.items) };
 }
 
 /// Changes the sum of scenario `k`, by scenario and in the tree, which is handed back.
@@ -94,7 +95,13 @@ impl Row for TreeRow {
         let tree = tree_of::<Brand>(alloc, from, Blank::new(1))?;
         let sums = Vec::from_slice(alloc, from)?;
         let keys = vec![in alloc; 0; from.len()]?;
-        Ok(TreeRow { sums, tree, keys })
+        let narrow = vec![in alloc; 0; from.len()]?;
+        Ok(TreeRow {
+            sums,
+            tree,
+            keys,
+            narrow,
+        })
     }
 
     fn len(&self) -> u32 {
@@ -111,7 +118,7 @@ impl Row for TreeRow {
     }
 
     fn replace_all<L: Ledger>(&mut self, from: &[Sum], steps: &mut Steps<L>) {
-        rank(from, &mut self.keys, steps);
+        rank(from, &mut self.keys, &mut self.narrow, steps);
         self.tree.overwrite(&self.keys, from);
         self.sums.copy_from_slice(from);
     }
