@@ -2,17 +2,18 @@
 """Times `evaluate` on drawn instances beside other readers of the same file, in one run.
 
     bench/evaluate.py [--sizes "60 400"] [--rounds 5] [--seed 1] [--program PATH] [--beside "NAME=COMMAND"]..
-                      [--keep FOLDER]
+                      [--keep FOLDER] [--given INSTANCE PLAN]
 
 For each size in megabytes (10^6 bytes) it draws an instance with two resources, two seasons, exclusions and risks of up
 to four decimals, and a plan that keeps its rules, and prints a row for `evaluate` and one for each program beside it:
-the median seconds with the start of the process, megabytes a second, the peak memory, and both over those of
-`evaluate`, so that above 1 `evaluate` is the better one. Then come the growth from the least size to the greatest and
-the bytes of memory a risk number.
+the median seconds of a processor, of the program with its start and of the system for it, which other work hardly
+changes, megabytes a second, the peak memory, and both over those of `evaluate`, so that above 1 `evaluate` is the
+better one. Then come the growth from the least size to the greatest and the bytes of memory a risk number.
 
 Beside it is always Python's `json.load`. COMMAND is run with the instance and the plan as its last two words. In each
 round every program runs once, and a first round isn't counted: it warms the page cache. Without --program it is
-`planner` at the top of the repository, built first. With --keep the drawn files stay in FOLDER and are used again.
+`planner` at the top of the repository, built first. With --keep the drawn files stay in FOLDER. With --given an
+instance and a plan are read that are there, in the place of drawn ones.
 """
 import argparse
 import os
@@ -22,7 +23,6 @@ import statistics
 import subprocess
 import sys
 import tempfile
-import time
 
 TOP = os.path.dirname(os.path.dirname(os.path.abspath(__file__)))
 LOAD = [sys.executable, "-c", "import json, sys; json.load(open(sys.argv[1]))"]
@@ -88,9 +88,8 @@ def write_intervention(out, source, pool, i, starts, periods):
 
 
 def run(words):
-    """The seconds and the peak memory in bytes of one run, and what it printed."""
+    """The processor seconds and the peak memory in bytes of one run, and what it printed."""
     read, write = os.pipe()
-    began = time.perf_counter()
     process = subprocess.Popen(words, stdout=write, stdin=subprocess.DEVNULL)
     os.close(write)
     said = b""
@@ -98,11 +97,10 @@ def run(words):
         said += piece
     os.close(read)
     _, status, usage = os.wait4(process.pid, 0)
-    seconds = time.perf_counter() - began
     process.returncode = os.waitstatus_to_exitcode(status)
     if process.returncode != 0:
         sys.exit(f"{words} ended with {process.returncode} and said {said[:200]!r}")
-    return seconds, usage.ru_maxrss * 1024, said
+    return usage.ru_utime + usage.ru_stime, usage.ru_maxrss * 1024, said
 
 
 def measure(programs, rounds):
@@ -122,12 +120,18 @@ def measure(programs, rounds):
 
 def print_table(size, numbers, results):
     ours = results["evaluate"]
-    print(f"\n{size / 1e6:.1f} MB, {numbers} risk numbers\n")
-    print("| program | seconds | MB/s | peak MB | seconds over evaluate | peak over evaluate |")
+    print(f"\n{size / 1e6:.1f} MB, {numbers} risk numbers\n" if numbers else f"\n{size / 1e6:.1f} MB\n")
+    print("| program | processor s | MB/s | peak MB | seconds over evaluate | peak over evaluate |")
     print("|---|--:|--:|--:|--:|--:|")
     for name, (seconds, peak) in results.items():
         own = f"{seconds:.3f} | {size / 1e6 / seconds:.0f} | {peak / 1e6:.1f}"
         print(f"| {name} | {own} | {seconds / ours[0]:.2f} | {peak / ours[1]:.2f} |")
+
+
+def print_growth(growth):
+    (size, _, seconds, peak), (most_size, most_numbers, most_seconds, most_peak) = growth[0], growth[-1]
+    print(f"\nfrom the least to the greatest size: bytes {most_size / size:.2f}, time {most_seconds / seconds:.2f}, "
+          f"peak memory {most_peak / peak:.2f}; {most_peak / most_numbers:.1f} bytes of memory a risk number")
 
 
 def main():
@@ -138,9 +142,24 @@ def main():
     parser.add_argument("--program")
     parser.add_argument("--beside", action="append", default=[])
     parser.add_argument("--keep")
+    parser.add_argument("--given", nargs=2)
     words = parser.parse_args()
     program = [words.program or os.path.join(TOP, "planner")]
     subprocess.run(program, stdout=subprocess.DEVNULL)
+
+    def compare(instance, plan, numbers):
+        programs = {"evaluate": program + ["evaluate", instance, plan], "json.load": LOAD + [instance]}
+        for beside in words.beside:
+            name, command = beside.split("=", 1)
+            programs[name] = shlex.split(command) + [instance, plan]
+        results = measure(programs, words.rounds)
+        size = os.path.getsize(instance)
+        print_table(size, numbers, results)
+        return size, numbers, *results["evaluate"]
+
+    if words.given:
+        compare(*words.given, None)
+        return
     growth = []
     with tempfile.TemporaryDirectory() as temporary:
         folder = words.keep or temporary
@@ -148,18 +167,8 @@ def main():
         for megabytes in map(float, words.sizes.split()):
             instance = os.path.join(folder, f"{megabytes:g}_{words.seed}.json")
             plan = os.path.join(folder, f"{megabytes:g}_{words.seed}.txt")
-            numbers = draw(words.seed, megabytes, instance, plan)
-            programs = {"evaluate": program + ["evaluate", instance, plan], "json.load": LOAD + [instance]}
-            for beside in words.beside:
-                name, command = beside.split("=", 1)
-                programs[name] = shlex.split(command) + [instance, plan]
-            results = measure(programs, words.rounds)
-            size = os.path.getsize(instance)
-            print_table(size, numbers, results)
-            growth.append((size, numbers, *results["evaluate"]))
-    (size, numbers, seconds, peak), (most_size, most_numbers, most_seconds, most_peak) = growth[0], growth[-1]
-    print(f"\nfrom the least to the greatest size: bytes {most_size / size:.2f}, time {most_seconds / seconds:.2f}, "
-          f"peak memory {most_peak / peak:.2f}; {most_peak / most_numbers:.1f} bytes of memory a risk number")
+            growth.append(compare(instance, plan, draw(words.seed, megabytes, instance, plan)))
+    print_growth(growth)
 
 
 if __name__ == "__main__":

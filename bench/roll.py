@@ -6,8 +6,8 @@
 
 It draws an instance of so many megabytes (10^6 bytes) and a plan as bench/evaluate.py does, and rolls it with the plan
 at a period, which is 1 where none is given: then nothing is kept, and all of it is written. `evaluate` reads the same
-two files, and writes none; `roll` reads them, and then writes. A row for each has the median seconds with the start of
-the process, the megabytes that it reads or writes and how many a second, the peak memory, and seconds and peak over
+two files, and writes none; `roll` reads them, and then writes. A row for each has the median seconds of a processor,
+the megabytes that it reads or writes and how many a second, the peak memory, and seconds and peak over
 those of `evaluate`. The row `writing` is what `roll` takes more than `evaluate`, over what it writes.
 
 In each round both run once, and a first round isn't counted: it warms the page cache. At the end the plan is evaluated
@@ -48,7 +48,7 @@ def measure(programs, rounds):
 
 def print_table(read, written, results):
     (reading, reading_peak, _), (rolling, rolling_peak, _) = results["evaluate"], results["roll"]
-    print("| program | seconds | MB | MB/s | peak MB | seconds over evaluate | peak over evaluate |")
+    print("| program | processor s | MB | MB/s | peak MB | seconds over evaluate | peak over evaluate |")
     print("|---|--:|--:|--:|--:|--:|--:|")
     print_row("`evaluate`, reading", reading, read, reading_peak, reading, reading_peak)
     print_row("`roll`", rolling, written, rolling_peak, reading, reading_peak)
