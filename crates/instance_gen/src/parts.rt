@@ -3,7 +3,6 @@
 ghost use Rattle.std.specs.Prelude.{◌≡◌, ℕ, ◌+◌, ◌*◌, ◌<◌, ◌≤◌, ◌/◌, ◌++◌, map, length};
 ghost use Rattle.std.specs.Prelude.{replicate, string_bytes, IfOk, OnOk};
 ghost use Rattle.std.specs.Prelude.{decimal, codes, nat_le, ◌&&◌};
-ghost use Rattle.instance_model.specs.RunRisks.{SuitRuns};
 ghost use Rattle.instance_model.specs.View.{tables_of};
 ghost use Rattle.instance_gen.specs.Drawn.{drawn_exclusions, drawn_tables, level_limits, level_scenarios};
 ghost use Rattle.instance_gen.specs.Drawn.{numbered_names, season_from};
@@ -168,7 +167,6 @@ fn levels_of(alloc: Global, n: u32) -> Result<Levels, AllocError>
 fn parts(alloc: Global, seed: u64, n: u32) -> Result<Parts, AllocError>
     requires { n ≤ 200 }
     ensures tables { IfOk result (λ parts. tables_of parts ≡ drawn_tables seed n) }
-    ensures runs { IfOk result (λ parts. SuitRuns (tables_of parts) parts.risks) }
 {
     let names = all_names(alloc, n)?;
     let levels = levels_of(alloc, n)?;

@@ -132,7 +132,7 @@ pub read_facts : (a : Inside) (inst : Tables) (i s t : ℕ) (works : Vec ReadRis
 read_facts a inst i s t works w e x r is number al ru =
     let rows = map runs_of works.items in
     let suits : AreAllRuns inst rows = subst (λ (z : Tables). SuitRuns z (AsRead works)) e
-    (subst (SuitRuns (tables_of a.parts)) r x.runs) in
+    (subst (SuitRuns (tables_of a.parts)) r a.parts.suits) in
     let few : i < length works.items = omega (arith, number, suits.works, length-map works.items runs_of) in
     read_facts_of inst i s t rows w (fits_as a inst e x) suits (sym (ap (λ (z : Tables). z.risks) e) ∙ ap risks_of r)
     (sym (ap (λ (z : Tables). z.soft) e) ∙ ap softs_of r)

@@ -13,3 +13,4 @@ pub mod Exact
 pub mod RiskLists
 pub mod RiskNumbers
 pub mod RunRisks
+pub mod Fields

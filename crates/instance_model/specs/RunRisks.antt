@@ -1,6 +1,7 @@
 -- Defines the tables that the risks of runs stand for, and what they have to be.
 use Rattle.std.specs.Prelude.{◌≡◌, ℕ, ◌+◌, ◌-◌, ◌<◌, ◌≤◌, ℤ, Bool, true, false, List, [], flat_map, length, map}
 use Rattle.std.specs.Prelude.{slice_index_or}
+use Rattle.std.specs.Coded.{Coded-set, coded_ℕ, Unit-prop}
 use Rattle.instance_model.specs.declared.run_risks.RunRisks.{RunRisks}
 use Rattle.instance_model.specs.declared.run_risks.RunRisks.TheVariants.{InOrder, AsRead}
 use Rattle.instance_model.specs.declared.run_risks.ReadRisks.{ReadRisks}
@@ -54,3 +55,21 @@ pub record AreAllRuns (inst : Tables) (rows : List (List RiskRow)) : Type 0 wher
 abbrev pub SuitRuns : Tables → RunRisks → Type 0
 SuitRuns inst (InOrder numbers soft) = Unit {0}
 SuitRuns inst (AsRead works) = AreAllRuns inst (map runs_of works.items)
+
+-- ---- each of these facts has one proof at most
+
+AreRuns-prop : (inst : Tables) (i : ℕ) (rows : List RiskRow) → IsProp (AreRuns inst i rows)
+AreRuns-prop inst i rows x y = λ k. record {
+  each = Coded-set coded_ℕ _ _ x.each y.each k;
+  counts = λ s t al from to. Coded-set coded_ℕ _ _ (x.counts s t al from to) (y.counts s t al from to) k;
+}
+
+AreAllRuns-prop : (inst : Tables) (rows : List (List RiskRow)) → IsProp (AreAllRuns inst rows)
+AreAllRuns-prop inst rows x y = λ k. record {
+  works = Coded-set coded_ℕ _ _ x.works y.works k;
+  runs = λ i h. AreRuns-prop inst i (slice_index_or rows i []) (x.runs i h) (y.runs i h) k;
+}
+
+pub SuitRuns-prop : (inst : Tables) (risks : RunRisks) → IsProp (SuitRuns inst risks)
+SuitRuns-prop inst (InOrder numbers soft) = Unit-prop
+SuitRuns-prop inst (AsRead works) = AreAllRuns-prop inst (map runs_of works.items)

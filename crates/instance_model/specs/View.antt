@@ -1,34 +1,18 @@
 -- The tables that the fields of an instance stand for, and the columns that say where its entries stand.
-use Rattle.std.specs.Prelude.{◌≡◌, ℕ, ◌+◌, ◌-◌, ◌<◌, ◌≤◌, map, length, string_bytes, slice_index, slice_index_or, List}
+use Rattle.std.specs.Prelude.{◌≡◌, ℕ, ◌+◌, ◌-◌, ◌<◌, ◌≤◌, map, length, slice_index, slice_index_or, List}
 use Rattle.std.specs.Prelude.{[], Vec, sum, take}
 use Rattle.std.specs.declared.alloc.Global.{Global}
 use Rattle.instance_model.specs.declared.parts.Parts.{Parts}
 use Rattle.instance_model.specs.declared.offsets.Offsets.{Offsets}
-use Rattle.instance_model.specs.RunRisks.{risks_of, softs_of}
+use Rattle.instance_model.specs.Fields.{field_tables}
 use Rattle.instance_model.specs.Tables.{Tables, tmax, entries_before}
 
 -- the parts as tables
 abbrev pub tables_of : Parts → Tables
 tables_of p =
-    record {
-      periods = p.periods;
-      alpha = p.alpha;
-      quantile = p.quantile;
-      scenarios = p.scenarios.items;
-      resource_names = map string_bytes p.resources.keys;
-      upper = p.upper.items;
-      lower = p.lower.items;
-      season_names = map string_bytes p.seasons.keys;
-      in_season = p.in_season.items;
-      names = map string_bytes p.interventions.keys;
-      delta = map (λ v. v.items) p.delta.items;
-      exclusion_names = map string_bytes p.exclusions.keys;
-      excluded = p.excluded.items;
-      loads = map (λ v. v.items) p.loads.items;
-      risks = risks_of p.risks;
-      soft = softs_of p.risks;
-      rounded = p.rounded;
-    }
+    field_tables p.periods p.alpha p.quantile p.scenarios.items p.resources.keys p.upper.items p.lower.items
+    p.seasons.keys p.in_season.items p.interventions.keys p.delta.items p.exclusions.keys p.excluded.items
+    p.loads.items p.risks p.rounded
 
 -- the lists in a list of vectors
 abbrev pub rows_of : List (Vec ℕ Global) → List (List ℕ)

@@ -6,7 +6,7 @@ ghost use Rattle.std.specs.Prelude.{unsigned_abs};
 ghost use Rattle.fixed_num.specs.Sums.{list_of};
 ghost use Rattle.instance_model.specs.Fitting.{IsFitting, AreCells};
 ghost use Rattle.instance_model.specs.RiskNumbers.{numbers_of};
-ghost use Rattle.instance_model.specs.RunRisks.{SuitRuns, list_place};
+ghost use Rattle.instance_model.specs.RunRisks.{list_place};
 ghost use Rattle.instance_model.specs.View.{tables_of};
 ghost use Rattle.instance_model.specs.Tables.{scenarios_of, tmax, delta_of, is_allowed, in_run, risk_of, soft_of};
 ghost use Rattle.instance_model.specs.Tables.{entry_place, scenarios_before, periods_before};
@@ -23,7 +23,6 @@ use std::marker::Model;
 use std::sync::ledger::Ledger;
 
 /// An instance whose tables fit.
-#[derive(Drop)]
 pub struct Instance {
     parts: Parts,
     risks: Offsets,
@@ -42,6 +41,13 @@ impl Model for Instance {
     ghost invariant = { IsIndexed };
 }
 
+impl Drop for Instance {
+    /// Gives the memory back.
+    fn drop(self) {
+        let Instance { parts: _, risks: _, soft: _ } = self;
+    }
+}
+
 /// Counts `count` steps.
 fn count_steps<L: Ledger>(count: u32, steps: &mut Steps<L>)
     ensures { steps.new ≡ steps.old + count }
@@ -55,7 +61,6 @@ impl Instance {
     /// The instance of these tables. Takes memory for the places of the risks and of the soft flags.
     pub fn from_parts(alloc: Global, parts: Parts) -> Result<Instance, AllocError>
         requires fits { IsFitting (tables_of parts) }
-        requires runs { SuitRuns (tables_of parts) parts.risks }
         ensures { IfOk result (λ inst. inst ≡ tables_of parts) }
     {
         let scenarios_before = sums_before(alloc, parts.scenarios.as_slice())?;

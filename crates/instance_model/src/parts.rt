@@ -1,4 +1,7 @@
 //! The tables that an instance is made of, as plain data.
+ghost use Rattle.instance_model.specs.Fields.{field_tables};
+ghost use Rattle.instance_model.specs.RunRisks.{SuitRuns, SuitRuns-prop};
+
 use crate::run_risks::RunRisks;
 use fixed_num::Fixed;
 use indexmap::IndexSet;
@@ -20,7 +23,7 @@ pub struct LoadCell {
     pub load: Fixed,
 }
 
-/// The tables of an instance.
+/// The tables of an instance. Risks that were read are those of the runs.
 #[derive(Drop)]
 pub struct Parts {
     pub periods: u32,
@@ -47,4 +50,7 @@ pub struct Parts {
     pub risks: RunRisks,
     /// How many numbers of the file were changed by rounding.
     pub rounded: u64,
+    ghost suits: { SuitRuns (field_tables periods alpha quantile scenarios.items resources.keys upper.items lower.items
+        seasons.keys in_season.items interventions.keys delta.items exclusions.keys excluded.items loads.items risks
+        rounded) risks } by { SuitRuns-prop _ risks },
 }

@@ -5,7 +5,6 @@ ghost use Rattle.std.specs.Prelude.{true, false, map, replicate};
 ghost use Rattle.json_grammar.specs.Tree as json;
 ghost use Rattle.json_grammar.specs.Trees.{tree_view};
 ghost use Rattle.instance_model.specs.Limits.{standard_limits};
-ghost use Rattle.instance_model.specs.RunRisks.{SuitRuns};
 ghost use Rattle.instance_model.specs.View.{tables_of};
 ghost use Rattle.instance_shape.specs.declared.fault.Known.TheVariants as is;
 ghost use Rattle.instance_shape.specs.declared.spot.Spot.TheVariants as spots;
@@ -113,7 +112,6 @@ fn build(alloc: Global, root: &Tree, rounded: u64) -> Result<Option<Parts>, Allo
     requires rounded { rounded ≡ rounded_numbers (placed spots.Root (tree_view root.now)) }
     ensures sound { IfOk result (λ r. TellsNone (cross_fault (tree_view root.now)) (is_some r)) }
     ensures tables { IfOk result (λ r. IfSome r (λ parts. tables_of parts ≡ tables (pos 0) (tree_view root.now))) }
-    ensures runs { IfOk result (λ r. IfSome r (λ parts. SuitRuns (tables_of parts) parts.risks)) }
 {
     let periods = whole_at(root, Known::T);
     let scenarios = wholes(alloc, elements_at(root, Known::ScenariosNumber))?;

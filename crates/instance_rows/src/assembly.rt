@@ -3,7 +3,6 @@
 ghost use Rattle.std.specs.Prelude.{◌≡◌, None, IfOk, map, string_bytes};
 ghost use Rattle.json_grammar.specs.Tree as json;
 ghost use Rattle.instance_model.specs.declared.limits.Limits as limit;
-ghost use Rattle.instance_model.specs.RunRisks.{SuitRuns};
 ghost use Rattle.instance_model.specs.View.{tables_of};
 ghost use Rattle.instance_shape.specs.CrossFaults.{cross_fault};
 ghost use Rattle.instance_shape.specs.FileTables.{tables};
@@ -49,7 +48,6 @@ pub fn parts(alloc: Global, rows: FileRows, slack: Fixed) -> Result<Parts, RowsF
     requires { AreSound (rows_view rows) }
     ensures told { Tells (rows_fault (rows_view rows)) result }
     ensures tables { IfOk result (λ parts. tables_of parts ≡ rows_tables slack (rows_view rows)) }
-    ensures runs { IfOk result (λ parts. SuitRuns (tables_of parts) parts.risks) }
 {
     let checked = check(alloc, &rows)?;
     Ok(fill(alloc, rows, checked, slack)?)
@@ -90,7 +88,6 @@ fn fill(alloc: Global, rows: FileRows, checked: Checked, slack: Fixed) -> Result
     requires excluded { checked.excluded.items
         ≡ map (λ e. exclusion_of (rows_view rows) (map string_bytes e.items)) rows.exclusion_words.items }
     ensures tables { IfOk result (λ parts. tables_of parts ≡ rows_tables slack (rows_view rows)) }
-    ensures runs { IfOk result (λ parts. SuitRuns (tables_of parts) parts.risks) }
 {
     let upper = upper(alloc, rows.bands.as_slice(), slack)?;
     let lower = lower(alloc, rows.bands.as_slice(), slack)?;

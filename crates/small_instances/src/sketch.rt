@@ -1,7 +1,6 @@
 //! Instances made by hand from small arrays.
 
 ghost use Rattle.std.specs.Prelude.{◌≡◌, length, map, string_bytes, IfOk, IsTrue};
-ghost use Rattle.instance_model.specs.RunRisks.{SuitRuns};
 ghost use Rattle.instance_model.specs.View.{tables_of};
 ghost use Rattle.small_instances.specs.Sketches.{names_of, cell_of, is_fitting};
 
@@ -179,7 +178,6 @@ fn all_names(alloc: Global, sketch: &Sketch) -> Result<NameSets, AllocError>
 /// The tables of a sketch as parts.
 fn parts(alloc: Global, sketch: &Sketch) -> Result<Parts, AllocError>
     ensures tables { IfOk result (λ parts. tables_of parts ≡ sketch.now) }
-    ensures runs { IfOk result (λ parts. SuitRuns (tables_of parts) parts.risks) }
 {
     let names = all_names(alloc, sketch)?;
     Ok(Parts {

@@ -5,7 +5,6 @@ use Rattle.instance_model.specs.declared.parts.Parts.{Parts}
 use Rattle.instance_model.specs.Fitting.{IsFitting}
 use Rattle.instance_model.specs.Limits.{standard_limits}
 use Rattle.instance_model.specs.Tables.{Tables}
-use Rattle.instance_model.specs.RunRisks.{SuitRuns}
 use Rattle.instance_model.specs.View.{tables_of}
 use Rattle.instance_shape.specs.declared.spot.Spot.TheVariants as spot
 use Rattle.instance_shape.specs.CrossFaults.{cross_fault}
@@ -24,13 +23,8 @@ reduced_survey-requires c =
     let short : length c.args.bytes.now < 2 ^ 63 = search rules in
     record { room = omega (arith, short, text_room c.args.bytes.now (tree_view c.in-Ok.tree) c.in-Ok.ensures.tree) }
 
-pub from_parts-requires-clause-runs : goal.from_parts-requires-clause-runs
-from_parts-requires-clause-runs c =
-    subst (λ (o : Option Parts). IfSome o (λ p. SuitRuns (tables_of p) p.risks)) c.in-Some-2.is
-    c.in_ok-parts.ensures.runs
-
-pub from_parts-requires-clause-fits : goal.from_parts-requires-clause-fits
-from_parts-requires-clause-fits c =
+pub from_parts-requires : goal.from_parts-requires
+from_parts-requires c =
     let root = tree_view c.in-Ok.tree in
     let known : (IsShaped standard_limits root) × (IsReduced root)
     × (c.in-Some.survey.rounded ≡ rounded (placed spot.Root root)) =
@@ -41,8 +35,10 @@ from_parts-requires-clause-fits c =
     let same : tables_of c.in-Some-2.parts ≡ tables (pos 0) root = subst
     (λ (o : Option Parts). IfSome o (λ p. tables_of p ≡ tables (pos 0) root)) c.in-Some-2.is
     c.in_ok-parts.ensures.tables in
-    subst (λ (t : Tables). IsFitting t) (sym same)
-    (fits standard_limits (pos 0) root standard_is no_slack (shaped_so standard_limits root known.0) none)
+    record {
+      fits = subst (λ (t : Tables). IsFitting t) (sym same)
+          (fits standard_limits (pos 0) root standard_is no_slack (shaped_so standard_limits root known.0) none);
+    }
 
 pub returns-clause-built : goal.returns-clause-built
 returns-clause-built c =

@@ -32,13 +32,15 @@ returns-in_err-parts-clause-told c = λ limits root a.
     rw (p.1, p.2) (subst (λ (o : Option CrossFault). TellsFault o c.in_err-parts.field-0.0)
     (sym (fault_is limits root c.args.rows a)) c.in_err-parts.ensures.told)
 
-pub from_parts-requires-clause-fits : goal.from_parts-requires-clause-fits
-from_parts-requires-clause-fits c =
+pub from_parts-requires : goal.from_parts-requires
+from_parts-requires c =
     let limits = c.requires.rows.0 in let root = c.requires.rows.1.0 in let a = c.requires.rows.1.1 in
     let same : tables_of c.in_ok-parts.field-0 ≡ tables c.args.slack root = c.in_ok-parts.ensures.tables
     ∙ ap (rows_tables c.args.slack) a.same ∙ sym (table_law limits c.args.slack root a.shaped) in
-    subst (λ (t : Tables). IsFitting t) (sym same) (fits limits c.args.slack root a.standard c.requires.slack a.shaped
-    (fault_is limits root c.args.rows a ∙ c.in_ok-parts.ensures.told))
+    record {
+      fits = subst (λ (t : Tables). IsFitting t) (sym same) (fits limits c.args.slack root a.standard c.requires.slack
+          a.shaped (fault_is limits root c.args.rows a ∙ c.in_ok-parts.ensures.told));
+    }
 
 pub returns-in_err-from_parts-clause-told : goal.returns-in_err-from_parts-clause-told
 returns-in_err-from_parts-clause-told c = λ limits root a.

@@ -1,9 +1,11 @@
 use Rattle.std.proofs.Common.{◌≡◌, ℕ, None, List, String, Vec, Global, map, refl, sym, ◌∙◌, ap, subst, string_bytes}
 use Rattle.std.specs.Prelude.{All, flat_map, ◌+ℤ◌, ◌-ℤ◌}
+use Rattle.instance_model.specs.Fields.{field_tables}
 use Rattle.instance_model.specs.RiskLists.{RiskRow}
 use Rattle.instance_model.specs.RunRisks.{runs_of, values_of, flags_of, AreAllRuns}
 use Rattle.instance_model.specs.Tables.{Tables}
 use Rattle.instance_model.specs.declared.run_risks.ReadRisks.{ReadRisks}
+use Rattle.instance_model.specs.declared.run_risks.RunRisks.TheVariants.{AsRead}
 use Rattle.instance_shape.specs.FileTables.{lists_below}
 use Rattle.instance_rows.specs.FileRows.{BandRow, WorkRow, FileRows}
 use Rattle.instance_rows.specs.Filled.{IsReady, lists_taken}
@@ -19,6 +21,7 @@ use Rattle.instance_rows.proofs.RunsLaw.{runs_law}
 use Rattle.instance_rows.proofs.Same.{same_tables}
 use Rattle.instance_rows.proofs.TableLaw.{map-map}
 use Rattle.instance_rows.proofs.assembly.fill.Goals as goal
+use Rattle.instance_rows.proofs.assembly.fill.Goals.{In_ok-filled}
 
 -- what follows where there is no fault across the file
 no_work_fault : (rows : FileRows) → rows_fault rows ≡ None → works_fault rows ≡ None
@@ -44,8 +47,14 @@ flags_are : (periods : ℕ) (works : List WorkRow) (read : List ReadRisks) → A
     ≡ flat_map (λ w. each_run periods (used_durations w) (soft_at w.risks)) works
 flags_are periods works read h e = ap (flat_map flags_of) e ∙ all_flags periods works h
 
-pub returns-clause-tables : goal.returns-clause-tables
-returns-clause-tables c =
+-- the tables of the parts
+filled_are : (c : In_ok-filled) → field_tables c.args.rows.periods c.args.rows.alpha c.args.rows.quantile
+    c.args.rows.scenarios.items c.args.rows.resources.keys c.in_ok-upper.upper.items c.in_ok-lower.lower.items
+    c.args.rows.seasons.keys c.in_ok-in_season.in_season.items c.args.rows.interventions.keys
+    c.in_ok-filled.filled.delta.items c.args.rows.exclusions.keys c.args.checked.excluded.items
+    c.in_ok-filled.filled.loads.items (AsRead c.in_ok-filled.filled.risks) c.args.rows.rounded
+    ≡ rows_tables c.args.slack (rows_view c.args.rows)
+filled_are c =
     let rows = rows_view c.args.rows in
     let read = c.in_ok-filled.filled.risks.items in
     same_tables _ (rows_tables c.args.slack rows) refl refl refl refl refl
@@ -64,11 +73,17 @@ returns-clause-tables c =
     (flags_are rows.periods rows.works read (ready_rows rows c.requires.sound c.requires.none)
     c.in_ok-filled.ensures.risks) refl
 
-pub returns-clause-runs : goal.returns-clause-runs
-returns-clause-runs c =
+pub returns : goal.returns
+returns c = record { tables = filled_are (goal.at.returns c).In_ok-filled }
+
+pub invariant_of-result : goal.invariant_of-result
+invariant_of-result c =
     let rows = rows_view c.args.rows in
+    let read = c.in_ok-filled.filled.risks.items in
     let suits = subst (λ (ls : List (List RiskRow)). AreAllRuns (rows_tables c.args.slack rows) ls)
     (sym c.in_ok-filled.ensures.risks)
     (runs_law c.args.slack rows c.requires.sound (no_work_fault rows c.requires.none)) in
-    subst (λ (t : Tables). AreAllRuns t (map runs_of c.in_ok-filled.filled.risks.items))
-    (sym (returns-clause-tables c)) suits
+    record {
+      suits = subst (λ (t : Tables). AreAllRuns t (map runs_of read))
+          (sym (filled_are (goal.at.invariant_of-result c).In_ok-filled)) suits;
+    }

@@ -20,7 +20,6 @@ invariant_of-result c =
     c.requires.fits.few_periods c.in_ok-periods_before.ensures.each c.in_ok-periods_before.ensures.values in
     record {
       fits = c.requires.fits;
-      runs = c.requires.runs;
       risks = c.in_ok-risks.ensures.sound;
       soft = c.in_ok-soft.ensures.sound;
       risk_column = subst (IsColumnOf c.args.parts.periods (scenarios_before (tables_of c.args.parts)))
