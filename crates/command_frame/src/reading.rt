@@ -1,5 +1,5 @@
 //! The files of a command are read. None is changed, and nothing is said.
-ghost use Rattle.std.specs.Prelude.{◌≡◌, ◌≤◌, [], length, pos, All, option_copied, IfSome, IfOk, IfErr, OnOk};
+ghost use Rattle.std.specs.Prelude.{◌≡◌, ◌≤◌, [], length, All, option_copied, IfSome, IfOk, IfErr, OnOk};
 ghost use Rattle.instance_shape.specs.Ranges.{AreStandard};
 ghost use Rattle.plan_desk.specs.Desk.{ShowsSame, after_take_in};
 ghost use Rattle.plan_moves.specs.Scripts.{NamesKnown};
@@ -41,23 +41,13 @@ pub fn instance_of<D: Desk>(
     ensures kept { IfErr result (KeepsLast (D.shows desk.old) (D.shows desk.new)) }
     ensures only_reads { OnlyReads (D.shows desk.old) (D.shows desk.new) }
 {
-    match read_instance_from(alloc, limits, widening(source.slack), desk, source.instance) {
+    let slack = Fixed::from(u64::from(source.slack));
+    match read_instance_from(alloc, limits, slack, desk, source.instance) {
         Ok(inst) => Ok(inst),
         Err(StreamFault::Failed) => Err(Refusal::Unread { word }),
         Err(StreamFault::TooLong) => Err(Refusal::LongInstance),
         Err(StreamFault::Text(fault)) => Err(Refusal::Instance(fault)),
         Err(StreamFault::Memory) => Err(Refusal::Memory),
-    }
-}
-
-// So many counts of 10^-12.
-fn widening(count: u32) -> Fixed
-    requires small { count ≤ 1_000_000_000 }
-    ensures { result ≡ pos count }
-{
-    match Fixed::from_count(i128::from(count)) {
-        Ok(slack) => slack,
-        Err(_) => unreachable!(),
     }
 }
 

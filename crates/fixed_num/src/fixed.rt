@@ -65,6 +65,32 @@ impl Fixed {
     }
 }
 
+impl From<i64> for Fixed {
+    ghost use Rattle.std.specs.Prelude.{◌≡◌};
+
+    ghost from_gives = { λ count fixed. fixed ≡ count };
+
+    #[inline]
+    fn from(count: i64) -> Fixed {
+        Fixed {
+            number: i128::from(count),
+        }
+    }
+}
+
+impl From<u64> for Fixed {
+    ghost use Rattle.std.specs.Prelude.{◌≡◌, pos};
+
+    ghost from_gives = { λ count fixed. fixed ≡ pos count };
+
+    #[inline]
+    fn from(count: u64) -> Fixed {
+        Fixed {
+            number: i128::from(count),
+        }
+    }
+}
+
 #[cfg(test)]
 mod tests {
     use super::*;
@@ -86,6 +112,8 @@ mod tests {
                 Err(TooLarge) => assert!(rt; !fits, "{count}"),
             }
         }
+        assert_eq!(rt; Fixed::from(i64::MIN).count(), -9_223_372_036_854_775_808);
+        assert_eq!(rt; Fixed::from(u64::MAX).count(), 18_446_744_073_709_551_615);
         let text = format!(in rt.alloc(); "{TooLarge}")?;
         assert_eq!(rt;
             text.as_str(),

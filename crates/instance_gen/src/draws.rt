@@ -34,10 +34,7 @@ pub fn whole(n: u32) -> Fixed
     requires { n < 1000 }
     ensures { result ≡ whole n }
 {
-    match Fixed::from_count(n as i128 * 1_000_000_000_000) {
-        Ok(fixed) => fixed,
-        Err(_) => Fixed::zero(),
-    }
+    Fixed::from(n as u64 * 1_000_000_000_000)
 }
 
 /// The durations of an intervention, by start.

@@ -47,7 +47,7 @@ fn narrow_at(numbers: &[i64], k: usize) -> Fixed
     requires { k < length numbers.now }
     ensures { result ≡ slice_index_or numbers.now k (pos 0) }
 {
-    widened(numbers[k])
+    Fixed::from(numbers[k])
 }
 
 #[inline]
@@ -56,15 +56,4 @@ fn wide_at(numbers: &[Fixed], k: usize) -> Fixed
     ensures { result ≡ slice_index_or numbers.now k (pos 0) }
 {
     numbers[k]
-}
-
-/// A count of 8 bytes as one of 16.
-#[inline]
-pub(crate) fn widened(count: i64) -> Fixed
-    ensures { result ≡ count }
-{
-    match Fixed::from_count(i128::from(count)) {
-        Ok(fixed) => fixed,
-        Err(_) => unreachable!(),
-    }
 }

@@ -5,7 +5,7 @@ ghost use Rattle.std.specs.List.{slice_range};
 ghost use Rattle.instance_model.specs.RiskLists.{IsSeamKept};
 ghost use Rattle.instance_model.specs.RiskNumbers.{numbers_of};
 
-use crate::risk_numbers::{RiskNumbers, widened};
+use crate::risk_numbers::RiskNumbers;
 use fixed_num::Fixed;
 use std::alloc::AllocError;
 
@@ -105,7 +105,7 @@ fn push_widened(wide: &mut Vec<Fixed>, counts: &[i64]) -> Result<(), AllocError>
 {
     wide.reserve(counts.len())?;
     for count in counts {
-        wide.push(widened(*count))?;
+        wide.push(Fixed::from(*count))?;
     }
     Ok(())
 }

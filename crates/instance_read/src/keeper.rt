@@ -136,7 +136,7 @@ impl Keeper {
         ensures { OnOk result (kept_of self.new ≡ spec.keep_counts spot counts.now (kept_of self.old)) }
     {
         'counts: for count in counts {
-            self.add_count(spot, number_of(*count), false)?;
+            self.add_count(spot, Fixed::from(*count), false)?;
         }
         Ok(())
     }
@@ -358,16 +358,6 @@ impl Keeper {
             }
             _ => Ok(()),
         }
-    }
-}
-
-/// The number with a count.
-fn number_of(count: i64) -> Fixed
-    ensures { result ≡ count }
-{
-    match Fixed::from_count(i128::from(count)) {
-        Ok(number) => number,
-        Err(_) => unreachable!(),
     }
 }
 

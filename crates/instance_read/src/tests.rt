@@ -262,7 +262,7 @@ const RUNNING: [Running; 4] = [
 fn slack() -> Fixed
     ensures { IsSlack result }
 {
-    Fixed::from_count(1_000_000_000).unwrap_or(Fixed::zero())
+    Fixed::from(1_000_000_000u64)
 }
 
 /// Limits that the file just keeps.

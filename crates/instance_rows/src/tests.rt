@@ -73,19 +73,10 @@ const SOUTH: Outline<'static> = Outline {
     risks: &[(1, 1, &[-ONE, 6 * ONE], false)],
 };
 
-fn fixed(count: i64) -> Fixed
-    ensures { result ≡ count }
-{
-    match Fixed::from_count(count as i128) {
-        Ok(fixed) => fixed,
-        Err(_) => Fixed::zero(),
-    }
-}
-
 fn counts(alloc: Global, counts: &[i64]) -> Result<Vec<Fixed>, AllocError> {
     let mut list = Vec::new(alloc);
     for count in counts {
-        list.push(fixed(*count))?;
+        list.push(Fixed::from(*count))?;
     }
     Ok(list)
 }
@@ -99,7 +90,7 @@ fn risk_lists(alloc: Global, risks: &[(u32, u32, &[i64], bool)]) -> Result<RiskL
             continue;
         }
         for number in *numbers {
-            lists.add(fixed(*number), true)?;
+            lists.add(Fixed::from(*number), true)?;
         }
     }
     Ok(lists)
@@ -112,7 +103,7 @@ fn load(period: u32, start: u32, count: i64) -> Load
     Load {
         period,
         start,
-        load: fixed(count),
+        load: Fixed::from(count),
     }
 }
 
@@ -316,7 +307,7 @@ fn has_risks(rt: &impl Abort, alloc: Global, made: &Parts) -> Result<(), AllocEr
 #[test]
 fn tables_are_those_of_the_rows(rt: HostRuntime) -> Result<(), Fail> {
     let alloc = rt.alloc();
-    let made = parts(alloc, file_rows(alloc, &SUMMER)?, fixed(500))?;
+    let made = parts(alloc, file_rows(alloc, &SUMMER)?, Fixed::from(500i64))?;
     has_limits(&rt, &made);
     has_exclusion(&rt, &made);
     has_durations(&rt, &made);

@@ -107,14 +107,3 @@ pub(crate) fn digits_behind(front: u64, bytes: &[u8], most: usize) -> DigitRun
     }
     DigitRun { length, value }
 }
-
-/// The count of that size.
-#[inline]
-pub(crate) fn count_of(size: u64) -> Fixed
-    ensures { result ≡ pos size }
-{
-    match Fixed::from_count(size as i128) {
-        Ok(count) => count,
-        Err(_) => unreachable!(),
-    }
-}

@@ -14,11 +14,12 @@ ghost use Rattle.json_events.specs.Unreads.{unread_of};
 ghost use Rattle.json_events.specs.Readings.{HasTold, ReadsOn, Shortens, IsTelling, told_events};
 ghost use Rattle.json_events.specs.CountedNumbers.{finishes, TellsCount, TellsCounts};
 
-use crate::counted_number::{CountedNumber, CountedRun, count_of, ended_number};
+use crate::counted_number::{CountedNumber, CountedRun, ended_number};
 use crate::counted_numbers::{MOST_COUNTS, counted_numbers};
 use crate::number_key::{KeyRun, NumberKey, number_key};
 use crate::unread::Unread;
 use arrayvec::ArrayVec;
+use fixed_num::Fixed;
 use json_grammar::Event;
 use json_machine::{Answer, MOST_LEVELS, Machine, Mode, RawEvent, TakenToken, blank_count};
 use std::alloc::{AllocError, Global};
@@ -141,7 +142,7 @@ pub fn read_counted(machine: &mut Machine, unread: &mut Unread) -> Option<Counte
     unread.pass(blanks);
     let at = unread.at();
     unread.pass(run.length + 1);
-    let count = count_of(run.size);
+    let count = Fixed::from(run.size);
     let second = finish_of(closes, at + run.length as u64);
     Some(CountedReading {
         number: CountedNumber { at, count },

@@ -85,15 +85,6 @@ fn names(alloc: Global, count: usize) -> Result<IndexSet<String>, AllocError>
     Ok(names)
 }
 
-fn fixed(count: i64) -> Fixed
-    ensures { result ≡ count }
-{
-    match Fixed::from_count(count as i128) {
-        Ok(fixed) => fixed,
-        Err(_) => Fixed::zero(),
-    }
-}
-
 fn limits(alloc: Global, counts: &[i64]) -> Result<Vec<i128>, AllocError>
     ensures { IfOk result (λ limits. limits.items ≡ counts.now) }
 {
@@ -109,7 +100,7 @@ fn risks(alloc: Global, counts: &[i64]) -> Result<Vec<Fixed>, AllocError>
 {
     let mut risks = Vec::new(alloc);
     for count in counts {
-        risks.push(fixed(*count))?;
+        risks.push(Fixed::from(*count))?;
     }
     Ok(risks)
 }
@@ -123,7 +114,7 @@ fn cells(alloc: Global, works: &[(u32, u32, u32, i64)]) -> Result<Vec<LoadCell>,
             start: *start,
             period: *period,
             resource: *resource,
-            load: fixed(*count),
+            load: Fixed::from(*count),
         })?;
     }
     Ok(cells)

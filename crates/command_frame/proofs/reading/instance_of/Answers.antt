@@ -6,7 +6,7 @@ use Rattle.command_frame.proofs.reading.instance_of.Goals as goal
 pub returns-in-Ok-clause-ok : goal.returns-in-Ok-clause-ok
 returns-in-Ok-clause-ok g c =
     reads_instance (source_view c.args.source.now)
-    (g.D.Desk.shows c.args.desk.now) c.args.limits.now c.widening.result c.in-Ok.inst c.widening.ensures
+    (g.D.Desk.shows c.args.desk.now) c.args.limits.now c.from-slack.result c.in-Ok.inst (search rules)
     c.in-Ok.ensures.built
 
 pub returns-in-Err-Text-clause-err : goal.returns-in-Err-Text-clause-err

@@ -80,9 +80,9 @@ returns-clause-tells c =
     (λ k. finishes taken.closes (k + size)) (search rules) (search rules) c.pass.ensures.at c.pass.ensures.rest
     (behind blanks bs ∙ ap (drop blanks) c.as_slice-bytes.ensures.same)
     is.takes is.exact (λ k i s. is.sound k i s (search rules)) c.pass-2.ensures.at c.pass-2.ensures.rest in
-    subst (λ (es : List json.Event). TellsCount c.at-at.result c.count_of-count.result es m u n w)
+    subst (λ (es : List json.Event). TellsCount c.at-at.result c.from-count.result es m u n w)
     (sym c.finish_of-second.ensures)
     (subst (λ (z : ℤ). TellsCount c.at-at.result z (finishes taken.closes (c.at-at.result + size)) m u n w)
-    (sym c.count_of-count.ensures)
+    (sym c.from-count.ensures)
     (subst (λ (k : ℕ). TellsCount k (pos taken.run.size) (finishes taken.closes (k + size)) m u n w)
     (sym c.at-at.ensures) counted))

@@ -9,9 +9,9 @@ use Rattle.instance_read.proofs.keeper.Keeper.add_counts.Goals as goal
 
 pub counts-preserved : goal.counts-preserved
 counts-preserved c =
-    let item : c.number_of.result ≡ get_or c.args.counts.now c.counts.count-index (pos 0) =
+    let item : c.from.result ≡ get_or c.args.counts.now c.counts.count-index (pos 0) =
     grind (arith, common_steps) in
-    next_kept c.args.spot c.args.counts.now c.counts.count-index c.number_of.result (pos 0)
+    next_kept c.args.spot c.args.counts.now c.counts.count-index c.from.result (pos 0)
     (kept_of c.args.self.now) (kept_of c.counts.self) (kept_of c.add_count.new.self) c.counts-test.true
     item c.counts.invariant (c.in_ok-add_count.ensures 0 [])
 
