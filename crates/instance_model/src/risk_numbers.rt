@@ -4,7 +4,7 @@ ghost use Rattle.instance_model.specs.RiskNumbers.{numbers_of};
 
 use fixed_num::Fixed;
 
-/// Counts of 10^-12 that are lent, of 8 bytes each where all of them fit, else of 16.
+/// Counts of 10^-12 that are lent, of 8 bytes each or of 16.
 #[derive(Clone, Copy, Debug)]
 pub enum RiskNumbers<'a> {
     Narrow(&'a [i64]),

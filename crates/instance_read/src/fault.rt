@@ -47,7 +47,7 @@ pub enum InstanceFault {
     Shape {
         at: u64,
     },
-    /// The number at `at` has 10^8 or more in size.
+    /// The number at `at`, rounded to 10^-12, has 10^8 or more in size.
     #[error("too large a number at byte {at}")]
     TooLarge {
         at: u64,

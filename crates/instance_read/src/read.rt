@@ -74,7 +74,8 @@ fn read_bytes(
 /// Reads the instance of the file of this name, piece by piece.
 ///
 /// The answer is that of `read_all` followed by `read_instance`: after a fault of the text the file is read on to its
-/// end, or past its limit, so `Failed` and `TooLong` win. No further read is made once the limit is passed.
+/// end, or past its limit, so `Failed` and `TooLong` win. A file that is too long is left at most a piece of 2^16 bytes
+/// behind its limit.
 pub fn read_instance_from<D: Desk>(
     alloc: Global,
     limits: &Limits,
@@ -92,9 +93,11 @@ pub fn read_instance_from<D: Desk>(
     ensures too_long { IsErrOf result StreamFault.TooLong
         → WhereToldHolds (D.shows desk.old) name.now (λ held. limits.now.instance_bytes < length held) }
 
-    // An instance was read to the end of its file. A failure changes no file and says nothing, and no
-    // read was made once the limit was passed.
+    // An instance was read to the end of its file, and so was a text with a fault. A failure changes no file and says
+    // nothing.
     ensures ok { OnOk result (ShowsSame (D.shows desk.new) (after_take_in name.now [] (D.shows desk.old))) }
+    ensures text { (fault : InstanceFault) → result ≡ Err (StreamFault.Text fault)
+        → ShowsSame (D.shows desk.new) (after_take_in name.now [] (D.shows desk.old)) }
     ensures err { OnErr result (LeavesFile name.now limits.now.instance_bytes (D.shows desk.old) (D.shows desk.new)) }
     // no more than the limit was read, unless the file is too long
     ensures stops { IfErr result (StopsAt name.now limits.now.instance_bytes (D.shows desk.old) (D.shows desk.new)) }

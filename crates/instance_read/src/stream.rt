@@ -77,6 +77,8 @@ pub fn read_rest<D: Desk>(
     ensures too_long { IsErrOf result StreamFault.TooLong
         → IfSome (D.shows desk.old).input.unread (λ rest. limit < length rest) }
     ensures end { OnOk result (ShowsSame (D.shows desk.new) (all_read (D.shows desk.old))) }
+    ensures text_end { (fault : InstanceFault) → result ≡ Err (StreamFault.Text fault)
+        → ShowsSame (D.shows desk.new) (all_read (D.shows desk.old)) }
     ensures some_read { (n : ℕ) × MatchResult result (λ _. n ≤ limit) (λ fault. IsStreamCountAt limit fault n)
         × ShowsSame (D.shows desk.new) (after_read n (D.shows desk.old)) }
     ensures later { (D.shows desk.old).faults ≤ (D.shows desk.new).faults }

@@ -208,6 +208,61 @@ const PAST_LIMITS: [Edit; 10] = [
     ),
 ];
 
+/// Files with one fault each, in words.
+const WORDS: [Edit; 15] = [
+    (r#""T":2"#, r#""T":02"#, "no JSON text from byte 407 on"),
+    (
+        r#""T":2"#,
+        r#""x":[[[[[[[[[[[[[[[["#,
+        "nested too deep at byte 421",
+    ),
+    (
+        r#""T":2"#,
+        r#""T":2,"T":2"#,
+        "the key at byte 408 stands there again",
+    ),
+    (r#""c":{"max""#, r#""c 1":{"max""#, "no name at byte 14"),
+    (
+        r#""Alpha":0.5,"T":2,"#,
+        "",
+        "a required key is missing before byte 414",
+    ),
+    (
+        r#""tmax":1"#,
+        r#""tmax":1.5"#,
+        "not the shape that is due at byte 104",
+    ),
+    ("-0.5", "-1e8", "too large a number at byte 160"),
+    (r#""T":2"#, r#""T":0"#, "past a limit at byte 406"),
+    (
+        "[1,2]}",
+        "[1]}",
+        "not one number of scenarios for each period",
+    ),
+    ("[3,3]", "[3]", "a band has not one limit for each period"),
+    (
+        r#""tmax":1"#,
+        r#""tmax":0"#,
+        "a tmax is outside the periods",
+    ),
+    ("[1,1]", "[1]", "a list of durations is too short"),
+    (
+        r#"["a","b","s"]"#,
+        r#"["a","b","b"]"#,
+        "a name is not one of the file's",
+    ),
+    (
+        r#""02":{"1""#,
+        r#""02":{"2""#,
+        "no risks in period 2 at start 1",
+    ),
+    (
+        "[3,1]",
+        "[3]",
+        "not one risk for each scenario in period 2 at start 1",
+    ),
+];
+
 /// One period of the run of an allowed start.
 struct Running {
     intervention: u32,
@@ -320,6 +375,18 @@ fn told_of_file(
         Err(StreamFault::Memory) => Err(AllocError),
         Err(StreamFault::Text(fault)) => format!(in alloc; "{fault:?}"),
         Err(fault) => format!(in alloc; "{fault:?}"),
+    }
+}
+
+/// What is told of a file in words, unless memory ran out.
+fn words_of_file(
+    alloc: Global,
+    answer: Result<Instance, StreamFault>,
+) -> Result<String, AllocError> {
+    match answer {
+        Ok(_) => String::from_str(alloc, "read"),
+        Err(StreamFault::Memory) => Err(AllocError),
+        Err(fault) => format!(in alloc; "{fault}"),
     }
 }
 
@@ -488,6 +555,28 @@ fn a_read_fault_and_a_long_file_win(rt: HostRuntime) -> Result<(), Fail> {
         let answer = of_file(alloc, &limits, text.as_bytes(), 100, failing);
         let answer = told_of_file(alloc, answer)?;
         assert_eq!(rt; answer.as_str(), want, "{new} {limit}");
+    }
+    Ok(())
+}
+
+#[test]
+fn faults_are_put_into_words(rt: HostRuntime) -> Result<(), Fail> {
+    let alloc = rt.alloc();
+    let limits = Limits::standard();
+    for (old, new, want) in WORDS {
+        let text = GOOD.replacen(alloc, old, new, 1)?;
+        let answer = of_file(alloc, &limits, text.as_bytes(), 4096, None);
+        let words = words_of_file(alloc, answer)?;
+        assert_eq!(rt; words.as_str(), want);
+    }
+    for (fault, want) in &[
+        (StreamFault::Failed, "the file could not be read"),
+        (StreamFault::TooLong, "the file is too long"),
+        (StreamFault::Memory, "out of memory"),
+        (StreamFault::Text(InstanceFault::Memory), "out of memory"),
+    ] {
+        let words = format!(in alloc; "{fault}")?;
+        assert_eq!(rt; words.as_str(), *want);
     }
     Ok(())
 }

@@ -56,7 +56,7 @@ impl Machine {
         }
     }
 
-    /// The byte at k.
+    /// The byte at k. Behind `Refused` the machine is of no more use.
     #[tactic(auto, unfolding(json_laws::specs::Machine::step))]
     pub fn step(&mut self, alloc: Global, k: u64, byte: u8) -> Result<Answer, AllocError>
         requires sound { IsSound k self.old }

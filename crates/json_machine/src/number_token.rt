@@ -135,7 +135,7 @@ impl Machine {
         true
     }
 
-    /// Whether a value may come next, and the innermost that is open is a list.
+    /// Whether a value may come next, and the innermost that is open is a list. `false` says nothing.
     #[inline]
     pub fn awaits_item(&self) -> bool
         ensures { IsTrue result → AwaitsItem self.now }

@@ -44,7 +44,8 @@ impl Machine {
     }
 
     /// Takes the bytes in front that only lengthen a token, digits of a number or plain characters of a string, or the
-    /// blanks in front, and answers how many there were.
+    /// blanks in front, and answers how many it took. It may take fewer than there are: what `step` does with each, it
+    /// does faster.
     pub fn take_run(&mut self, bytes: &[u8]) -> Result<usize, AllocError>
         ensures within { IfOk result (λ n. n ≤ length bytes.now) }
         ensures moves { IfOk result

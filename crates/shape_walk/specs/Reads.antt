@@ -3,10 +3,12 @@ use Rattle.std.specs.Prelude.{ℕ, ℤ, Bool, List, Option, Some, None, cond}
 use Rattle.json_grammar.specs.Tree.{Node, Event, begin, finish, key}
 use Rattle.decimal_numbers.specs.Exact.{fixed, whole, millionths}
 use Rattle.instance_shape.specs.declared.spot.Spot.{Spot}
+use Rattle.instance_shape.specs.declared.spot.Spot.TheVariants.{Skipped}
 use Rattle.instance_shape.specs.declared.spot.Kind.{Kind}
 use Rattle.instance_shape.specs.declared.spot.Kind.TheVariants as kind
 use Rattle.instance_shape.specs.Keys.{is_digits, number_of}
 use Rattle.instance_shape.specs.Shape.{kind_of}
+use Rattle.shape_walk.specs.declared.taken.Taken.{Taken}
 use Rattle.shape_walk.specs.declared.taken.Read.{Read}
 use Rattle.shape_walk.specs.declared.taken.Read.TheVariants.{Count, Whole, Millionths, Nothing}
 
@@ -49,3 +51,7 @@ read_of s (Event.null at) = Nothing
 read_of s (Event.boolean at b) = Nothing
 read_of s (Event.number at x) = read_of_number (kind_of s) x
 read_of s (Event.text at end x) = read_of_text (kind_of s) x
+
+-- what is told of an event behind a fault
+abbrev pub nothing_taken : Taken
+nothing_taken = record { spot = Skipped; read = Nothing }

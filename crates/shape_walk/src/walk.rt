@@ -1,7 +1,7 @@
 //! The walk over the events of a text.
 
 ghost use Rattle.std.specs.Prelude.{◌≡◌, ◌∷◌, [], ◌++◌, ◌↔◌, ℕ, ℤ, List, Bool, false, None, Some, IfOk, OnOk, IfSome};
-ghost use Rattle.std.specs.Prelude.{◌≤◌, IsTrue, is_none, length, true};
+ghost use Rattle.std.specs.Prelude.{◌≤◌, Ok, IsTrue, is_none, length, true};
 ghost use Rattle.json_grammar.specs.Tree as json;
 ghost use Rattle.json_grammar.specs.Tree.{events_of};
 ghost use Rattle.json_grammar.specs.Events.{event_view};
@@ -16,7 +16,7 @@ ghost use Rattle.shape_walk.specs.CountEvents.{HaveCounts, StandAt, AreReadAs};
 ghost use Rattle.shape_walk.specs.declared.taken.Read.TheVariants as reads;
 ghost use Rattle.shape_walk.specs.Kept.{spot_after};
 ghost use Rattle.shape_walk.specs.Flaws.{flaw_at};
-ghost use Rattle.shape_walk.specs.Reads.{read_of};
+ghost use Rattle.shape_walk.specs.Reads.{nothing_taken, read_of};
 ghost use Rattle.shape_walk.specs.Standing.{StandsAfter};
 ghost use Rattle.shape_walk.specs.Taking.{Takes};
 
@@ -95,6 +95,7 @@ impl ShapeWalk {
         ensures read { IfOk result (λ taken. self.old.fault ≡ None
             → taken.read ≡ read_of taken.spot (event_view event.now)) }
         ensures keeps { (f : FaultValue) → self.old.fault ≡ Some f → self.new ≡ self.old }
+        ensures untold { (f : FaultValue) → self.old.fault ≡ Some f → result ≡ Ok nothing_taken }
     {
         if self.fault.is_some() {
             return Ok(Taken {

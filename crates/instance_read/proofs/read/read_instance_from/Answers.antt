@@ -46,6 +46,12 @@ returns-clause-ok g c =
     (λ e. all_of_taken c.args.name.now c.in_ok-take_in.ensures.ok.0 (d.shows c.args.desk.now)
     (d.shows c.take_in.new.self) (d.shows c.read_rest-answer.new.desk) (taken g c) e) c.read_rest-answer.ensures.end
 
+pub returns-clause-text : goal.returns-clause-text
+returns-clause-text g c = λ fault e.
+    let d = g.D.Desk in
+    all_of_taken c.args.name.now c.in_ok-take_in.ensures.ok.0 (d.shows c.args.desk.now) (d.shows c.take_in.new.self)
+    (d.shows c.read_rest-answer.new.desk) (taken g c) (c.read_rest-answer.ensures.text_end fault e)
+
 pub returns-clause-faults : goal.returns-clause-faults
 returns-clause-faults g c =
     let d = g.D.Desk in
