@@ -4,6 +4,10 @@ use Rattle.json_grammar.specs.Events.{event_view}
 use Rattle.instance_read.proofs.Following.{none_before, taken_more}
 use Rattle.instance_read.proofs.follow.take_event.Goals as goal
 
+pub take-requires-2 : goal.take-requires-2
+take-requires-2 c = c.in_ok-taken.ensures.read (none_before c.args.walk.now c.take.new.self c.take.ensures.keeps
+    (search rules))
+
 pub returns : goal.returns
 returns c = λ limits es h.
     let old = c.args.walk.now in
