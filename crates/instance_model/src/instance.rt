@@ -41,10 +41,14 @@ impl Model for Instance {
     ghost invariant = { IsIndexed };
 }
 
+/// A call, so that a proof doesn't go through all tables wherever an instance is dropped.
 impl Drop for Instance {
-    /// Gives the memory back.
     fn drop(self) {
-        let Instance { parts: _, risks: _, soft: _ } = self;
+        let Instance {
+            parts: _,
+            risks: _,
+            soft: _,
+        } = self;
     }
 }
 

@@ -20,7 +20,6 @@ use std::sync::ledger::Ledger;
 use undo_trail::{Step, Trail};
 
 /// The plans that an opening plan and its changes made, the present one last, with the key of the present one.
-#[derive(Drop)]
 pub struct Kept<'a, R: Row> {
     board: Board<'a, R>,
     trail: Trail,
@@ -35,6 +34,13 @@ impl<'a, R: Row> Model for Kept<'a, R> {
     ghost view = { λ k. kept_of k.board k.trail };
 
     ghost invariant = { λ k. IsTrailOf k.board.instance k.trail.0 k.board.starts };
+}
+
+/// A call, so that a proof doesn't go through all rows wherever the plans are dropped.
+impl<'a, R: Row> Drop for Kept<'a, R> {
+    fn drop(self) {
+        let Kept { board: _, trail: _ } = self;
+    }
 }
 
 impl<'a, R: Row> Kept<'a, R> {
