@@ -1,11 +1,12 @@
 //! A row of scenario sums as a height-balanced tree: contracts see the list of the sums.
 ghost use Rattle.std.specs.Prelude.{◌≡◌, ◌+◌, ◌-◌, ◌*◌, ◌≤◌, length, IfOk, slice_set};
 ghost use Rattle.quantile_index.specs.HeightLimit.{height_limit};
+ghost use Rattle.quantile_index.specs.LateRanking.{IsTreeRow};
 ghost use Rattle.quantile_index.specs.Ranking.{IsRanking};
 
 use crate::change::{put_in, take_out};
 use crate::entry::Entry;
-use crate::ranks::rank;
+use crate::ranks::{entry_at, rank};
 use crate::row::Row;
 use crate::tree::{Node, Tree};
 use fixed_num::{Steps, Sum};
@@ -18,24 +19,26 @@ use std::sync::ledger::{Blank, Ledger};
 /// order at once.
 ///
 /// A change takes the scenario's node out, gives it the new sum and puts the same node in again. A change of all sums
-/// sorts them, and writes them over the entries of the tree, whose shape stays.
+/// sorts them, and leaves the tree behind: the next change of one writes them over its entries, and its shape stays.
 #[derive(Drop)]
 pub struct TreeRow {
     sums: Vec<Sum>,
     tree: Tree,
+    /// Where the tree is behind, the sums in order.
     keys: Vec<i128>,
     narrow: Vec<u64>,
+    is_behind: bool,
 }
 
 impl Model for TreeRow {
     ghost use Rattle.std.specs.Prelude.{ℤ, List, length};
-    ghost use Rattle.quantile_index.specs.Ranking.{IsRow};
+    ghost use Rattle.quantile_index.specs.LateRanking.{IsTreeRow};
 
     ghost Value = { List ℤ };
 
     ghost view = { λ r. r.sums.items };
 
-    ghost invariant = { λ r. IsRow r.tree.0 r.sums.items (length r.keys.items) (length r.narrow.items) };
+    ghost invariant = { λ r. IsTreeRow r.is_behind r.tree.0 r.sums.items r.keys.items (length r.narrow.items) };
 }
 
 /// Changes the sum of scenario `k`, by scenario and in the tree, which is handed back.
@@ -59,6 +62,17 @@ fn change<L: Ledger>(tree: Tree, sums: &mut [Sum], k: u32, sum: Sum, steps: &mut
     node.set_sum(sum);
     sums[i] = sum;
     put_in(tree, node, steps)
+}
+
+/// The tree of the sums. Where it was behind, the entries of the keys are written over its own.
+fn caught_up(mut tree: Tree, is_behind: bool, keys: &[i128], sums: &[Sum]) -> Tree
+    requires { IsTreeRow is_behind tree.0 sums.now keys.now (length keys.now) }
+    ensures { IsRanking result.0 sums.now }
+{
+    if is_behind {
+        tree.overwrite(keys, sums);
+    }
+    tree
 }
 
 /// The tree of the sums. Steps are counted on a counter of its own.
@@ -101,6 +115,7 @@ impl Row for TreeRow {
             tree,
             keys,
             narrow,
+            is_behind: false,
         })
     }
 
@@ -114,18 +129,24 @@ impl Row for TreeRow {
 
     fn replace<L: Ledger>(&mut self, k: u32, sum: Sum, steps: &mut Steps<L>) {
         let tree = mem::replace(&mut self.tree, Tree::leaf());
+        let tree = caught_up(tree, self.is_behind, &self.keys, &self.sums);
         self.tree = change(tree, &mut self.sums, k, sum, steps);
+        self.is_behind = false;
     }
 
     fn replace_all<L: Ledger>(&mut self, from: &[Sum], steps: &mut Steps<L>) {
         rank(from, &mut self.keys, &mut self.narrow, steps);
-        self.tree.overwrite(&self.keys, from);
         self.sums.copy_from_slice(from);
+        self.is_behind = true;
     }
 
     fn kth<L: Ledger>(&self, m: u32, steps: &mut Steps<L>) -> Sum {
         let _ = steps;
-        self.tree.sum_at(m - 1)
+        if self.is_behind {
+            entry_at(&self.sums, &self.keys[(m - 1) as usize]).sum
+        } else {
+            self.tree.sum_at(m - 1)
+        }
     }
 
     ghost grows = { tree_bound_grows };

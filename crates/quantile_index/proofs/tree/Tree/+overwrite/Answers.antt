@@ -1,4 +1,4 @@
-use Rattle.std.proofs.Common.{◌≡◌, ◌+◌, ◌-◌, ℤ, ℕ, length, drop, sym, ap, subst, ◌∙◌, arith, rules, pos}
+use Rattle.std.proofs.Common.{◌+◌, ◌-◌, length, drop, sym, ap, subst, ◌∙◌, arith, pos}
 use Rattle.std.proofs.lemmas.List.Elements.{All-take, All-drop}
 use Rattle.quantile_index.specs.declared.tree.Node.{Node}
 use Rattle.quantile_index.specs.SortKeys.{IsKeyIn}
