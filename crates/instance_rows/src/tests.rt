@@ -316,13 +316,24 @@ fn tables_are_those_of_the_rows(rt: HostRuntime) -> Result<(), Fail> {
     Ok(())
 }
 
+/// No text: there are tables.
+fn without_fault(alloc: Global, made: Parts) -> String {
+    let _ = made.periods;
+    String::new(alloc)
+}
+
+/// What is told of rows.
+fn told(alloc: Global, answer: Result<Parts, RowsFault>) -> Result<String, AllocError> {
+    match answer {
+        Ok(made) => Ok(without_fault(alloc, made)),
+        Err(fault) => format!(in alloc; "{fault}"),
+    }
+}
+
 /// The rows of each sketch have the fault that its text tells.
 fn tells(rt: &impl Abort, alloc: Global, cases: &[(Sketch, &str)]) -> Result<(), Fail> {
     for (sketch, text) in cases {
-        let told = match parts(alloc, file_rows(alloc, sketch)?, Fixed::zero()) {
-            Ok(_) => String::new(alloc),
-            Err(fault) => format!(in alloc; "{fault}")?,
-        };
+        let told = told(alloc, parts(alloc, file_rows(alloc, sketch)?, Fixed::zero()))?;
         assert_eq!(rt; told.as_str(), *text);
     }
     Ok(())
