@@ -333,7 +333,10 @@ fn told(alloc: Global, answer: Result<Parts, RowsFault>) -> Result<String, Alloc
 /// The rows of each sketch have the fault that its text tells.
 fn tells(rt: &impl Abort, alloc: Global, cases: &[(Sketch, &str)]) -> Result<(), Fail> {
     for (sketch, text) in cases {
-        let told = told(alloc, parts(alloc, file_rows(alloc, sketch)?, Fixed::zero()))?;
+        let told = told(
+            alloc,
+            parts(alloc, file_rows(alloc, sketch)?, Fixed::zero()),
+        )?;
         assert_eq!(rt; told.as_str(), *text);
     }
     Ok(())
