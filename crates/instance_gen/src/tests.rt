@@ -1,3 +1,5 @@
+//! Texts of drawn instances: whole ones by their sums, and how they begin.
+
 use super::*;
 use std::test::Fail;
 
