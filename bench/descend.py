@@ -1,16 +1,15 @@
 #!/usr/bin/env python3
 """Times descents from the opening plans of drawn instances, and how many neighbours are judged a second.
 
-    bench/descend.py TOOLS [--cases "10-a1 20-a1"] [--line "NAME OPTIONS"] [--turns "1000 10000"] [--places 20000]
+    bench/descend.py [--cases "10-a1 20-a1"] [--line "NAME OPTIONS"] [--turns "1000 10000"] [--places 20000]
         [--seconds 600] [--instructions]
 
-TOOLS is a folder with `draw_case.py`, which draws an instance with a plan that keeps all its rules, and `cases.txt`,
-whose lines are the name of a case and the words that draw it. A program over the crates is proved and built first.
+The cases are those of bench/cases.txt. A program over the crates is proved and built first.
 
 The opening plan has each intervention at its least allowed start. A row has the violation and the score of the plan at
 the descent's end, the number of its changes, whether that is all turns, and the processor seconds that it took. Then
 moves and exchanges of that plan are judged at so many places, each of which names one that may be allowed. --line has
-a further case, in the form of a line of `cases.txt`.
+a further case, in the form of a line of that file.
 
 With --instructions a row has the instructions of a judged change in place of times: what valgrind counts in a run that
 judges at all places, less what it counts in a run that judges at none, over the number of changes that were judged.
@@ -22,6 +21,7 @@ import re
 import subprocess
 from tempfile import TemporaryDirectory
 
+import cases
 import scratch
 
 USES = ["local_search", "plan_moves", "quantile_index", "instance_read", "instance_model",
@@ -280,10 +280,10 @@ def counted_row(name, turns, program, path, places):
     return f"| {name} | {turns} | {moves} | {swaps} | {lower} | {(all_places - none) / max(judged, 1):.0f} |"
 
 
-def measure(words, cases, program, folder):
+def measure(words, chosen, program, folder):
     path = os.path.join(folder, "instance")
-    for name, drawn in cases.items():
-        scratch.draw(words.tools, drawn, path)
+    for name, drawn in chosen.items():
+        cases.draw(drawn, path)
         for turns in words.turns.split():
             if words.instructions:
                 print(counted_row(name, turns, program, path, words.places), flush=True)
@@ -295,7 +295,6 @@ def measure(words, cases, program, folder):
 
 def main():
     parser = argparse.ArgumentParser(description=__doc__.split("\n")[0])
-    parser.add_argument("tools")
     parser.add_argument("--cases", default="")
     parser.add_argument("--line", action="append", default=[])
     parser.add_argument("--turns", default="1000 10000")
@@ -303,7 +302,7 @@ def main():
     parser.add_argument("--seconds", type=float, default=600)
     parser.add_argument("--instructions", action="store_true")
     words = parser.parse_args()
-    cases = scratch.cases(words.tools, words.cases.split(), words.line)
+    chosen = cases.listed(words.cases.split(), words.line)
     with scratch.program("bench_descent", USES, SOURCE, PROOFS) as program, TemporaryDirectory() as folder:
         if words.instructions:
             print("| case | turns | moves judged | exchanges | that lower the key | instructions each |")
@@ -312,7 +311,7 @@ def main():
             print("| case | turns | violation | score | changes | spent | seconds | moves judged a second | "
                   "exchanges |")
             print("|---|--:|--:|--:|--:|---|--:|--:|--:|")
-        measure(words, cases, program, folder)
+        measure(words, chosen, program, folder)
 
 
 if __name__ == "__main__":

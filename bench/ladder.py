@@ -1,10 +1,10 @@
 #!/usr/bin/env python3
 """Times how a price list is raised on drawn instances, and sets its bound beside that of zeros and of the relaxation.
 
-    bench/ladder.py TOOLS [--call raise_prices] [--cases "10-a1 20-a1"] [--turns 1000] [--seconds 600] [--linear 60]
+    bench/ladder.py [--call raise_prices] [--cases "10-a1 20-a1"] [--turns 1000] [--seconds 600] [--linear 60]
 
-TOOLS is a folder with `draw_case.py` and `cases.txt`, as of `descend.py`, and with `mip.py`, which solves the linear
-relaxation of the problem where --linear gives it seconds above 0. A program over the crates is proved and built first.
+The cases are those of bench/cases.txt, and bench/mip.py has the linear relaxation solved where --linear gives it
+seconds above 0. A program over the crates is proved and built first.
 
 The list is raised by the call for the plan at the end of a descent of so many turns. A row has the processor seconds of
 the call; the worth of the box of all starts by zeros, by the raised list, and the relaxation's bound, as multiples of
@@ -17,6 +17,7 @@ import subprocess
 import sys
 from tempfile import TemporaryDirectory
 
+import cases
 import scratch
 from descend import READING, READING_PROOFS, seconds_between
 
@@ -105,9 +106,9 @@ fn main(rt: HostRuntime) -> Result<()> {
 '''
 
 
-def relaxation(tools, path, seconds):
+def relaxation(path, seconds):
     """The bound of the linear relaxation, or None."""
-    words = [sys.executable, os.path.join(tools, "mip.py"), path, "--solve", str(seconds), "--linear", "--oracle", ""]
+    words = [sys.executable, os.path.join(cases.HERE, "mip.py"), path, "--solve", str(seconds), "--linear"]
     ran = subprocess.run(words, stdin=subprocess.DEVNULL, stdout=subprocess.PIPE, stderr=subprocess.DEVNULL, text=True,
                          check=False)
     found = [line.split()[1] for line in ran.stdout.splitlines() if line.startswith("bound ")]
@@ -125,26 +126,25 @@ def row(name, said, linear):
 
 def main():
     parser = argparse.ArgumentParser(description=__doc__.split("\n")[0])
-    parser.add_argument("tools")
     parser.add_argument("--call", default="raise_prices")
     parser.add_argument("--cases", default="")
     parser.add_argument("--turns", default="1000")
     parser.add_argument("--seconds", type=float, default=600)
     parser.add_argument("--linear", type=float, default=60)
     words = parser.parse_args()
-    cases = scratch.cases(words.tools, words.cases.split())
+    chosen = cases.listed(words.cases.split())
     source = SOURCE.replace("CALL", words.call)
     with scratch.program("bench_ladder", USES, source, READING_PROOFS) as program, TemporaryDirectory() as folder:
         print("| case | seconds | worth by zeros | worth by the raised list | relaxation | score | % of the way |")
         print("|---|--:|--:|--:|--:|--:|--:|")
         path = os.path.join(folder, "instance")
-        for name, drawn in cases.items():
-            scratch.draw(words.tools, drawn, path)
+        for name, drawn in chosen.items():
+            cases.draw(drawn, path)
             said = scratch.answers([program, path, words.turns], words.seconds)
             if said is None:
                 print(f"| {name} | above {words.seconds:.0f} | | | | | |", flush=True)
                 continue
-            linear = relaxation(words.tools, path, words.linear) if words.linear > 0 else None
+            linear = relaxation(path, words.linear) if words.linear > 0 else None
             print(row(name, said, linear), flush=True)
 
 

@@ -1,13 +1,13 @@
 #!/usr/bin/env python3
 """Rebounds certificates of `solve` after limits were changed, beside solving anew.
 
-    bench/rebound.py TOOLS --cmd PROGRAM [--cases "10-a1 20-a1"] [--turns "100 1000"] [--percent 5] [--seed 1]
+    bench/rebound.py --cmd PROGRAM [--cases "10-a1 20-a1"] [--turns "100 1000"] [--percent 5] [--seed 1]
                      [--seconds 600]
 
-TOOLS is a folder with `draw_case.py` and `cases.txt`, as of bench/solve.py, and PROGRAM what `./planner --build` names.
-Each case is drawn and solved with each number of turns. Then all its bands are changed, in turn in three ways: each one
-is widened by so many percent of its limits at both ends, narrowed by as much, or moved by a drawn part of it, up or
-down. For what comes of that the certificate is rebounded, and the instance is solved anew with as many turns.
+The cases are those of bench/cases.txt, and PROGRAM is what `./planner --build` names. Each case is drawn and solved
+with each number of turns. Then all its bands are changed, in turn in three ways: each one is widened by so many percent
+of its limits at both ends, narrowed by as much, or moved by a drawn part of it, up or down. For what comes of that the
+certificate is rebounded, and the instance is solved anew with as many turns.
 
 A row has the bound of the certificate as it was, and whether it still holds; the bound, the kept and the changed leaves
 that `rebound` says, and the bound of the new solving, as multiples of 10^18; processor seconds of both; and `ok` where
@@ -21,6 +21,7 @@ import sys
 from tempfile import TemporaryDirectory
 
 sys.dont_write_bytecode = True
+import cases
 import scratch
 from drawn import plain
 from solve import NONE, ONE, SCORED, UNPLANNED, run
@@ -87,7 +88,7 @@ class Bench:
 
 def rows(bench, words, name, drawn):
     for turns in words.turns.split():
-        scratch.draw(words.tools, drawn, bench.instance)
+        cases.draw(drawn, bench.instance)
         solved = bench.solve(bench.certificate, turns)
         if solved is None:
             yield [name, turns, "", "", "", "", "", "", "", "", "", "FAULT: solve"]
@@ -103,7 +104,6 @@ def rows(bench, words, name, drawn):
 
 def main():
     parser = argparse.ArgumentParser(description=__doc__.split("\n")[0])
-    parser.add_argument("tools")
     parser.add_argument("--cmd", required=True)
     parser.add_argument("--cases", default="")
     parser.add_argument("--turns", default="100 1000")
@@ -115,7 +115,7 @@ def main():
     with TemporaryDirectory() as folder:
         print("| case | turns | bands | old | holds | rebounded | kept | changed | anew | seconds | s anew | checked |")
         print("|---|--:|---|--:|---|--:|--:|--:|--:|--:|--:|---|")
-        for name, drawn in scratch.cases(words.tools, words.cases.split()).items():
+        for name, drawn in cases.listed(words.cases.split()).items():
             for row in rows(Bench(words, folder), words, name, drawn):
                 faults += row[-1] != "ok"
                 print(f"| {' | '.join(row)} |", flush=True)

@@ -1,14 +1,14 @@
 #!/usr/bin/env python3
 """Repairs plans whose limits were tightened, and has every plan and certificate checked.
 
-    bench/repair.py TOOLS --cmd PLANNER --repair PROGRAM [--cases "10-a1 20-a1"] [--cells "1 3 10"]
+    bench/repair.py --cmd PLANNER --repair PROGRAM [--cases "10-a1 20-a1"] [--cells "1 3 10"]
                     [--turns "100 1000 10000"] [--solved 1000] [--seed 1] [--seconds 600]
     bench/repair.py --brute COUNT --cmd PLANNER --repair PROGRAM [--seed 1]
 
-TOOLS is a folder with `draw_case.py` and `cases.txt`, as of bench/solve.py. PLANNER is what `./planner --build` names,
-PROGRAM what `./planner --build plan_repair` does. Each case is drawn and solved with `--solved` turns. Then, for each
-number of `--cells`, so many pairs of a resource and a period are drawn in which the plan has a load, and their upper
-limits are lowered to nine tenths of it; the plan is repaired in what came of that, with each number of turns.
+The cases are those of bench/cases.txt. PLANNER is what `./planner --build` names, PROGRAM what `./planner --build
+plan_repair` does. Each case is drawn and solved with `--solved` turns. Then, for each number of `--cells`, so many
+pairs of a resource and a period are drawn in which the plan has a load, and their upper limits are lowered to nine
+tenths of it; the plan is repaired in what came of that, with each number of turns.
 
 A row has what `repair` says, processor seconds and the peak memory of the run; and `ok` where `evaluate` finds the plan
 that was written feasible, it changes as many starts as was said, and `audit` accepts the certificate with the number
@@ -27,6 +27,7 @@ from tempfile import TemporaryDirectory
 
 sys.dont_write_bytecode = True
 import drawn
+import cases
 import scratch
 from drawn import Plain, write_lines
 from plain import decimal, read_instance, read_plan
@@ -89,7 +90,7 @@ def tighten(source, inst, starts, cells):
 
 
 def rows(bench, words, name, drawn_by):
-    scratch.draw(words.tools, drawn_by, bench.instance)
+    cases.draw(drawn_by, bench.instance)
     solved = run([bench.planner, "solve", bench.instance, bench.plan, bench.certificate, bench.trail, words.solved],
                  words.seconds)
     if solved is None or solved[0] != REPAIRED:
@@ -200,7 +201,6 @@ def brute(words, bench):
 
 def main():
     parser = argparse.ArgumentParser(description=__doc__.split("\n")[0])
-    parser.add_argument("tools", nargs="?")
     parser.add_argument("--cmd", required=True)
     parser.add_argument("--repair", required=True)
     parser.add_argument("--cases", default="")
@@ -211,15 +211,13 @@ def main():
     parser.add_argument("--seconds", type=float, default=600)
     parser.add_argument("--brute", type=int)
     words = parser.parse_args()
-    if not words.brute and not words.tools:
-        parser.error("TOOLS or --brute")
     with TemporaryDirectory() as folder:
         bench = Bench(words, folder)
         if words.brute:
             return brute(words, bench)
         print("| case | cells | turns | changed | least | splits | seconds | MB | checked |")
         print("|---|--:|--:|--:|--:|--:|--:|--:|---|")
-        for name, drawn_by in scratch.cases(words.tools, words.cases.split()).items():
+        for name, drawn_by in cases.listed(words.cases.split()).items():
             for row in rows(bench, words, name, drawn_by):
                 print(f"| {' | '.join(row)} |", flush=True)
     return 0

@@ -80,26 +80,6 @@ def program(name, uses, source, proofs):
         yield built
 
 
-def cases(tools, only, more=()):
-    """The named cases of a folder's `cases.txt`, or all of them where none is named but by further lines of its form;
-    with the words that draw each, in order.
-    """
-    with open(os.path.join(tools, "cases.txt"), encoding="utf-8") as file:
-        lines = [line.split() for line in file if line.strip() and not line.startswith("#")]
-    further = {words[0]: words[1:] for words in map(str.split, more)}
-    listed = {words[0]: words[1:] for words in lines}
-    missing = [name for name in only if name not in listed]
-    if missing:
-        sys.exit(f"no cases {' '.join(missing)}: those that there are: {' '.join(listed)}")
-    return {name: listed[name] for name in (only if only or further else listed)} | further
-
-
-def draw(tools, words, path):
-    """Draws an instance to a path."""
-    drawer = os.path.join(tools, "draw_case.py")
-    subprocess.run([sys.executable, drawer, *words, path], stderr=subprocess.DEVNULL, check=True)
-
-
 def lines_by_word(printed):
     """The lines that a program printed, as lists of words by their first."""
     lines = [line.split() for line in printed.decode().splitlines()]

@@ -1,10 +1,9 @@
 #!/usr/bin/env python3
 """Solves drawn instances with several numbers of turns, and has every plan and certificate checked.
 
-    bench/solve.py TOOLS --cmd PROGRAM [--cases "10-a1 20-a1"] [--turns "100 1000 10000"] [--seconds 600]
+    bench/solve.py --cmd PROGRAM [--cases "10-a1 20-a1"] [--turns "100 1000 10000"] [--seconds 600]
 
-TOOLS is a folder with `draw_case.py`, which draws an instance with a plan that keeps all its rules, and `cases.txt`,
-whose lines are the name of a case and the words that draw it. PROGRAM is `./planner --build`'s, or another.
+The cases are those of bench/cases.txt. PROGRAM is `./planner --build`'s, or another.
 
 A row has what `solve` says, scores and bounds as multiples of 10^18, and the gap in percent of the score; processor
 seconds and the peak memory of the run, as the system counts them; and `ok` where `check` accepts the certificate with
@@ -15,6 +14,7 @@ import os
 import subprocess
 from tempfile import TemporaryDirectory
 
+import cases
 import scratch
 
 ONE = 10 ** 18
@@ -68,7 +68,6 @@ def row(program, files, name, turns, seconds):
 
 def main():
     parser = argparse.ArgumentParser(description=__doc__.split("\n")[0])
-    parser.add_argument("tools")
     parser.add_argument("--cmd", required=True)
     parser.add_argument("--cases", default="")
     parser.add_argument("--turns", default="100 1000 10000")
@@ -78,8 +77,8 @@ def main():
         print("| case | turns | score | bound | gap % | splits | moves | seconds | MB | checked |")
         print("|---|--:|--:|--:|--:|--:|--:|--:|--:|---|")
         files = [os.path.join(folder, name) for name in ("instance", "plan", "certificate", "trail")]
-        for name, drawn in scratch.cases(words.tools, words.cases.split()).items():
-            scratch.draw(words.tools, drawn, files[0])
+        for name, drawn in cases.listed(words.cases.split()).items():
+            cases.draw(drawn, files[0])
             for turns in words.turns.split():
                 print(f"| {' | '.join(row(words.cmd, files, name, turns, words.seconds))} |", flush=True)
 
