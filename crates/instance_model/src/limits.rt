@@ -43,18 +43,3 @@ impl Limits {
         }
     }
 }
-
-#[cfg(test)]
-mod tests {
-    use super::*;
-
-    #[test]
-    fn standard_sizes_of_files(rt: HostRuntime) {
-        let limits = Limits::standard();
-        assert_eq!(rt; limits.periods, 512);
-        assert_eq!(rt; limits.instance_bytes, 0x7fff_ffff);
-        assert_eq!(rt; limits.plan_bytes, 1 << 24);
-        assert_eq!(rt; limits.certificate_bytes, 1 << 28);
-        assert_eq!(rt; limits.script_bytes, 1 << 29);
-    }
-}

@@ -15,6 +15,3 @@ mod stream;
 pub use fault::{InstanceFault, StreamFault};
 pub use instance_shape::{Known, Which};
 pub use read::{read_instance, read_instance_from};
-
-#[cfg(test)]
-mod tests;

@@ -13,8 +13,6 @@ mod names;
 mod order;
 mod rows;
 mod seasons;
-#[cfg(test)]
-mod tests;
 mod works;
 
 pub use assembly::assemble;

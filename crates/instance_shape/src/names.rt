@@ -36,22 +36,3 @@ pub fn number_of(text: &str) -> Option<u32>
     }
     Some(number)
 }
-
-#[cfg(test)]
-mod tests {
-    use super::*;
-
-    #[test]
-    fn names_and_numbers(rt: HostRuntime) {
-        assert!(rt; is_name("I1"));
-        assert!(rt; !is_name(""));
-        assert!(rt; !is_name("I 1"));
-        assert!(rt; !is_name("I\x7f"));
-        assert_eq!(rt; number_of("1"), Some(1));
-        assert_eq!(rt; number_of("007"), Some(7));
-        assert_eq!(rt; number_of("999999999"), Some(999_999_999));
-        assert_eq!(rt; number_of("1000000000"), None);
-        assert_eq!(rt; number_of("-1"), None);
-        assert_eq!(rt; number_of(""), None);
-    }
-}

@@ -328,6 +328,3 @@ fn fault_at(at: u64, flaw: Option<Flaw>) -> Option<Fault>
 {
     flaw.map(|flaw| Fault { at, flaw })
 }
-
-#[cfg(test)]
-mod tests;

@@ -1,49 +1,22 @@
-//! Small files, with their instances and faults worked out by hand.
-#![tactic(auto, unfolding(instance_model::specs::Tables::in_run))]
+//! What is told of files with a fault, worked out by hand.
 
-ghost use Rattle.std.specs.Prelude.{◌≡◌, ◌<◌, ◌≤◌, length, IsTrue};
-ghost use Rattle.instance_model.specs.Tables.{in_run, is_allowed};
-ghost use Rattle.instance_shape.specs.Ranges.{AreStandard, IsSlack};
+ghost use Rattle.std.specs.Prelude.{◌<◌};
+ghost use Rattle.instance_shape.specs.Ranges.{AreStandard};
 
-use crate::{InstanceFault, StreamFault, read_instance, read_instance_from};
-use fixed_num::{Fixed, Steps};
-use instance_model::{Exclusion, Instance, Limits};
-use plan_desk::{DeskCall, MemDesk};
+use crate::samples::{GOOD, PIECES, of_file, slack};
+use instance_model::Limits;
+use instance_read::{InstanceFault, StreamFault, read_instance};
+use instance_rows::{CrossFault, RowsFault};
+use plan_desk::DeskCall;
 use std::alloc::{AllocError, Global};
-use std::marker::Brand;
 use std::process::Abort;
-use std::sync::ledger::{Blank, Ledger};
 use std::test::Fail;
-
-/// A file. Its lines begin at the bytes 0, 49, 74, 92, 121, 169, 239, 254, 269, 323, 340 and 374, and it has 433.
-const GOOD: &str = r#"{"Resources":{"c":{"max":[3,3],"min":[0,0.25]}},
-"Seasons":{"s":[2,"7"]},
-"Interventions":{
-"a":{"tmax":1,"Delta":[2,9],
-"workload":{"c":{"1":{"1":2},"2":{"01":-0.5}}},
-"risk":{"1":{"1":[1]},"02":{"1":[3,1]},"3":{"9":[0.0000000000001]}}},
-"b":{"tmax":2,
-"workload":{},
-"risk":{"1":{"1":[2]},"2":{"2":[1,5.0000000000001]}},
-"Delta":[1,1]}},
-"Exclusions":{"e":["a","b","s"]},
-"Quantile":0.95,"Alpha":0.5,"T":2,"Scenarios_number":[1,2]}"#;
-
-/// The same instance in another order and in other words, with values that are skipped.
-const REORDERED: &str = r#"{"T":"2","Scenarios_number":[1.0,"2"],"note":{"max":[1e9],"max":0},
-"Exclusions":{"e":["a","\u0062","s"]},
-"Interventions":{
-"\u0061":{"risk":{"2":{"001":[3,1]},"1":{"1":[1]},"7":{"1":[1e-13]}},"load":[],
-"workload":{"c":{"2":{"1":-5e-1},"1":{"1":2.0}}},"Delta":[2,9],"tmax":"1"},
-"b":{"Delta":[1,1],"risk":{"2":{"2":[1,5.0000000000001]},"1":{"1":[2]}},"workload":{},"tmax":2}},
-"Seasons":{"s":[7,2,2]},"Resources":{"c":{"min":[0,25e-2],"unit":null,"max":[3,3]}},
-"Alpha":0.5,"Quantile":95e-2}"#;
 
 /// A part of the file, what stands in its place, and what is told of the file then.
 type Edit = (&'static str, &'static str, &'static str);
 
 /// Files with a fault or more, of which one counts, and at the end one without.
-const FAULTS: [Edit; 37] = [
+const FAULTS: [Edit; 45] = [
     // Of the text, also behind a fault of shape.
     (r#""T":2"#, r#""T":02"#, "Syntax { at: 407 }"),
     (r#""T":2"#, r#""x":[[[[[[[[[[[[[[[["#, "TooDeep { at: 421 }"),
@@ -116,6 +89,16 @@ const FAULTS: [Edit; 37] = [
         r#"BandLength { resource: Text { text: "c" } }"#,
     ),
     (
+        "[3,3]",
+        "[3,3,3]",
+        r#"BandLength { resource: Text { text: "c" } }"#,
+    ),
+    (
+        "[0,0.25]",
+        "[0]",
+        r#"BandLength { resource: Text { text: "c" } }"#,
+    ),
+    (
         r#""tmax":1"#,
         r#""tmax":0"#,
         r#"BadTmax { intervention: Text { text: "a" } }"#,
@@ -157,6 +140,11 @@ const FAULTS: [Edit; 37] = [
     ),
     (
         r#"["a","b","s"]"#,
+        r#"["x","b","s"]"#,
+        r#"Unknown { name: Text { text: "x" } }"#,
+    ),
+    (
+        r#"["a","b","s"]"#,
         r#"["a","s","b"]"#,
         r#"Unknown { name: Text { text: "s" } }"#,
     ),
@@ -164,6 +152,43 @@ const FAULTS: [Edit; 37] = [
         r#"["a","b","s"]"#,
         r#"["a","b","b"]"#,
         r#"Unknown { name: Text { text: "b" } }"#,
+    ),
+    // Of several across the file the first in the order of the format: of lists, then bands, then of interventions, one
+    // by one, then of exclusions.
+    (
+        r#""T":2,"Scenarios_number":[1,2]"#,
+        r#""T":1,"Scenarios_number":[1]"#,
+        r#"BandLength { resource: Text { text: "c" } }"#,
+    ),
+    (
+        r#""02":{"1":[3,1]},"3":{"9":[0.0000000000001]}}},
+"b":{"tmax":2"#,
+        r#""3":{"9":[0.0000000000001]}}},
+"b":{"tmax":3"#,
+        r#"NoRisk { intervention: Text { text: "a" }, period: 2, start: 1 }"#,
+    ),
+    (
+        r#"[2,9],
+"workload":{"c":{"1""#,
+        r#"[],
+"workload":{"d":{"1""#,
+        r#"NoDelta { intervention: Text { text: "a" } }"#,
+    ),
+    (
+        r#""workload":{},
+"risk":{"1":{"1":[2]},"#,
+        r#""workload":{"d":{}},
+"risk":{"#,
+        r#"Unknown { name: Text { text: "d" } }"#,
+    ),
+    (
+        r#"[1,5.0000000000001]}},
+"Delta":[1,1]}},
+"Exclusions":{"e":["a","b","s"]}"#,
+        r#"[1]}},
+"Delta":[1,1]}},
+"Exclusions":{"e":["a","x","s"]}"#,
+        r#"ScenarioCount { intervention: Text { text: "b" }, period: 2, start: 2 }"#,
     ),
     // A start that is not allowed needs no risks.
     ("[1,1]", "[1,2]", "read"),
@@ -263,63 +288,6 @@ const WORDS: [Edit; 15] = [
     ),
 ];
 
-/// One period of the run of an allowed start.
-struct Running {
-    intervention: u32,
-    start: u32,
-    period: u32,
-    /// Of the resource.
-    load: i128,
-    risks: &'static [i128],
-    soft: bool,
-}
-
-/// The count of 1.
-const ONE: i128 = 1_000_000_000_000;
-
-/// All periods of the runs of all allowed starts of the file.
-const RUNNING: [Running; 4] = [
-    Running {
-        intervention: 0,
-        start: 1,
-        period: 1,
-        load: 2 * ONE,
-        risks: &[ONE],
-        soft: false,
-    },
-    Running {
-        intervention: 0,
-        start: 1,
-        period: 2,
-        load: -500_000_000_000,
-        risks: &[3 * ONE, ONE],
-        soft: false,
-    },
-    Running {
-        intervention: 1,
-        start: 1,
-        period: 1,
-        load: 0,
-        risks: &[2 * ONE],
-        soft: false,
-    },
-    Running {
-        intervention: 1,
-        start: 2,
-        period: 2,
-        load: 0,
-        risks: &[ONE, 5 * ONE],
-        soft: true,
-    },
-];
-
-/// The greatest slack.
-fn slack() -> Fixed
-    ensures { IsSlack result }
-{
-    Fixed::from(1_000_000_000u64)
-}
-
 /// Limits that the file just keeps.
 fn narrow() -> Limits
     ensures { AreStandard result }
@@ -336,41 +304,30 @@ fn narrow() -> Limits
     limits
 }
 
-/// The answer to a file that is read by pieces of at most so many bytes, where this call fails.
-fn of_file(
-    alloc: Global,
-    limits: &Limits,
-    text: &[u8],
-    most: usize,
-    failing: Option<(DeskCall, u32)>,
-) -> Result<Instance, StreamFault>
-    requires limits { AreStandard limits.now }
-    requires some { 0 < most }
-{
-    let mut desk = MemDesk::make(alloc);
-    desk.put_file("I", text)?;
-    if let Some((call, nth)) = failing {
-        desk.fail_at(call, nth)?;
-    }
-    desk.read_by(most);
-    read_instance_from(alloc, limits, slack(), &mut desk, "I")
-}
-
 /// What is told of bytes, unless memory ran out.
-fn told(alloc: Global, answer: Result<Instance, InstanceFault>) -> Result<String, AllocError> {
-    match answer {
+fn told(alloc: Global, limits: &Limits, bytes: &[u8]) -> Result<String, AllocError>
+    requires { AreStandard limits.now }
+{
+    match read_instance(alloc, limits, slack(), bytes) {
         Ok(_) => String::from_str(alloc, "read"),
         Err(InstanceFault::Memory) => Err(AllocError),
         Err(fault) => format!(in alloc; "{fault:?}"),
     }
 }
 
-/// What is told of a file, unless memory ran out.
+/// What is told of a file that is read by pieces of at most so many bytes, where this call fails, unless memory ran
+/// out.
 fn told_of_file(
     alloc: Global,
-    answer: Result<Instance, StreamFault>,
-) -> Result<String, AllocError> {
-    match answer {
+    limits: &Limits,
+    bytes: &[u8],
+    most: usize,
+    failing: Option<(DeskCall, u32)>,
+) -> Result<String, AllocError>
+    requires limits { AreStandard limits.now }
+    requires some { 0 < most }
+{
+    match of_file(alloc, limits, bytes, most, failing) {
         Ok(_) => String::from_str(alloc, "read"),
         Err(StreamFault::Memory) => Err(AllocError),
         Err(StreamFault::Text(fault)) => format!(in alloc; "{fault:?}"),
@@ -378,20 +335,14 @@ fn told_of_file(
     }
 }
 
-/// What is told of a file in words, unless memory ran out.
-fn words_of_file(
-    alloc: Global,
-    answer: Result<Instance, StreamFault>,
-) -> Result<String, AllocError> {
-    match answer {
+/// The same in words, where no call fails.
+fn words_of_file(alloc: Global, bytes: &[u8]) -> Result<String, AllocError> {
+    match of_file(alloc, &Limits::standard(), bytes, 4096, None) {
         Ok(_) => String::from_str(alloc, "read"),
         Err(StreamFault::Memory) => Err(AllocError),
         Err(fault) => format!(in alloc; "{fault}"),
     }
 }
-
-/// How long the pieces of a file are that is read by pieces.
-const PIECES: [usize; 9] = [1, 7, 15, 16, 17, 63, 64, 65, 4096];
 
 /// Of each edited file this is told, whether it is read from bytes or by pieces.
 fn tells(rt: &impl Abort, alloc: Global, limits: &Limits, edits: &[Edit]) -> Result<(), AllocError>
@@ -400,108 +351,12 @@ fn tells(rt: &impl Abort, alloc: Global, limits: &Limits, edits: &[Edit]) -> Res
     for (old, new, want) in edits {
         let text = GOOD.replacen(alloc, *old, new, 1)?;
         let bytes = text.as_bytes();
-        let answer = told(alloc, read_instance(alloc, limits, slack(), bytes))?;
+        let answer = told(alloc, limits, bytes)?;
         assert_eq!(rt; answer.as_str(), *want, "{new}");
         for most in PIECES {
-            let answer = told_of_file(alloc, of_file(alloc, limits, bytes, most, None))?;
+            let answer = told_of_file(alloc, limits, bytes, most, None)?;
             assert_eq!(rt; answer.as_str(), *want, "{new} by {most}");
         }
-    }
-    Ok(())
-}
-
-/// An instance has the sizes, names and limits of the file, with the greatest slack.
-fn has_parts(rt: &impl Abort, inst: &Instance) {
-    assert!(rt; inst.periods() == 2);
-    assert!(rt; inst.resources() == 1);
-    assert!(rt; inst.seasons() == 1);
-    assert!(rt; inst.interventions() == 2);
-    assert!(rt; inst.exclusions() == 1);
-    assert_eq!(rt;
-        (inst.alpha(), inst.quantile(), inst.rounded()),
-        (500_000, 950_000, 2)
-    );
-    assert_eq!(rt; (inst.resource_name(0), inst.season_name(0)), ("c", "s"));
-    assert_eq!(rt;
-        (inst.name(0), inst.name(1), inst.exclusion_name(0)),
-        ("a", "b", "e")
-    );
-    assert_eq!(rt; (inst.tmax(0), inst.tmax(1)), (1, 2));
-    assert_eq!(rt; (inst.scenarios(1), inst.scenarios(2)), (1, 2));
-    assert_eq!(rt; (inst.in_season(0, 1), inst.in_season(0, 2)), (false, true));
-    assert_eq!(rt;
-        (inst.upper(0, 1), inst.upper(0, 2)),
-        (3_001_000_000_000, 3_001_000_000_000)
-    );
-    assert_eq!(rt;
-        (inst.lower(0, 1), inst.lower(0, 2)),
-        (-1_000_000_000, 249_000_000_000)
-    );
-    let both = Exclusion {
-        first: 0,
-        second: 1,
-        season: 0,
-    };
-    assert_eq!(rt; inst.exclusion(0), both);
-}
-
-/// An instance has the load and the risks of this period.
-fn has_running<L: Ledger>(
-    rt: &impl Abort,
-    inst: &Instance,
-    running: &Running,
-    steps: &mut Steps<L>,
-) {
-    let (i, s, t) = (running.intervention, running.start, running.period);
-    assert!(rt; i < inst.interventions() && inst.resources() == 1);
-    assert!(rt; 1 <= s && s <= inst.tmax(i) && inst.allowed(i, s));
-    assert!(rt; s <= t && t - s < inst.delta(i, s) && t <= inst.periods());
-    assert_eq!(rt; inst.load(i, s, 0, t).count(), running.load, "{i} {s} {t}");
-    assert_eq!(rt; inst.soft(i, s, t), running.soft, "{i} {s} {t}");
-    assert!(rt; running.risks.len() == inst.scenarios(t) as usize);
-    for (k, risk) in running.risks.iter().enumerate() {
-        let number = inst.risk_cell(i, s, t, k as u32 + 1, steps);
-        assert_eq!(rt; number.count(), *risk, "{i} {s} {t} {k}");
-    }
-}
-
-/// An instance has the loads and risks of all periods, which are read on a new ledger.
-fn has_all_running<L: Ledger>(rt: &impl Abort, inst: &Instance, blank: Blank)
-    requires name { blank.name ≡ L.name }
-    requires parts { blank.parts ≡ L.parts }
-    requires some { 0 < blank.parts }
-{
-    let mut steps: Steps<L> = Steps::zero(blank);
-    for running in &RUNNING {
-        has_running(rt, inst, running, &mut steps);
-    }
-}
-
-/// An instance is that of the file.
-fn is_good(rt: &impl Abort, inst: &Instance) {
-    has_parts(rt, inst);
-    has_all_running::<Brand>(rt, inst, Blank::new(1));
-}
-
-/// A file of this text is read by pieces of each size as the instance of the file.
-fn reads_pieces(rt: &impl Abort, alloc: Global, text: &str) -> Result<(), StreamFault> {
-    let limits = Limits::standard();
-    for most in PIECES {
-        is_good(rt, &of_file(alloc, &limits, text.as_bytes(), most, None)?);
-    }
-    Ok(())
-}
-
-#[test]
-fn a_file_is_read_in_pieces_of_each_size_and_in_each_order(rt: HostRuntime) -> Result<(), Fail> {
-    let alloc = rt.alloc();
-    let limits = Limits::standard();
-    for text in [GOOD, REORDERED] {
-        is_good(
-            &rt,
-            &read_instance(alloc, &limits, slack(), text.as_bytes())?,
-        );
-        reads_pieces(&rt, alloc, text)?;
     }
     Ok(())
 }
@@ -514,9 +369,9 @@ fn a_cut_file_ends_too_early(rt: HostRuntime) -> Result<(), Fail> {
     for n in 0..bytes.len() {
         let cut = &bytes[..n];
         let want = format!(in alloc; "Syntax {{ at: {n} }}")?;
-        let answer = told(alloc, read_instance(alloc, &limits, slack(), cut))?;
+        let answer = told(alloc, &limits, cut)?;
         assert_eq!(rt; answer.as_str(), want.as_str());
-        let answer = told_of_file(alloc, of_file(alloc, &limits, cut, 7, None))?;
+        let answer = told_of_file(alloc, &limits, cut, 7, None)?;
         assert_eq!(rt; answer.as_str(), want.as_str());
     }
     Ok(())
@@ -552,8 +407,7 @@ fn a_read_fault_and_a_long_file_win(rt: HostRuntime) -> Result<(), Fail> {
         let text = GOOD.replacen(alloc, old, new, 1)?;
         let mut limits = Limits::standard();
         limits.instance_bytes = limit;
-        let answer = of_file(alloc, &limits, text.as_bytes(), 100, failing);
-        let answer = told_of_file(alloc, answer)?;
+        let answer = told_of_file(alloc, &limits, text.as_bytes(), 100, failing)?;
         assert_eq!(rt; answer.as_str(), want, "{new} {limit}");
     }
     Ok(())
@@ -562,11 +416,9 @@ fn a_read_fault_and_a_long_file_win(rt: HostRuntime) -> Result<(), Fail> {
 #[test]
 fn faults_are_put_into_words(rt: HostRuntime) -> Result<(), Fail> {
     let alloc = rt.alloc();
-    let limits = Limits::standard();
     for (old, new, want) in WORDS {
         let text = GOOD.replacen(alloc, old, new, 1)?;
-        let answer = of_file(alloc, &limits, text.as_bytes(), 4096, None);
-        let words = words_of_file(alloc, answer)?;
+        let words = words_of_file(alloc, text.as_bytes())?;
         assert_eq!(rt; words.as_str(), want);
     }
     for (fault, want) in &[
@@ -578,5 +430,80 @@ fn faults_are_put_into_words(rt: HostRuntime) -> Result<(), Fail> {
         let words = format!(in alloc; "{fault}")?;
         assert_eq!(rt; words.as_str(), *want);
     }
+    Ok(())
+}
+
+/// A fault of rows is put into these words.
+fn says(rt: &impl Abort, alloc: Global, fault: RowsFault, want: &str) -> Result<(), AllocError> {
+    let words = format!(in alloc; "{fault}")?;
+    assert_eq!(rt; words.as_str(), want);
+    Ok(())
+}
+
+/// A fault across the rows is put into these words.
+fn says_across(
+    rt: &impl Abort,
+    alloc: Global,
+    fault: CrossFault,
+    want: &str,
+) -> Result<(), AllocError> {
+    says(rt, alloc, RowsFault::Across(fault), want)
+}
+
+#[test]
+fn faults_of_rows_are_put_into_words(rt: HostRuntime) -> Result<(), Fail> {
+    let alloc = rt.alloc();
+    let name = |text: &str| String::from_str(alloc, text);
+    says_across(
+        &rt,
+        alloc,
+        CrossFault::ScenarioList,
+        "the list of scenario numbers hasn't one element per period",
+    )?;
+    says_across(
+        &rt,
+        alloc,
+        CrossFault::BandLength(name("crew")?),
+        "a band of crew hasn't one limit per period",
+    )?;
+    says_across(
+        &rt,
+        alloc,
+        CrossFault::BadTmax(name("north")?),
+        "tmax of north is no period",
+    )?;
+    says_across(
+        &rt,
+        alloc,
+        CrossFault::NoDelta(name("north")?),
+        "north has fewer than tmax durations",
+    )?;
+    says_across(
+        &rt,
+        alloc,
+        CrossFault::Unknown(name("west")?),
+        "nothing has the name west",
+    )?;
+    says_across(
+        &rt,
+        alloc,
+        CrossFault::NoRisk {
+            intervention: name("south")?,
+            period: 2,
+            start: 1,
+        },
+        "south has no risks in period 2 at start 1",
+    )?;
+    says_across(
+        &rt,
+        alloc,
+        CrossFault::ScenarioCount {
+            intervention: name("south")?,
+            period: 2,
+            start: 1,
+        },
+        "south has too few or too many risks in period 2 at start 1",
+    )?;
+    says(&rt, alloc, RowsFault::Memory, "out of memory")?;
     Ok(())
 }

@@ -1,11 +1,14 @@
-//! Small texts, with their faults and spots worked out by hand.
+//! The shape followed over the events of small texts, with faults and spots worked out by hand.
 
-use super::*;
+ghost use Rattle.json_events.specs.Pulls.{IsUnfinished};
+
 use fixed_num::Fixed;
-use instance_shape::{Known, Which};
+use instance_model::Limits;
+use instance_shape::{Fault, Flaw, Known, Spot, Which};
 use json_events::{Pull, Pulled};
-use json_grammar::{Member, Node, TextFault, Tree};
-use json_tree::read_tree;
+use json_grammar::{Event, TextFault};
+use shape_walk::{Read, ShapeWalk};
+use std::alloc::{AllocError, Global};
 use std::test::Fail;
 
 /// A text without a fault that has each kind of value once.
@@ -15,7 +18,7 @@ const GOOD: &[u8] =
         \"risk\":{\"6\":{\"7\":[2.5]}}}},\"Exclusions\":{\"E1\":[\"I1\",\"I2\",\"winter\"]},\"T\":8,\
         \"Scenarios_number\":[9],\"Quantile\":0.95,\"Alpha\":0.5,\"note\":[null,true]}";
 
-/// What a walk tells of one event more.
+/// Takes one event more, and adds what is told of it.
 fn tell(
     walk: &mut ShapeWalk,
     told: &mut Vec<(Spot, Read)>,
@@ -26,53 +29,54 @@ fn tell(
     Ok(())
 }
 
-/// What a walk tells of the events of a value.
-fn tell_value(
+/// Takes the events that are due, and adds what is told of each.
+fn follow(
     walk: &mut ShapeWalk,
     told: &mut Vec<(Spot, Read)>,
-    tree: Tree,
-) -> Result<(), AllocError> {
-    let Tree { at, end, node } = tree;
-    let last = end.saturating_sub(1);
-    match node {
-        Node::Null => tell(walk, told, Event::Null { at }),
-        Node::Bool(value) => tell(walk, told, Event::Bool { at, value }),
-        Node::Num(num) => tell(walk, told, Event::Num { at, num }),
-        Node::Text(text) => tell(walk, told, Event::Text { at, end, text }),
-        Node::List(items) => {
-            tell(walk, told, Event::Begin { at, object: false })?;
-            for item in items {
-                tell_value(walk, told, item)?;
-            }
-            tell(walk, told, Event::Finish { at: last })
-        }
-        Node::Object(members) => {
-            tell(walk, told, Event::Begin { at, object: true })?;
-            for member in members {
-                let Member {
-                    at,
-                    end,
-                    key,
-                    value,
-                } = member;
-                tell(walk, told, Event::Key { at, end, text: key })?;
-                tell_value(walk, told, value)?;
-            }
-            tell(walk, told, Event::Finish { at: last })
+    pull: &mut Pull,
+) -> Result<(), TextFault>
+    requires { IsUnfinished pull.old }
+{
+    for _ in 0..200 {
+        match pull.next_event()? {
+            Pulled::Event(event) => tell(walk, told, event)?,
+            Pulled::More | Pulled::Done => return Ok(()),
         }
     }
+    Ok(())
 }
 
-/// The first fault of a text, and what was told of its events.
-fn walk_over(
+/// Takes the events that bytes tell, and adds what is told of each.
+fn follow_bytes(
     alloc: Global,
-    limits: &Limits,
-    text: &[u8],
-) -> Result<(Option<Fault>, Vec<(Spot, Read)>), TextFault> {
+    walk: &mut ShapeWalk,
+    told: &mut Vec<(Spot, Read)>,
+    bytes: &[u8],
+) -> Result<(), TextFault> {
+    let mut pull = Pull::make(alloc)?;
+    pull.push(bytes)?;
+    follow(walk, told, &mut pull)
+}
+
+/// A walk over the events that the first bytes of a text tell.
+fn walk_along(alloc: Global, limits: &Limits, bytes: &[u8]) -> Result<ShapeWalk, TextFault> {
     let mut walk = ShapeWalk::make(alloc, limits);
     let mut told = Vec::new(alloc);
-    tell_value(&mut walk, &mut told, read_tree(alloc, text)?)?;
-    Ok((walk.fault(), told))
+    follow_bytes(alloc, &mut walk, &mut told, bytes)?;
+    Ok(walk)
+}
+
+/// What is told of the events of a text.
+fn told_along(alloc: Global, bytes: &[u8]) -> Result<Vec<(Spot, Read)>, TextFault> {
+    let mut walk = ShapeWalk::make(alloc, &Limits::standard());
+    let mut told = Vec::new(alloc);
+    follow_bytes(alloc, &mut walk, &mut told, bytes)?;
+    Ok(told)
+}
+
+/// The first fault along a text.
+fn fault_along(alloc: Global, limits: &Limits, bytes: &[u8]) -> Result<Option<Fault>, TextFault> {
+    Ok(walk_along(alloc, limits, bytes)?.fault())
 }
 
 fn fault(at: u64, flaw: Flaw) -> Option<Fault> {
@@ -126,8 +130,7 @@ fn first_faults(rt: HostRuntime) -> Result<(), Fail> {
         (b"{\"Quantile\":0}", fault(12, Flaw::Shape)),
     ];
     for (text, want) in table {
-        let (fault, _) = walk_over(rt.alloc(), &limits, text)?;
-        assert_eq!(rt; fault, want);
+        assert_eq!(rt; fault_along(rt.alloc(), &limits, text)?, want);
     }
     Ok(())
 }
@@ -161,7 +164,7 @@ fn what_is_read(rt: HostRuntime) -> Result<(), Fail> {
         (Spot::Quantile, Read::Millionths(950_000)),
         (Spot::Alpha, Read::Millionths(500_000)),
     ];
-    let (_, told) = walk_over(rt.alloc(), &Limits::standard(), GOOD)?;
+    let told = told_along(rt.alloc(), GOOD)?;
     let mut read = Vec::new(rt.alloc());
     for (spot, one) in &told {
         if *one != Read::Nothing {
@@ -194,28 +197,13 @@ fn spots_of_all_events(rt: HostRuntime) -> Result<(), Fail> {
         Spot::Skipped,
         Spot::Root,
     ];
-    let (_, told) = walk_over(rt.alloc(), &Limits::standard(), text)?;
+    let told = told_along(rt.alloc(), text)?;
     let mut spots = Vec::new(rt.alloc());
     for (spot, _) in &told {
         spots.push(*spot)?;
     }
     assert_eq!(rt; spots.as_slice(), want.as_slice());
     Ok(())
-}
-
-/// A walk over the events that the first bytes of a text tell.
-fn walk_along(alloc: Global, limits: &Limits, bytes: &[u8]) -> Result<ShapeWalk, TextFault> {
-    let mut walk = ShapeWalk::make(alloc, limits);
-    let mut told = Vec::new(alloc);
-    let mut pull = Pull::make(alloc)?;
-    pull.push(bytes)?;
-    for _ in 0..100 {
-        match pull.next_event()? {
-            Pulled::Event(event) => tell(&mut walk, &mut told, event)?,
-            Pulled::More | Pulled::Done => return Ok(walk),
-        }
-    }
-    Ok(walk)
 }
 
 #[test]
