@@ -10,8 +10,6 @@ mod flat_row;
 mod height;
 mod ranks;
 mod row;
-#[cfg(test)]
-mod tests;
 mod tree;
 mod tree_row;
 

@@ -1,5 +1,6 @@
 //! Kept plans, what is kept of their risks, loads and exclusions, and descents from them with their scripts, on small
-//! instances: the tests of `local_search`, `plan_moves` and the crates that these stand on. And a law of descents.
+//! instances; rows of sums, and the trail: the tests of `local_search`, `plan_moves` and the crates that these stand on.
+//! And a law of descents.
 #![tactic(auto)]
 
 #[cfg(test)]
@@ -14,9 +15,13 @@ mod loads;
 #[cfg(test)]
 mod risk_rows;
 #[cfg(test)]
+mod rows;
+#[cfg(test)]
 mod samples;
 #[cfg(test)]
 mod scripted_descents;
+#[cfg(test)]
+mod trail;
 
 pub use laws::descents_replay_to_falling_keys;
 pub use local_search::Descent;

@@ -1,4 +1,4 @@
-use Rattle.quantile_index.proofs.tests.finds_ranks_among_few_sums.Given as goal
+use Rattle.worked_moves.proofs.rows.finds_ranks_among_few_sums.Given as goal
 
 abbrev pub ghosts-rank_few : goal.ghosts-rank_few
 ghosts-rank_few g a = record { name = a.blank.name; parts = a.blank.parts }

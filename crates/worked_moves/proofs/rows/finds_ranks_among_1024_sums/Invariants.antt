@@ -1,4 +1,4 @@
-use Rattle.quantile_index.proofs.tests.finds_ranks_among_1024_sums.Given as goal
+use Rattle.worked_moves.proofs.rows.finds_ranks_among_1024_sums.Given as goal
 
 abbrev pub ghosts-rank_most : goal.ghosts-rank_most
 ghosts-rank_most g a = record { name = a.blank.name; parts = a.blank.parts }

@@ -1,4 +1,4 @@
-use Rattle.quantile_index.proofs.tests.changes_all_sums_at_once.Given as goal
+use Rattle.worked_moves.proofs.rows.changes_all_sums_at_once.Given as goal
 
 abbrev pub ghosts-change_all : goal.ghosts-change_all
 ghosts-change_all g a = record { name = a.blank.name; parts = a.blank.parts }

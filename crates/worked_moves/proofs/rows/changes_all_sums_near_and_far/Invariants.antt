@@ -1,4 +1,4 @@
-use Rattle.quantile_index.proofs.tests.changes_all_sums_near_and_far.Given as goal
+use Rattle.worked_moves.proofs.rows.changes_all_sums_near_and_far.Given as goal
 
 abbrev pub ghosts-change_widths : goal.ghosts-change_widths
 ghosts-change_widths g a = record { name = a.blank.name; parts = a.blank.parts }

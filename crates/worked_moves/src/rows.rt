@@ -1,8 +1,9 @@
-//! Tests of both kinds of row.
+//! Rows of sums, of both kinds: ranks found among few sums and among as many as there may be.
+
 ghost use Rattle.std.specs.Prelude.{◌≡◌, ◌<◌, ◌≤◌, length};
 
-use crate::{FlatRow, Row, TreeRow, height_limits};
 use fixed_num::{Fixed, Steps, Sum};
+use quantile_index::{FlatRow, Row, TreeRow, height_limits};
 use std::alloc::Global;
 use std::marker::Brand;
 use std::process::Abort;
