@@ -20,6 +20,3 @@ pub use line::{Bound, CertificateLine, Side, Version};
 pub use numbers::Numbers;
 pub use read::line_of;
 pub use write::{write_line, write_tail};
-
-#[cfg(test)]
-mod tests;

@@ -1,6 +1,9 @@
-//! Texts over two interventions: the tests of `text_lines`, `plan_text` and `move_script`.
+//! Lines of texts, plans and scripts over two interventions, and lines of certificates: the tests of `text_lines`,
+//! `plan_text`, `move_script` and `certificate_lines`.
 #![tactic(auto)]
 
+#[cfg(test)]
+mod certificates;
 #[cfg(test)]
 mod lines;
 #[cfg(test)]
@@ -9,7 +12,3 @@ mod plans;
 mod samples;
 #[cfg(test)]
 mod scripts;
-
-pub use move_script::{read_script, write_moves};
-pub use plan_text::{read_plan, write_plan};
-pub use text_lines::find_name;

@@ -1,16 +1,16 @@
-//! Lines read and written. Each text was written by hand.
+//! Lines of certificates read and written. Each text was written by hand.
 
-use crate::{Bound, CertificateLine, Side, Version, line_of, write_line, write_tail};
+use certificate_lines::{Bound, CertificateLine, Side, Version, line_of, write_line, write_tail};
 use plan_desk::{Desk, Failed, MemDesk};
 use std::test::Fail;
 
-// Writes the line to a new file.
+/// Writes the line to a new file.
 fn write_to_file<D: Desk>(line: &CertificateLine, desk: &mut D) -> Result<(), Failed> {
     desk.put_out("lines")?;
     write_line(line, desk)
 }
 
-// Writes the line of a tail to a new file.
+/// Writes the line of a tail to a new file.
 fn write_tail_to_file<D: Desk>(
     t: u32,
     weight: u32,
