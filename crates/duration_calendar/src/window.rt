@@ -16,18 +16,3 @@ pub fn in_run(window: Window, t: u32) -> bool
 {
     window.from <= t && t < window.past
 }
-
-#[cfg(test)]
-mod tests {
-    use super::*;
-
-    #[test]
-    fn a_window_ends_before_past(rt: HostRuntime) {
-        let window = Window { from: 2, past: 4 };
-        assert!(rt; !in_run(window, 1));
-        assert!(rt; in_run(window, 2));
-        assert!(rt; in_run(window, 3));
-        assert!(rt; !in_run(window, 4));
-        assert!(rt; !in_run(Window { from: 4, past: 4 }, 4));
-    }
-}

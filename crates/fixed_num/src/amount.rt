@@ -60,15 +60,3 @@ impl Amount {
         }
     }
 }
-
-#[cfg(test)]
-mod tests {
-    use super::*;
-
-    #[test]
-    fn amounts_add_up(rt: HostRuntime) {
-        let five = Amount::zero().plus(Amount::of(5));
-        assert_eq!(rt; five.number(), 5);
-        assert_eq!(rt; five.minus(Amount::of(7)).number(), -2);
-    }
-}

@@ -19,25 +19,3 @@ pub fn ceil_div(a: i128, b: i128) -> i128
 {
     -((-a).div_euclid(b))
 }
-
-#[cfg(test)]
-mod tests {
-    use super::*;
-
-    #[test]
-    fn rounds_down_and_up(rt: HostRuntime) {
-        for (a, b, floor, ceil) in [
-            (7, 2, 3, 4),
-            (-7, 2, -4, -3),
-            (6, 3, 2, 2),
-            (-6, 3, -2, -2),
-            (0, 5, 0, 0),
-            (-1, 1_000_000, -1, 0),
-            (1, 1_000_000, 0, 1),
-        ] {
-            assert!(rt; b > 0 && i128::unsigned_abs(a) <= 7);
-            assert_eq!(rt; floor_div(a, b), floor, "floor of {a} / {b}");
-            assert_eq!(rt; ceil_div(a, b), ceil, "ceiling of {a} / {b}");
-        }
-    }
-}

@@ -90,35 +90,3 @@ impl From<u64> for Fixed {
         }
     }
 }
-
-#[cfg(test)]
-mod tests {
-    use super::*;
-    use std::test::Fail;
-
-    #[test]
-    fn takes_counts_below_the_limit(rt: HostRuntime) -> Result<(), Fail> {
-        assert_eq!(rt; Fixed::zero().count(), 0);
-        for (count, fits) in [
-            (99_999_999_999_999_999_999, true),
-            (100_000_000_000_000_000_000, false),
-            (-99_999_999_999_999_999_999, true),
-            (-100_000_000_000_000_000_000, false),
-            (-1, true),
-            (i128::MIN, false),
-        ] {
-            match Fixed::from_count(count) {
-                Ok(fixed) => assert_eq!(rt; (fixed.count(), fits), (count, true)),
-                Err(TooLarge) => assert!(rt; !fits, "{count}"),
-            }
-        }
-        assert_eq!(rt; Fixed::from(i64::MIN).count(), -9_223_372_036_854_775_808);
-        assert_eq!(rt; Fixed::from(u64::MAX).count(), 18_446_744_073_709_551_615);
-        let text = format!(in rt.alloc(); "{TooLarge}")?;
-        assert_eq!(rt;
-            text.as_str(),
-            "the count is not below 10^20 in absolute value"
-        );
-        Ok(())
-    }
-}

@@ -69,33 +69,3 @@ impl Sum {
         self.number
     }
 }
-
-#[cfg(test)]
-mod tests {
-    use super::*;
-    use std::marker::Brand;
-    use std::process::Abort;
-    use std::sync::ledger::Blank;
-    use std::test::Fail;
-
-    fn compare<L: Ledger>(rt: &impl Abort, blank: Blank) -> Result<(), Fail>
-        requires name { blank.name ≡ L.name }
-        requires parts { blank.parts ≡ L.parts }
-        requires some { 0 < blank.parts }
-    {
-        let mut steps = Steps::<L>::zero(blank);
-        let seven = Sum::zero().plus(Fixed::from_count(7)?);
-        let below = seven.minus(Fixed::from_count(10)?);
-        assert!(rt; Sum::less(below, seven, &mut steps));
-        assert!(rt; !Sum::less(seven, below, &mut steps));
-        assert!(rt; !Sum::less(seven, seven, &mut steps));
-        assert_eq!(rt; below.value(&mut steps), -3);
-        assert_eq!(rt; seven.value(&mut steps), 7);
-        Ok(())
-    }
-
-    #[test]
-    fn adds_and_compares(rt: HostRuntime) -> Result<(), Fail> {
-        compare::<Brand>(&rt, Blank::new(1))
-    }
-}

@@ -45,18 +45,3 @@ impl Starts {
         items
     }
 }
-
-#[cfg(test)]
-mod tests {
-    use super::*;
-    use std::test::Fail;
-
-    #[test]
-    fn starts_come_back(rt: HostRuntime) -> Result<(), Fail> {
-        let starts = Starts::from_vec([3, 1].to_vec(rt.alloc())?);
-        assert_eq!(rt; starts.as_slice(), [3, 1].as_slice());
-        let items = starts.into_vec();
-        assert_eq!(rt; items.as_slice(), [3, 1].as_slice());
-        Ok(())
-    }
-}

@@ -83,32 +83,3 @@ pub fn ceil_and_more(value: i128, n: u32, margin: u32) -> i128
 {
     ceil_div(value, n as i128) + margin as i128
 }
-
-#[cfg(test)]
-mod tests {
-    use super::*;
-
-    /// Three scenarios with the sums -1, -2 and -2, weighed by the mean alone, in one period.
-    #[test]
-    fn quotients_below_zero(rt: HostRuntime) {
-        let mut cost = Enclosure { low: 0, high: 0 };
-        cost.add(-5_000_000_000_000_000_000, 3);
-        assert_eq!(rt; cost.low, -1_666_666_666_666_666_667);
-        assert_eq!(rt; cost.high, -1_666_666_666_666_666_666);
-        let (low, high) = cost.shares(0, 1_000_000);
-        assert_eq!(rt; low, -1_666_666_666_667);
-        assert_eq!(rt; high, -1_666_666_666_666);
-    }
-
-    /// An excess of 2 over three scenarios, and then one of 0 at a soft start.
-    #[test]
-    fn excess_is_not_below_zero(rt: HostRuntime) {
-        let mut excess = Enclosure { low: 0, high: 0 };
-        excess.add_above_zero(2_000_000_000_000, 3, 0);
-        assert_eq!(rt; excess.low, 666_666_666_666);
-        assert_eq!(rt; excess.high, 666_666_666_667);
-        excess.add_above_zero(0, 2, 1);
-        assert_eq!(rt; excess.low, 666_666_666_666);
-        assert_eq!(rt; excess.high, 666_666_666_668);
-    }
-}

@@ -1,7 +1,8 @@
 //! Plans judged on hand-made instances: a caller of `judge` that says in the
 //! subject's words when a plan keeps the rules.
 //!
-//! The tests are worked rows: bands, seasons, exclusions, starts, ranks and values, all over small instances.
+//! The tests are worked rows: bands, seasons, exclusions, starts, ranks and values, all over small instances; and what
+//! these stand on, numbers and windows of periods.
 #![tactic(auto)]
 
 #[cfg(test)]
@@ -10,6 +11,8 @@ mod bands;
 mod exclusions;
 mod kept;
 #[cfg(test)]
+mod numbers;
+#[cfg(test)]
 mod sketches;
 #[cfg(test)]
 mod starts;
@@ -17,5 +20,7 @@ mod starts;
 mod values;
 #[cfg(test)]
 mod verdicts;
+#[cfg(test)]
+mod windows;
 
 pub use kept::keeps_rules;

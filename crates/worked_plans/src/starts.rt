@@ -1,8 +1,8 @@
-//! Starts that a plan lacks, that are past the last one or past the horizon.
+//! Starts that a plan lacks, that are past the last one or past the horizon; and a list of starts.
 
 use crate::sketches::{ONE, PAIR};
 use crate::verdicts::{judges, over};
-use instance_model::Rule;
+use instance_model::{Rule, Starts};
 use plan_score::Verdict;
 use small_instances::Sketch;
 use std::test::Fail;
@@ -46,5 +46,14 @@ fn starts_come_before_loads(rt: HostRuntime) -> Result<(), Fail> {
         ([Some(1), Some(2)], over(0, 1, 6 * ONE, -ONE)),
     ];
     judges(&rt, rt.alloc(), &PAST, &rows)?;
+    Ok(())
+}
+
+#[test]
+fn starts_come_back(rt: HostRuntime) -> Result<(), Fail> {
+    let starts = Starts::from_vec([3, 1].to_vec(rt.alloc())?);
+    assert_eq!(rt; starts.as_slice(), [3, 1].as_slice());
+    let items = starts.into_vec();
+    assert_eq!(rt; items.as_slice(), [3, 1].as_slice());
     Ok(())
 }
