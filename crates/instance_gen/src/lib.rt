@@ -13,6 +13,3 @@ mod text;
 pub use laws::{drawn_texts_are_read, starts_are_allowed};
 pub use parts::drawn_instance;
 pub use text::generate;
-
-#[cfg(test)]
-mod tests;

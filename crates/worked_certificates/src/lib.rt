@@ -2,7 +2,7 @@
 //! subject's words what an accepted text proves.
 //!
 //! The tests are worked certificates: every kind of leaf and of price, each at the exact edge of its bound and one
-//! past it, texts cut off and texts damaged.
+//! past it, texts cut off and texts damaged; and the texts of drawn instances.
 #![tactic(auto)]
 
 mod audit;
@@ -10,6 +10,8 @@ mod audit;
 mod deep;
 #[cfg(test)]
 mod drawn;
+#[cfg(test)]
+mod drawn_texts;
 #[cfg(test)]
 mod edges;
 #[cfg(test)]

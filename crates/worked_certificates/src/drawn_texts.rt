@@ -1,6 +1,6 @@
 //! Texts of drawn instances: whole ones by their sums, and how they begin.
 
-use super::*;
+use instance_gen::generate;
 use std::test::Fail;
 
 /// The sums are those of Adler-32, taken of a text that was made apart from this program.
