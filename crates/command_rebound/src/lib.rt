@@ -6,7 +6,5 @@
 
 mod making;
 mod rebound;
-#[cfg(test)]
-mod tests;
 
 pub use rebound::rebound_files;

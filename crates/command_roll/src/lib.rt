@@ -5,7 +5,5 @@
 
 mod report;
 mod roll;
-#[cfg(test)]
-mod tests;
 
 pub use roll::{RollFiles, roll_files};

@@ -8,8 +8,6 @@ mod opening;
 mod report;
 mod solution;
 mod solve;
-#[cfg(test)]
-mod tests;
 
 pub use making::{given_end, is_feasible, present_starts};
 pub use opening::{Opening, opening_of};

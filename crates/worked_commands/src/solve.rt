@@ -1,32 +1,12 @@
-//! Runs over files in memory.
-use crate::{SolveFiles, solve_files};
+//! Runs of `solve`.
+
+use crate::samples::{BANDED, EMPTY, STARTLESS, holds};
 use command_frame::Source;
+use command_solve::{SolveFiles, solve_files};
 use plan_desk::{DeskCall, MemDesk};
 use quantile_index::TreeRow;
 use std::alloc::{AllocError, Global};
 use std::test::Fail;
-
-/// Two interventions that are too much together, and one scenario a period.
-const BANDED: &str = r#"{"Resources":{"c":{"max":[10,10],"min":[0,0]}},"Seasons":{},
-"Interventions":{
-"I1":{"tmax":2,"Delta":[1,1],
-"workload":{"c":{"1":{"1":6},"2":{"2":6}}},
-"risk":{"1":{"1":[0]},"2":{"2":[4]}}},
-"I2":{"tmax":2,"Delta":[1,1],
-"workload":{"c":{"1":{"1":6},"2":{"2":6}}},
-"risk":{"1":{"1":[0]},"2":{"2":[2]}}}},
-"Exclusions":{},"T":2,"Scenarios_number":[1,1],
-"Quantile":1,"Alpha":1}"#;
-
-/// An intervention without an allowed start.
-const STARTLESS: &str = r#"{"Resources":{},"Seasons":{},
-"Interventions":{"I1":{"tmax":1,"Delta":[3],"workload":{},"risk":{}}},
-"Exclusions":{},"T":2,"Scenarios_number":[1,1],
-"Quantile":1,"Alpha":1}"#;
-
-/// No intervention at all.
-const EMPTY: &str = r#"{"Resources":{},"Seasons":{},"Interventions":{},
-"Exclusions":{},"T":1,"Scenarios_number":[1],"Quantile":1,"Alpha":1}"#;
 
 /// The report on the best plan of two interventions, without its last lines.
 const FOUND: &[u8] = b"plan found\nscore 2000000000000000000\nbound 2000000000000000000\ngap 0\n\
@@ -42,14 +22,14 @@ const NONE: &[u8] = b"no plan exists\nsplits 0\nmoves 0\nrounded 0\n";
 
 const NO_START: &[u8] = b"mpcert 2\nbound none\nlists 0\ntree\nempty 1\n";
 
-// A desk with an instance as the file I.
+/// A desk with an instance as the file I.
 fn desk(alloc: Global, instance: &str) -> Result<MemDesk, AllocError> {
     let mut desk = MemDesk::make(alloc);
     desk.put_file("I", instance.as_bytes())?;
     Ok(desk)
 }
 
-// Solves the file I with so many turns, to the files P, C and M.
+/// Solves the file I with so many turns, to the files P, C and M.
 fn solve(alloc: Global, turns: u32, desk: &mut MemDesk) -> u8 {
     let source = Source {
         instance: "I",
@@ -66,15 +46,7 @@ fn solve(alloc: Global, turns: u32, desk: &mut MemDesk) -> u8 {
     solve_files::<TreeRow, MemDesk>(alloc, &source, &files, turns, desk)
 }
 
-// Whether the file of this name is there and holds just these bytes.
-fn holds(desk: &MemDesk, name: &str, bytes: &[u8]) -> bool {
-    match desk.file(name) {
-        Some(held) => held == bytes,
-        None => false,
-    }
-}
-
-// Whether the file of this name is there and holds these bytes and more.
+/// Whether the file of this name is there and holds these bytes and more.
 fn begins(desk: &MemDesk, name: &str, bytes: &[u8]) -> bool {
     match desk.file(name) {
         Some(held) => held.starts_with(bytes) && held.len() > bytes.len(),

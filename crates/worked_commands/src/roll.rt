@@ -1,7 +1,9 @@
-//! Runs over files in memory.
-use crate::{RollFiles, roll_files};
+//! Runs of `roll`.
+
+use crate::samples::{EMPTY, desk};
 use command_evaluate::evaluate_files;
 use command_frame::Source;
+use command_roll::{RollFiles, roll_files};
 use instance_model::Limits;
 use plan_desk::{DeskCall, MemDesk};
 use std::alloc::{AllocError, Global};
@@ -42,11 +44,7 @@ const LEFT_IDLE: &str = r#"{"Resources":{"c":{"max":[1.000000000000,1.0000000000
 "2":{"1":[-2.000000000000]}}}},"Exclusions":{"E":["I\"1","I\"1","w"]},"T":2,"Scenarios_number":[1,
 1],"Quantile":1.000000,"Alpha":1.000000}"#;
 
-/// No intervention at all.
-const EMPTY: &str = r#"{"Resources":{},"Seasons":{},"Interventions":{},"Exclusions":{},
-"T":1,"Scenarios_number":[1],"Quantile":1,"Alpha":1}"#;
-
-/// What is left of that, of 130 bytes.
+/// What is left of no intervention at all, of 130 bytes.
 const LEFT_EMPTY: &str = r#"{"Resources":{},"Seasons":{},"Interventions":{},"Exclusions":{},
 "T":1,"Scenarios_number":[1],
 "Quantile":1.000000,"Alpha":1.000000}"#;
@@ -56,15 +54,7 @@ const FEASIBLE: &[u8] = b"feasible\nscore 2000000000000000000\n\
 cost 1.000000000000 1.000000000000\nmean 2.000000000000 2.000000000000\n\
 excess 0.000000000000 0.000000000000\nrounded 0\n";
 
-// A desk with an instance as the file I and a plan as the file P.
-fn desk(alloc: Global, instance: &str, plan: &str) -> Result<MemDesk, AllocError> {
-    let mut desk = MemDesk::make(alloc);
-    desk.put_file("I", instance.as_bytes())?;
-    desk.put_file("P", plan.as_bytes())?;
-    Ok(desk)
-}
-
-// Rolls the file I with the plan P from a period on, to the file O of at most so many bytes.
+/// Rolls the file I with the plan P from a period on, to the file O of at most so many bytes.
 fn roll(alloc: Global, period: u32, most: u64, desk: &mut MemDesk) -> u8 {
     let files = RollFiles {
         instance: "I",
@@ -79,7 +69,7 @@ fn roll(alloc: Global, period: u32, most: u64, desk: &mut MemDesk) -> u8 {
     roll_files(alloc, &limits, &files, period, desk)
 }
 
-// Evaluates a plan, as the file Q, in the file O.
+/// Evaluates a plan, as the file Q, in the file O.
 fn evaluate_rolled(alloc: Global, plan: &str, desk: &mut MemDesk) -> Result<u8, AllocError> {
     desk.put_file("Q", plan.as_bytes())?;
     let source = Source {
@@ -89,8 +79,8 @@ fn evaluate_rolled(alloc: Global, plan: &str, desk: &mut MemDesk) -> Result<u8, 
     Ok(evaluate_files(alloc, &source, "Q", desk))
 }
 
-// Whether the file of this name is there and holds just these lines, one behind the other.
-fn holds(desk: &MemDesk, name: &str, lines: &str) -> bool {
+/// Whether the file of this name is there and holds just these lines, one behind the other.
+fn holds_lines(desk: &MemDesk, name: &str, lines: &str) -> bool {
     let Some(mut rest) = desk.file(name) else {
         return false;
     };
@@ -106,13 +96,13 @@ fn holds(desk: &MemDesk, name: &str, lines: &str) -> bool {
 #[test]
 fn what_has_begun_is_kept(rt: HostRuntime) -> Result<(), Fail> {
     let alloc = rt.alloc();
-    let mut desk = desk(alloc, TWO, "I1 1\n")?;
+    let mut desk = desk(alloc, TWO, "P", "I1 1\n")?;
     assert_eq!(rt; roll(alloc, 2, 2_147_483_647, &mut desk), 0);
     assert_eq!(rt;
         desk.spoken(),
         b"rolled\nkept 1\nfree 1\nrounded 0\n".as_slice()
     );
-    assert!(rt; holds(&desk, "O", LEFT));
+    assert!(rt; holds_lines(&desk, "O", LEFT));
     assert_eq!(rt; evaluate_rolled(alloc, "I1 1\nI2 2\n", &mut desk)?, 0);
     assert!(rt; desk.spoken().ends_with(FEASIBLE));
     assert_eq!(rt; evaluate_rolled(alloc, "I1 1\nI2 1\n", &mut desk)?, 1);
@@ -126,20 +116,20 @@ fn what_has_begun_is_kept(rt: HostRuntime) -> Result<(), Fail> {
 #[test]
 fn loads_of_0_are_left_out(rt: HostRuntime) -> Result<(), Fail> {
     let alloc = rt.alloc();
-    let mut desk = desk(alloc, IDLE, "I\"1 1\n")?;
+    let mut desk = desk(alloc, IDLE, "P", "I\"1 1\n")?;
     assert_eq!(rt; roll(alloc, 1, 2_147_483_647, &mut desk), 0);
     assert_eq!(rt;
         desk.spoken(),
         b"rolled\nkept 0\nfree 1\nrounded 0\n".as_slice()
     );
-    assert!(rt; holds(&desk, "O", LEFT_IDLE));
+    assert!(rt; holds_lines(&desk, "O", LEFT_IDLE));
     Ok(())
 }
 
 #[test]
 fn a_kept_start_has_to_be_allowed(rt: HostRuntime) -> Result<(), Fail> {
     let alloc = rt.alloc();
-    let mut desk = desk(alloc, TWO, "I1 0\n")?;
+    let mut desk = desk(alloc, TWO, "P", "I1 0\n")?;
     assert_eq!(rt; roll(alloc, 2, 2_147_483_647, &mut desk), 1);
     assert_eq!(rt;
         desk.spoken(),
@@ -152,7 +142,7 @@ fn a_kept_start_has_to_be_allowed(rt: HostRuntime) -> Result<(), Fail> {
 #[test]
 fn a_text_may_be_as_long_as_the_limit(rt: HostRuntime) -> Result<(), Fail> {
     let alloc = rt.alloc();
-    let mut desk = desk(alloc, EMPTY, "")?;
+    let mut desk = desk(alloc, EMPTY, "P", "")?;
     assert_eq!(rt; roll(alloc, 1, 129, &mut desk), 12);
     assert_eq!(rt; desk.spoken(), b"refused output too long 5\n".as_slice());
     assert!(rt; desk.file("O").is_none());
@@ -161,17 +151,17 @@ fn a_text_may_be_as_long_as_the_limit(rt: HostRuntime) -> Result<(), Fail> {
         desk.spoken()
             .ends_with(b"\nrolled\nkept 0\nfree 0\nrounded 0\n")
     );
-    assert!(rt; holds(&desk, "O", LEFT_EMPTY));
+    assert!(rt; holds_lines(&desk, "O", LEFT_EMPTY));
     Ok(())
 }
 
 #[test]
 fn a_write_that_fails_is_told(rt: HostRuntime) -> Result<(), Fail> {
     let alloc = rt.alloc();
-    let mut desk = desk(alloc, EMPTY, "")?;
+    let mut desk = desk(alloc, EMPTY, "P", "")?;
     desk.fail_at(DeskCall::Write, 1)?;
     assert_eq!(rt; roll(alloc, 1, 130, &mut desk), 8);
     assert_eq!(rt; desk.spoken(), b"refused write 5\n".as_slice());
-    assert!(rt; holds(&desk, "O", ""));
+    assert!(rt; holds_lines(&desk, "O", ""));
     Ok(())
 }

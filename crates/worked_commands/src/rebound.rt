@@ -1,26 +1,16 @@
-//! Runs over files in memory.
+//! Runs of `rebound`.
+
 ghost use Rattle.std.specs.Prelude.{◌≤◌};
 
-use crate::rebound_files;
+use crate::samples::{BANDED, STARTLESS, desk, holds};
 use command_frame::Source;
+use command_rebound::rebound_files;
 use instance_model::Limits;
 use plan_desk::{DeskCall, MemDesk};
-use std::alloc::{AllocError, Global};
+use std::alloc::Global;
 use std::test::Fail;
 
-/// Two interventions that are too much together, and one scenario a period.
-const BANDED: &str = r#"{"Resources":{"c":{"max":[10,10],"min":[0,0]}},"Seasons":{},
-"Interventions":{
-"I1":{"tmax":2,"Delta":[1,1],
-"workload":{"c":{"1":{"1":6},"2":{"2":6}}},
-"risk":{"1":{"1":[0]},"2":{"2":[4]}}},
-"I2":{"tmax":2,"Delta":[1,1],
-"workload":{"c":{"1":{"1":6},"2":{"2":6}}},
-"risk":{"1":{"1":[0]},"2":{"2":[2]}}}},
-"Exclusions":{},"T":2,"Scenarios_number":[1,1],
-"Quantile":1,"Alpha":1}"#;
-
-/// The same with a wider band, in which they fit together.
+/// Two interventions that were too much together, in a wider band, in which they fit.
 const WIDER: &str = r#"{"Resources":{"c":{"max":[12,12],"min":[0,0]}},"Seasons":{},
 "Interventions":{
 "I1":{"tmax":2,"Delta":[1,1],
@@ -29,12 +19,6 @@ const WIDER: &str = r#"{"Resources":{"c":{"max":[12,12],"min":[0,0]}},"Seasons":
 "I2":{"tmax":2,"Delta":[1,1],
 "workload":{"c":{"1":{"1":6},"2":{"2":6}}},
 "risk":{"1":{"1":[0]},"2":{"2":[2]}}}},
-"Exclusions":{},"T":2,"Scenarios_number":[1,1],
-"Quantile":1,"Alpha":1}"#;
-
-/// An intervention without an allowed start.
-const STARTLESS: &str = r#"{"Resources":{},"Seasons":{},
-"Interventions":{"I1":{"tmax":1,"Delta":[3],"workload":{},"risk":{}}},
 "Exclusions":{},"T":2,"Scenarios_number":[1,1],
 "Quantile":1,"Alpha":1}"#;
 
@@ -57,15 +41,7 @@ const NO_START: &str = "mpcert 2\nbound none\nlists 0\ntree\nempty 1\n";
 
 const NARROW_REPORT: &[u8] = b"rebound\nbound 2000000000000000000\nkept 2\nchanged 1\nrounded 0\n";
 
-// A desk with an instance as the file I and a certificate as the file C.
-fn desk(alloc: Global, instance: &str, certificate: &str) -> Result<MemDesk, AllocError> {
-    let mut desk = MemDesk::make(alloc);
-    desk.put_file("I", instance.as_bytes())?;
-    desk.put_file("C", certificate.as_bytes())?;
-    Ok(desk)
-}
-
-// Makes the file O of the files I and C, where certificate files may have so many bytes.
+/// Makes the file O of the files I and C, where certificate files may have so many bytes.
 fn rebind(alloc: Global, bytes: u64, desk: &mut MemDesk) -> u8
     requires { bytes ≤ 268_435_456 }
 {
@@ -78,14 +54,6 @@ fn rebind(alloc: Global, bytes: u64, desk: &mut MemDesk) -> u8
         ..Limits::standard()
     };
     rebound_files(alloc, &limits, &source, "C", "O", desk)
-}
-
-// Whether the file of this name is there and holds just these bytes.
-fn holds(desk: &MemDesk, name: &str, text: &str) -> bool {
-    match desk.file(name) {
-        Some(held) => held == text.as_bytes(),
-        None => false,
-    }
 }
 
 #[test]
@@ -106,11 +74,11 @@ fn certificates_become_valid_ones(rt: HostRuntime) -> Result<(), Fail> {
             NO_START,
         ),
     ] {
-        let mut desk = desk(alloc, instance, certificate)?;
+        let mut desk = desk(alloc, instance, "C", certificate)?;
         assert_eq!(rt; rebind(alloc, 268_435_456, &mut desk), 0);
         assert_eq!(rt; desk.spoken(), told);
-        assert!(rt; holds(&desk, "O", text));
-        assert!(rt; holds(&desk, "C", certificate));
+        assert!(rt; holds(&desk, "O", text.as_bytes()));
+        assert!(rt; holds(&desk, "C", certificate.as_bytes()));
     }
     Ok(())
 }
@@ -118,7 +86,7 @@ fn certificates_become_valid_ones(rt: HostRuntime) -> Result<(), Fail> {
 #[test]
 fn splits_outside_the_interval_are_refused(rt: HostRuntime) -> Result<(), Fail> {
     let alloc = rt.alloc();
-    let mut desk = desk(alloc, STARTLESS, SPLIT)?;
+    let mut desk = desk(alloc, STARTLESS, "C", SPLIT)?;
     assert_eq!(rt; rebind(alloc, 268_435_456, &mut desk), 5);
     assert_eq!(rt; desk.spoken(), b"refused certificate bounds 5\n".as_slice());
     assert!(rt; desk.file("O").is_none());
@@ -128,24 +96,24 @@ fn splits_outside_the_interval_are_refused(rt: HostRuntime) -> Result<(), Fail> 
 #[test]
 fn a_text_above_the_limit_is_refused(rt: HostRuntime) -> Result<(), Fail> {
     let alloc = rt.alloc();
-    let mut short = desk(alloc, BANDED, UNBOUNDED)?;
+    let mut short = desk(alloc, BANDED, "C", UNBOUNDED)?;
     assert_eq!(rt; rebind(alloc, 94, &mut short), 12);
     assert_eq!(rt; short.spoken(), b"refused output too long 4\n".as_slice());
     assert!(rt; short.file("O").is_none());
-    let mut fits = desk(alloc, BANDED, UNBOUNDED)?;
+    let mut fits = desk(alloc, BANDED, "C", UNBOUNDED)?;
     assert_eq!(rt; rebind(alloc, 95, &mut fits), 0);
     assert_eq!(rt; fits.spoken(), NARROW_REPORT);
-    assert!(rt; holds(&fits, "O", NARROW));
+    assert!(rt; holds(&fits, "O", NARROW.as_bytes()));
     Ok(())
 }
 
 #[test]
 fn a_write_that_fails_is_told(rt: HostRuntime) -> Result<(), Fail> {
     let alloc = rt.alloc();
-    let mut desk = desk(alloc, BANDED, SPLIT)?;
+    let mut desk = desk(alloc, BANDED, "C", SPLIT)?;
     desk.fail_at(DeskCall::Write, 2)?;
     assert_eq!(rt; rebind(alloc, 268_435_456, &mut desk), 8);
     assert_eq!(rt; desk.spoken(), b"refused write 4\n".as_slice());
-    assert!(rt; !holds(&desk, "O", NARROW));
+    assert!(rt; !holds(&desk, "O", NARROW.as_bytes()));
     Ok(())
 }

@@ -1,0 +1,11 @@
+//! Commands run over files in memory: the tests of `command_solve`, `command_rebound` and `command_roll`.
+#![tactic(auto)]
+
+#[cfg(test)]
+mod rebound;
+#[cfg(test)]
+mod roll;
+#[cfg(test)]
+mod samples;
+#[cfg(test)]
+mod solve;
