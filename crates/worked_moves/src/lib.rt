@@ -24,8 +24,3 @@ mod scripted_descents;
 mod trail;
 
 pub use laws::descents_replay_to_falling_keys;
-pub use local_search::Descent;
-pub use plan_moves::Kept;
-pub use resource_bands::Loads;
-pub use scenario_rows::RiskRows;
-pub use season_exclusion::Clashes;
