@@ -11,3 +11,4 @@ pub mod FormLemmas
 pub mod LengthLemmas
 pub mod WriteLemmas
 pub mod LedLemmas
+pub mod CountLemmas

@@ -3,3 +3,4 @@ pub mod Grammar
 pub mod Entries
 pub mod Laws
 pub mod Steps
+pub mod Lengths

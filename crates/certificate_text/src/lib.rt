@@ -2,10 +2,16 @@
 //!
 //! Contracts see a text as the list of its bytes. `certificate_text` is the text of a certificate, and
 //! `Leads` says which lines may follow each other.
+//!
+//! `text_length` computes the length of the text before it is written, and without memory. A number of 64 bits counts
+//! the bytes. Sums stop at the greatest one, so the answer is the length of each text that has no more bytes than that.
 #![tactic(auto)]
 
 mod entries;
+mod entry_lengths;
 mod laws;
+mod lengths;
+mod line_lengths;
 mod put;
 mod write;
 
@@ -13,4 +19,5 @@ pub use laws::{
     entries_grow, lead_to_certificates, lines_are_cut_one_way, texts_are_short, texts_lead,
     texts_tell, zeros_have_no_entry,
 };
+pub use lengths::text_length;
 pub use write::write_certificate;

@@ -9,3 +9,7 @@ pub mod CertificateLemmas
 pub mod AnswerLemmas
 pub mod TakenLemmas
 pub mod WriteLemmas
+pub mod HoldLemmas
+pub mod OutputLemmas
+pub mod CompleteReads
+pub mod CompleteLemmas

@@ -8,3 +8,5 @@ pub mod Openings
 pub mod Files
 pub mod Refusals
 pub mod Writing
+pub mod Outputs
+pub mod Completing

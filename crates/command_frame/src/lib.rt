@@ -1,12 +1,19 @@
 //! The frame of all commands: their files are read, a report or a refusal is made, and what is due is said.
 //!
 //! A command is a crate above this one. It reads its files by `instance_of`, `plan_of` and their like, writes files, if
-//! it does, by `put_plan` and its like, and says what is due by `say_report` or its parts. `Ends` states how a run
-//! comes
+//! it does, by `put_plan` and its like, and says what is due by `say_report` or its parts. `Ends` states how a run comes
 //! to its end, whatever the command.
+//!
+//! A command that writes one file of which the text may be too long knows the length of the text before it opens the
+//! file. It refuses a text that is longer than a limit by `refuse_long`, and changes no other file: `KeepsAllBut` and
+//! `Opens` are the words for that in its promises.
+//!
+//! `Completes` is what a run promises in which nothing goes wrong: the files of the command are read, and no fault rose.
+//! The laws of the programs say it of each of their commands.
 #![tactic(auto)]
 
 mod instance_line;
+mod long_output;
 mod opening;
 mod reading;
 mod refusal;
@@ -16,6 +23,7 @@ mod source;
 mod text;
 mod writing;
 
+pub use long_output::refuse_long;
 pub use opening::{Opening, opening_of};
 pub use reading::{certificate_of, given_plan_of, instance_of, plan_of, script_of};
 pub use refusal::{MEMORY_LINE, Refusal, WORDS_LINE, leaf_text};

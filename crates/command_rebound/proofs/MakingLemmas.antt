@@ -10,8 +10,8 @@ use Rattle.instance_model.specs.Tables.{Tables}
 use Rattle.branch_tree.specs.declared.certificate.Certificate.{Certificate}
 use Rattle.certificate_text.specs.Text.{certificate_text}
 use Rattle.certificate_text.proofs.KeyLemmas.{below_or_not}
-use Rattle.certificate_length.specs.Lengths.{counted}
-use Rattle.certificate_length.proofs.CountLemmas.{counted_small, counted_large}
+use Rattle.certificate_text.specs.Lengths.{counted}
+use Rattle.certificate_text.proofs.CountLemmas.{counted_small, counted_large}
 use Rattle.command_frame.specs.Sources.{Source}
 use Rattle.command_frame.specs.Lines.{write_line}
 use Rattle.command_frame.specs.Ending.{Writing, Answer, reply, Ends}
@@ -21,7 +21,7 @@ use Rattle.command_frame.specs.Writing.{PutsFile, HasWritten, TellsAnswer}
 use Rattle.command_frame.specs.Writing.TellsAnswer.{written, unwritten}
 use Rattle.command_frame.proofs.EndLemmas.{memory_ends}
 use Rattle.command_frame.proofs.WriteLemmas.{puts_none, puts_first, puts_more, told_ends, told_later}
-use Rattle.command_output.specs.Outputs.{long_output_line}
+use Rattle.command_frame.specs.Outputs.{long_output_line}
 use Rattle.command_rebound.specs.declared.making.Made.{Made}
 use Rattle.command_rebound.specs.Rebinding.{rebound_report, out_write, Rebinds, AnswersRebound, DueRebound}
 use Rattle.command_rebound.specs.Rebinding.Rebinds.{rebound, too_long}

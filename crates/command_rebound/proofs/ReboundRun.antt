@@ -27,9 +27,9 @@ use Rattle.command_frame.proofs.AnswerLemmas.{instance_status, certificate_statu
 use Rattle.command_frame.proofs.TakenLemmas.{on_taken, bad_instance}
 use Rattle.command_frame.proofs.EndLemmas.{Stays, ends_quiet, ends_allowed, ends_exact}
 use Rattle.command_frame.proofs.WriteLemmas.{wrote_behind}
-use Rattle.command_output.specs.Outputs.{Opens}
-use Rattle.command_output.proofs.OutputLemmas.{WritesOnly, writes_none, writes_one, others_kept, unopened_kept}
-use Rattle.command_output.proofs.OutputLemmas.{one_held}
+use Rattle.command_frame.specs.Outputs.{Opens}
+use Rattle.command_frame.proofs.OutputLemmas.{WritesOnly, writes_none, writes_one, others_kept, unopened_kept}
+use Rattle.command_frame.proofs.OutputLemmas.{one_held}
 use Rattle.command_rebound.specs.Rebinding.{out_write, Rebinds, AnswersRebound, DueRebound, ReadsRebound, BehindRebound}
 use Rattle.command_rebound.specs.Rebinding.{ExpectsRebound, RunsRebound}
 use Rattle.command_rebound.specs.Rebinding.Rebinds.{rebound, too_long}

@@ -25,7 +25,7 @@ use Rattle.command_frame.specs.Bytes.{RefusesInstance, IsRefusedInstance, Refuse
 use Rattle.command_frame.specs.Files.{Meeting, reading, by_bytes, OnInstance, OnCertificate, ReadsInstance}
 use Rattle.command_frame.specs.Files.{ReadsCertificate, SaysUnread, SaysRefusal, TellsMissing, TellsBytes}
 use Rattle.command_frame.specs.Files.{TellsInstance, TellsCertificate}
-use Rattle.command_output.specs.Outputs.{long_output_line, KeepsAllBut, Opens}
+use Rattle.command_frame.specs.Outputs.{long_output_line, KeepsAllBut, Opens}
 use Rattle.command_check.specs.Checking.{BoundsEveryPlan, AnswersCheck}
 use Rattle.command_check.specs.Accepting.{IsCheckable}
 

@@ -12,12 +12,11 @@ ghost use Rattle.command_rebound.specs.Made.{AreRead, IsMade, TellsRebound};
 
 use crate::making::{Made, make};
 use branch_certificate::Certificate;
-use certificate_length::text_length;
+use certificate_text::text_length;
 use command_frame::{
     MEMORY_LINE, Refusal, Source, WRITE_WORDS, certificate_of, instance_of, put_certificate,
-    refuse, say, say_numbered,
+    refuse, refuse_long, say, say_numbered,
 };
-use command_output::refuse_long;
 use instance_model::{Instance, Limits};
 use plan_desk::Desk;
 use std::alloc::Global;

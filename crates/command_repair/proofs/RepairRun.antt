@@ -30,10 +30,10 @@ use Rattle.command_frame.proofs.AnswerLemmas.{instance_status, plan_status}
 use Rattle.command_frame.proofs.TakenLemmas.{on_taken, bad_instance, on_spelled, bad_plan}
 use Rattle.command_frame.proofs.EndLemmas.{Stays, memory_ends, refusal_ends, ends_quiet, ends_allowed, ends_exact}
 use Rattle.command_frame.proofs.WriteLemmas.{told_ends, told_later, wrote_behind}
-use Rattle.command_output.specs.Outputs.{holding}
-use Rattle.command_output.proofs.HoldLemmas.{IsNoneOf, named_output, named_after, others_after, held_after}
-use Rattle.command_output.proofs.HoldLemmas.{held_alike, others_stopped}
-use Rattle.command_output.proofs.OutputLemmas.{same_holding}
+use Rattle.command_frame.specs.Outputs.{holding}
+use Rattle.command_frame.proofs.HoldLemmas.{IsNoneOf, named_output, named_after, others_after, held_after}
+use Rattle.command_frame.proofs.HoldLemmas.{held_alike, others_stopped}
+use Rattle.command_frame.proofs.OutputLemmas.{same_holding}
 use Rattle.command_audit.specs.Auditing.{AreKeptStarts, BoundsEveryRepair, audited_report, AnswersAudit}
 use Rattle.command_solve.specs.Solved.{AreEnough, IsWithoutStart, empty_certificate}
 use Rattle.command_solve.specs.Solving.{Opens}

@@ -23,7 +23,7 @@ use Rattle.command_frame.specs.Bytes.{Spells, RefusesInstance, IsRefusedInstance
 use Rattle.command_frame.specs.Files.{Meeting, reading, by_bytes, OnInstance, OnPlan, OnCertificate, ReadsInstance}
 use Rattle.command_frame.specs.Files.{ReadsPlan, SaysUnread, SaysRefusal, TellsMissing, TellsBytes, TellsInstance}
 use Rattle.command_frame.specs.Files.{TellsPlan}
-use Rattle.command_output.specs.Outputs.{holding}
+use Rattle.command_frame.specs.Outputs.{holding}
 use Rattle.command_audit.specs.Auditing.{AreKeptStarts, BoundsEveryRepair, least_line, audited_report, Audits}
 use Rattle.command_audit.specs.Auditing.{AnswersAudit}
 use Rattle.command_solve.specs.Solved.{split_count, AreEnough, IsWithoutStart, empty_certificate}

@@ -28,9 +28,9 @@ use Rattle.command_frame.proofs.AnswerLemmas.{instance_status, plan_status}
 use Rattle.command_frame.proofs.TakenLemmas.{on_taken, bad_instance, on_spelled, bad_plan}
 use Rattle.command_frame.proofs.EndLemmas.{Stays, refusal_ends, ends_quiet, ends_allowed, ends_exact}
 use Rattle.command_frame.proofs.WriteLemmas.{told_ends, told_later, wrote_behind}
-use Rattle.command_output.specs.Outputs.{Opens}
-use Rattle.command_output.proofs.OutputLemmas.{WritesOnly, writes_none, writes_one, others_kept, unopened_kept}
-use Rattle.command_output.proofs.OutputLemmas.{one_held}
+use Rattle.command_frame.specs.Outputs.{Opens}
+use Rattle.command_frame.proofs.OutputLemmas.{WritesOnly, writes_none, writes_one, others_kept, unopened_kept}
+use Rattle.command_frame.proofs.OutputLemmas.{one_held}
 use Rattle.command_roll.specs.Rolling.{RollFiles, source_of, out_write, Rolls, AnswersRoll, DueRoll, IsReadAsRolled}
 use Rattle.command_roll.specs.Rolling.{BehindRoll, ExpectsRoll, RunsRoll}
 use Rattle.command_roll.specs.Rolling.Rolls.{broken, too_long, written}

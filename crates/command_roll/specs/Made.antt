@@ -2,7 +2,7 @@
 use Rattle.std.specs.Prelude.{ℕ, List, [], ◌∷◌, Option}
 use Rattle.instance_model.specs.Tables.{Tables}
 use Rattle.command_frame.specs.Ending.{Answer, reply}
-use Rattle.command_output.specs.Outputs.{long_output_line}
+use Rattle.command_frame.specs.Outputs.{long_output_line}
 use Rattle.command_roll.specs.declared.roll.RollFiles.{RollFiles as FileNames}
 use Rattle.command_roll.specs.declared.roll.Outcome.{Outcome}
 use Rattle.command_roll.specs.declared.roll.Outcome.TheVariants.{Broken, TooLong, Rolled}

@@ -20,7 +20,7 @@ use Rattle.command_frame.specs.Ending.{IsAllowed, IsAnswered, NoFault}
 use Rattle.command_frame.specs.Bytes.{Takes, RefusesInstance, IsRefusedInstance, RefusesPlan, IsRefusedPlan}
 use Rattle.command_frame.specs.Files.{Meeting, reading, by_bytes, OnInstance, OnPlan, ReadsInstance, ReadsPlan}
 use Rattle.command_frame.specs.Files.{SaysUnread, SaysRefusal, TellsMissing, TellsBytes, TellsInstance, TellsPlan}
-use Rattle.command_output.specs.Outputs.{long_output_line, KeepsAllBut, Opens}
+use Rattle.command_frame.specs.Outputs.{long_output_line, KeepsAllBut, Opens}
 
 -- ---- the files
 

@@ -11,10 +11,9 @@ ghost use Rattle.command_roll.specs.Made.{files_view, rolled_answer, answer_of};
 
 use crate::report::rolled_text;
 use command_frame::{
-    Refusal, Source, Text, WRITE_WORDS, infeasible_text, instance_of, plan_of, refuse, say,
-    say_numbered,
+    Refusal, Source, Text, WRITE_WORDS, infeasible_text, instance_of, plan_of, refuse, refuse_long,
+    say, say_numbered,
 };
-use command_output::refuse_long;
 use instance_model::{Instance, Limits};
 use plan_desk::{Desk, Failed};
 use plan_roll::{kept_fault, plans_roll, rolled_length, rolled_text_is_read, write_rolled};

@@ -33,10 +33,10 @@ use Rattle.command_frame.proofs.AnswerLemmas.{instance_status}
 use Rattle.command_frame.proofs.TakenLemmas.{on_taken, bad_instance}
 use Rattle.command_frame.proofs.EndLemmas.{Stays, memory_ends, refusal_ends, ends_quiet, ends_allowed, ends_exact}
 use Rattle.command_frame.proofs.WriteLemmas.{told_ends, told_later, wrote_behind}
-use Rattle.command_output.specs.Outputs.{holding}
-use Rattle.command_output.proofs.HoldLemmas.{IsNoneOf, named_output, named_after, others_after, held_after}
-use Rattle.command_output.proofs.HoldLemmas.{held_alike, others_stopped}
-use Rattle.command_output.proofs.OutputLemmas.{same_holding}
+use Rattle.command_frame.specs.Outputs.{holding}
+use Rattle.command_frame.proofs.HoldLemmas.{IsNoneOf, named_output, named_after, others_after, held_after}
+use Rattle.command_frame.proofs.HoldLemmas.{held_alike, others_stopped}
+use Rattle.command_frame.proofs.OutputLemmas.{same_holding}
 use Rattle.command_check.specs.Checking.{IsKeptPlan, BoundsEveryPlan, AnswersCheck}
 use Rattle.command_check.specs.Accepting.{IsCheckable}
 use Rattle.command_solve.specs.Solved.{AreEnough, IsWithoutStart, empty_certificate}

@@ -26,7 +26,7 @@ use Rattle.command_frame.specs.Ending.{IsAnswered, NoFault}
 use Rattle.command_frame.specs.Bytes.{RefusesInstance, IsRefusedInstance}
 use Rattle.command_frame.specs.Files.{Meeting, reading, by_bytes, OnInstance, OnPlan, ReadsInstance}
 use Rattle.command_frame.specs.Files.{SaysUnread, SaysRefusal, TellsMissing, TellsBytes, TellsInstance}
-use Rattle.command_output.specs.Outputs.{holding}
+use Rattle.command_frame.specs.Outputs.{holding}
 use Rattle.command_evaluate.specs.Evaluating.{Judges, AnswersEvaluate}
 use Rattle.command_check.specs.Checking.{IsKeptPlan, BoundsEveryPlan, IsBest, AnswersCheck}
 use Rattle.command_check.specs.Accepting.{IsCheckable}

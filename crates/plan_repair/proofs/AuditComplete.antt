@@ -7,10 +7,10 @@ use Rattle.command_frame.specs.Ending.{Answer, IsOneOf, NoFault}
 use Rattle.command_frame.specs.Files.{by_bytes, OnPlan, OnCertificate}
 use Rattle.command_audit.specs.Auditing.{AuditedFiles, TellsAudited, Audits, AnswersAudit, RunsAudit}
 use Rattle.command_audit.specs.Auditing.Audits.{accepted, failing_leaf}
-use Rattle.complete_runs.specs.Completing.{Completes}
-use Rattle.complete_runs.proofs.ReadLemmas.{told_instance, told_plan, told_certificate, on_instance, on_plan}
-use Rattle.complete_runs.proofs.ReadLemmas.{on_certificate}
-use Rattle.complete_runs.proofs.CompleteLemmas.{completes}
+use Rattle.command_frame.specs.Completing.{Completes}
+use Rattle.command_frame.proofs.CompleteReads.{told_instance, told_plan, told_certificate, on_instance, on_plan}
+use Rattle.command_frame.proofs.CompleteReads.{on_certificate}
+use Rattle.command_frame.proofs.CompleteLemmas.{completes}
 
 statuses : (files : AuditedFiles) (a : Answer) → Audits files.inst files.plan files.cert a
     → IsOneOf (0 ∷ 5 ∷ []) a.status

@@ -9,9 +9,9 @@ use Rattle.command_frame.specs.Files.{by_bytes, OnPlan}
 use Rattle.command_solve.specs.Solved.{AreEnough}
 use Rattle.command_repair.specs.Repairing.{RepairFiles, TellsRepair, Repairs, AnswersRepair, RunsRepair}
 use Rattle.command_repair.specs.Repairing.Repairs.{repaired, nothing, none, no_start}
-use Rattle.complete_runs.specs.Completing.{Completes}
-use Rattle.complete_runs.proofs.ReadLemmas.{told_instance, told_plan, on_instance, on_plan}
-use Rattle.complete_runs.proofs.CompleteLemmas.{completes}
+use Rattle.command_frame.specs.Completing.{Completes}
+use Rattle.command_frame.proofs.CompleteReads.{told_instance, told_plan, on_instance, on_plan}
+use Rattle.command_frame.proofs.CompleteLemmas.{completes}
 
 module _ (source : Source) (name : List ℕ) (files : RepairFiles) (turns : ℕ) (inst : Tables) (plan : List (Option ℕ))
     (old new : Shown) (status : ℕ) (run : RunsRepair standard_limits source name files turns old new status)

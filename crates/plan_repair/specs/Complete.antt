@@ -12,7 +12,7 @@ use Rattle.command_frame.specs.Sources.{Source}
 use Rattle.command_audit.specs.Auditing.{AuditedFiles, TellsAudited, Audits}
 use Rattle.command_solve.specs.Solved.{AreEnough}
 use Rattle.command_repair.specs.Repairing.{RepairFiles, TellsRepair, Repairs}
-use Rattle.complete_runs.specs.Completing.{Completes}
+use Rattle.command_frame.specs.Completing.{Completes}
 use Rattle.plan_repair.specs.Words.{audit, repair}
 use Rattle.plan_repair.specs.Outcome.{Asks}
 

@@ -7,10 +7,10 @@ use Rattle.command_frame.specs.Ending.{Answer, IsOneOf, NoFault}
 use Rattle.command_frame.specs.Files.{by_bytes, OnGiven, OnCertificate}
 use Rattle.command_check.specs.Checking.{CheckedPlan, TellsChecked, Checks, AnswersCheck, RunsCheck}
 use Rattle.command_check.specs.Checking.Checks.{broken_plan, failing_leaf, accepted}
-use Rattle.complete_runs.specs.Completing.{Completes}
-use Rattle.complete_runs.proofs.ReadLemmas.{told_instance, told_given, told_certificate, on_instance, on_given}
-use Rattle.complete_runs.proofs.ReadLemmas.{on_certificate}
-use Rattle.complete_runs.proofs.CompleteLemmas.{completes}
+use Rattle.command_frame.specs.Completing.{Completes}
+use Rattle.command_frame.proofs.CompleteReads.{told_instance, told_given, told_certificate, on_instance, on_given}
+use Rattle.command_frame.proofs.CompleteReads.{on_certificate}
+use Rattle.command_frame.proofs.CompleteLemmas.{completes}
 
 statuses : (files : CheckedPlan) (a : Answer) → Checks files.inst files.plan files.cert a
     → IsOneOf (0 ∷ 1 ∷ 5 ∷ []) a.status

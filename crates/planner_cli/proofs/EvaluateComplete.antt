@@ -8,9 +8,9 @@ use Rattle.command_frame.specs.Ending.{Answer, IsOneOf, NoFault}
 use Rattle.command_frame.specs.Files.{by_bytes, OnPlan, TellsInstance, TellsPlan}
 use Rattle.command_evaluate.specs.Evaluating.{Judges, AnswersEvaluate, RunsEvaluate}
 use Rattle.command_evaluate.specs.Evaluating.Judges.{feasible, infeasible}
-use Rattle.complete_runs.specs.Completing.{Completes}
-use Rattle.complete_runs.proofs.ReadLemmas.{told_instance, told_plan, on_instance, on_plan}
-use Rattle.complete_runs.proofs.CompleteLemmas.{completes}
+use Rattle.command_frame.specs.Completing.{Completes}
+use Rattle.command_frame.proofs.CompleteReads.{told_instance, told_plan, on_instance, on_plan}
+use Rattle.command_frame.proofs.CompleteLemmas.{completes}
 
 statuses : (inst : Tables) (plan : List (Option ℕ)) (a : Answer) → Judges inst plan a → IsOneOf (0 ∷ 1 ∷ []) a.status
 statuses inst plan a (feasible keeps encloses) = inl refl

@@ -9,9 +9,9 @@ use Rattle.command_frame.specs.Ending.{Answer, IsOneOf, NoFault}
 use Rattle.command_frame.specs.Files.{by_bytes, OnCertificate, TellsInstance, TellsCertificate}
 use Rattle.command_rebound.specs.Rebinding.{Rebinds, AnswersRebound, RunsRebound}
 use Rattle.command_rebound.specs.Rebinding.Rebinds.{rebound, too_long}
-use Rattle.complete_runs.specs.Completing.{Completes}
-use Rattle.complete_runs.proofs.ReadLemmas.{told_instance, told_certificate, on_instance, on_certificate}
-use Rattle.complete_runs.proofs.CompleteLemmas.{completes}
+use Rattle.command_frame.specs.Completing.{Completes}
+use Rattle.command_frame.proofs.CompleteReads.{told_instance, told_certificate, on_instance, on_certificate}
+use Rattle.command_frame.proofs.CompleteLemmas.{completes}
 
 statuses : (inst : Tables) (out : List ℕ) (cert : Certificate) (a : Answer) → Rebinds standard_limits inst out cert a
     → IsOneOf (0 ∷ 12 ∷ []) a.status

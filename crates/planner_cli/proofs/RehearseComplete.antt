@@ -6,8 +6,8 @@ use Rattle.instance_gen.specs.Drawn.{drawn_tables}
 use Rattle.command_frame.specs.Ending.{Answer, IsOneOf, NoFault}
 use Rattle.command_rehearse.specs.Rehearsing.{Rehearses, RunsRehearse}
 use Rattle.command_rehearse.specs.Rehearsing.Rehearses.{rehearsed}
-use Rattle.complete_runs.specs.Completing.{Completes}
-use Rattle.complete_runs.proofs.CompleteLemmas.{completes}
+use Rattle.command_frame.specs.Completing.{Completes}
+use Rattle.command_frame.proofs.CompleteLemmas.{completes}
 
 statuses : (inst : Tables) (a : Answer) → Rehearses inst a → IsOneOf (0 ∷ []) a.status
 statuses inst a (rehearsed summary is) = inl refl

@@ -7,9 +7,9 @@ use Rattle.command_frame.specs.Ending.{Answer, IsOneOf, NoFault}
 use Rattle.command_frame.specs.Files.{by_bytes, OnPlan, OnScript}
 use Rattle.command_replay.specs.Replaying.{ScriptedPlan, TellsScripted, Replays, AnswersReplay, RunsReplay}
 use Rattle.command_replay.specs.Replaying.Replays.{broken_start, ended, not_allowed, nothing_to_undo}
-use Rattle.complete_runs.specs.Completing.{Completes}
-use Rattle.complete_runs.proofs.ReadLemmas.{told_instance, told_plan, told_script, on_instance, on_plan, on_script}
-use Rattle.complete_runs.proofs.CompleteLemmas.{completes}
+use Rattle.command_frame.specs.Completing.{Completes}
+use Rattle.command_frame.proofs.CompleteReads.{told_instance, told_plan, told_script, on_instance, on_plan, on_script}
+use Rattle.command_frame.proofs.CompleteLemmas.{completes}
 
 statuses : (files : ScriptedPlan) (a : Answer) → Replays files.inst files.plan files.script a
     → IsOneOf (0 ∷ 1 ∷ 6 ∷ []) a.status

@@ -7,9 +7,9 @@ use Rattle.command_frame.specs.Ending.{Answer, IsOneOf, NoFault}
 use Rattle.command_frame.specs.Files.{by_bytes, OnPlan, TellsInstance, TellsPlan}
 use Rattle.command_roll.specs.Rolling.{RollFiles, source_of, Rolls, AnswersRoll, RunsRoll}
 use Rattle.command_roll.specs.Rolling.Rolls.{broken, too_long, written}
-use Rattle.complete_runs.specs.Completing.{Completes}
-use Rattle.complete_runs.proofs.ReadLemmas.{told_instance, told_plan, on_instance, on_plan}
-use Rattle.complete_runs.proofs.CompleteLemmas.{completes}
+use Rattle.command_frame.specs.Completing.{Completes}
+use Rattle.command_frame.proofs.CompleteReads.{told_instance, told_plan, on_instance, on_plan}
+use Rattle.command_frame.proofs.CompleteLemmas.{completes}
 
 statuses : (inst : Tables) (plan : List (Option ℕ)) (period : ℕ) (files : RollFiles) (a : Answer)
     → Rolls standard_limits inst plan period files a → IsOneOf (0 ∷ 1 ∷ 12 ∷ []) a.status

@@ -9,9 +9,9 @@ use Rattle.command_frame.specs.Files.{by_bytes, TellsInstance}
 use Rattle.command_solve.specs.Solved.{AreEnough}
 use Rattle.command_solve.specs.Solving.{SolveFiles, Solves, AnswersSolve, RunsSolve}
 use Rattle.command_solve.specs.Solving.Solves.{found, nothing, none, no_start}
-use Rattle.complete_runs.specs.Completing.{Completes}
-use Rattle.complete_runs.proofs.ReadLemmas.{told_instance, on_instance}
-use Rattle.complete_runs.proofs.CompleteLemmas.{completes}
+use Rattle.command_frame.specs.Completing.{Completes}
+use Rattle.command_frame.proofs.CompleteReads.{told_instance, on_instance}
+use Rattle.command_frame.proofs.CompleteLemmas.{completes}
 
 statuses : (inst : Tables) (files : SolveFiles) (turns : ℕ) (a : Answer) → Solves standard_limits inst files turns a
     → IsOneOf (0 ∷ 9 ∷ 10 ∷ []) a.status

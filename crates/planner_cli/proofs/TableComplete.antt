@@ -8,9 +8,9 @@ use Rattle.command_frame.specs.Ending.{Answer, IsOneOf, NoFault}
 use Rattle.command_frame.specs.Files.{by_bytes, OnPlan, TellsInstance, TellsPlan}
 use Rattle.command_table.specs.Tabling.{Tabulates, AnswersTable, RunsTable}
 use Rattle.command_table.specs.Tabling.Tabulates.{broken_start, reported}
-use Rattle.complete_runs.specs.Completing.{Completes}
-use Rattle.complete_runs.proofs.ReadLemmas.{told_instance, told_plan, on_instance, on_plan}
-use Rattle.complete_runs.proofs.CompleteLemmas.{completes}
+use Rattle.command_frame.specs.Completing.{Completes}
+use Rattle.command_frame.proofs.CompleteReads.{told_instance, told_plan, on_instance, on_plan}
+use Rattle.command_frame.proofs.CompleteLemmas.{completes}
 
 statuses : (inst : Tables) (plan : List (Option ℕ)) (from to : ℕ) (a : Answer) → Tabulates inst plan from to a
     → IsOneOf (0 ∷ 1 ∷ []) a.status

@@ -21,7 +21,7 @@ use Rattle.command_table.specs.Tabling.{Tabulates}
 use Rattle.command_rebound.specs.Rebinding.{Rebinds}
 use Rattle.command_roll.specs.Rolling.{RollFiles, source_of, Rolls}
 use Rattle.command_rehearse.specs.Rehearsing.{Rehearses}
-use Rattle.complete_runs.specs.Completing.{Completes}
+use Rattle.command_frame.specs.Completing.{Completes}
 use Rattle.planner_cli.specs.Words.{evaluate, replay, check, solve, table, rebound, roll, rehearse}
 use Rattle.planner_cli.specs.Outcome.{Asks}
 

@@ -2,7 +2,7 @@
 use Rattle.std.proofs.Common.{List, ℕ, sym, subst}
 use Rattle.command_frame.specs.Refusals.{SaysOrFails}
 use Rattle.command_frame.specs.Writing.{TellsAnswer}
-use Rattle.command_output.specs.Outputs.{long_output_line}
+use Rattle.command_frame.specs.Outputs.{long_output_line}
 use Rattle.command_roll.specs.Made.{files_view, answer_of}
 use Rattle.command_roll.specs.declared.roll.Outcome.{Outcome}
 use Rattle.command_roll.proofs.RollLemmas.{reply_told}

@@ -1,2 +1,0 @@
--- What the contracts of commands cite that write one file.
-pub mod Outputs

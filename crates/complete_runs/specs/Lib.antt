@@ -1,2 +1,0 @@
--- What the laws of the programs cite.
-pub mod Completing
