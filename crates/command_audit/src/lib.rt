@@ -7,4 +7,4 @@ mod audit;
 mod report;
 
 pub use audit::audit_files;
-pub use report::{push_count, push_least};
+pub use report::push_least;

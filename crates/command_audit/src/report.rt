@@ -1,11 +1,10 @@
 //! The texts of reports on changes.
 ghost use Rattle.std.specs.Prelude.{◌≡◌, ◌++◌, IfOk, OnOk};
 ghost use Rattle.branch_tree.specs.Ranges.{IsBoundInRange};
-ghost use Rattle.command_frame.specs.Lines.{numbered_line};
 ghost use Rattle.command_audit.specs.Auditing.{least_line, audited_report};
 
 use branch_certificate::Bound;
-use command_frame::{Text, push_rounded};
+use command_frame::{Text, push_numbered, push_rounded};
 use instance_model::Instance;
 use plan_changes::least_changes;
 use std::alloc::{AllocError, Global};
@@ -29,15 +28,6 @@ pub fn push_least(text: &mut Text, bound: Bound) -> Result<(), AllocError>
 {
     match bound {
         Bound::NoPlan => text.push("least none\n"),
-        Bound::Least(least) => push_count(text, "least ", least_changes(least)),
+        Bound::Least(least) => push_numbered(text, "least ", least_changes(least)),
     }
-}
-
-/// Adds a line that ends with a number.
-pub fn push_count(text: &mut Text, words: &str, n: u64) -> Result<(), AllocError>
-    ensures { OnOk result (text.new ≡ text.old ++ numbered_line words.now n) }
-{
-    text.push(words)?;
-    text.push_number(n)?;
-    text.push("\n")
 }

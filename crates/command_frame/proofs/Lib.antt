@@ -9,6 +9,7 @@ pub mod CertificateLemmas
 pub mod AnswerLemmas
 pub mod TakenLemmas
 pub mod WriteLemmas
+pub mod PlanWrites
 pub mod HoldLemmas
 pub mod OutputLemmas
 pub mod CompleteReads

@@ -21,3 +21,7 @@ KeepsAllBut out old new = (name : List ℕ) → name ≢ out → holding new nam
 -- the statuses with which the file is opened: it was written, or its writing or what is said then failed
 abbrev pub Opens : ℕ → Type 0
 Opens status = IsOneOf (0 ∷ 8 ∷ []) status
+
+-- those where a plan is searched for: the other files are also written where none was found, or where there is none
+abbrev pub OpensSearched : ℕ → Type 0
+OpensSearched status = IsOneOf (0 ∷ 8 ∷ 9 ∷ 10 ∷ []) status

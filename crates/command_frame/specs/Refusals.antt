@@ -113,6 +113,11 @@ IsDueAs Answers refusal = (refusal ≡ Memory) ⊎ Answers (reply (status_of ref
 
 -- ---- what is due is said
 
+-- this status and text
+pub record IsReport (status : ℕ) (text : List ℕ) (report : Report) : Type 0 where
+  pub status_is : report.status ≡ status
+  pub text_is : report.text ≡ text
+
 -- the text was said, and the status is the one that is due with it
 pub record SaysAll (due : ℕ) (text : List ℕ) (old new : Shown) (status : ℕ) : Type 0 where
   pub status_is : status ≡ due

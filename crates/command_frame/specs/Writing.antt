@@ -1,12 +1,18 @@
 -- How the files of an answer are written, one after another. No part of any promise.
-use Rattle.std.specs.Prelude.{◌≡◌, ℕ, ◌≤◌, List, Result, Ok, Err, OnOk, OnErr}
+use Rattle.std.specs.Prelude.{◌≡◌, ℕ, ◌<◌, ◌≤◌, ◌^◌, List, length, All, Result, Ok, Err, OnOk, OnErr}
 use Rattle.plan_desk.specs.Desk.{Shown, ShowsSame}
 use Rattle.plan_desk.specs.Contents.{KeepsFiles}
 use Rattle.plan_desk.specs.FileWrites.{FileWrite, after_file, after_writes, StopsFile, StopsWrites}
 use Rattle.plan_desk.specs.declared.call.DeskCall.{DeskCall}
+use Rattle.instance_model.specs.Tables.{Tables}
 use Rattle.command_frame.specs.Lines.{write_line}
 use Rattle.command_frame.specs.Ending.{Writing, Answer, files_of, writing_at, WriteFails}
 use Rattle.command_frame.specs.Refusals.{SaysOrFails}
+
+-- one small start for each intervention
+pub record IsWritablePlan (inst : Tables) (plan : List ℕ) : Type 0 where
+  pub each : length plan ≡ length inst.names
+  pub small : All (λ start. start < 10 ^ 9) plan
 
 -- what the writing of a file left that stopped at a call, which is the last fault, where told
 pub record StopsPut (file : FileWrite) (old new : Shown) : Type 0 where

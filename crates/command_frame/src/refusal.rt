@@ -1,11 +1,11 @@
 //! Why a run refuses, and what it then says.
 ghost use Rattle.std.specs.Prelude.{◌≡◌, ◌++◌, IfOk, OnOk};
-ghost use Rattle.command_frame.specs.Lines.{numbered_line, plan_fault_line, script_fault_line, certificate_fault_line};
+ghost use Rattle.command_frame.specs.Lines.{plan_fault_line, script_fault_line, certificate_fault_line};
 ghost use Rattle.command_frame.specs.Lines.{failing_leaf_line};
 ghost use Rattle.command_frame.specs.Refusals.{status_of, line_of};
 
 use crate::instance_line::push_instance_fault;
-use crate::text::Text;
+use crate::text::{Text, push_numbered};
 use branch_certificate::CertFault;
 use instance_read::InstanceFault;
 use move_script::ScriptFault;
@@ -128,13 +128,4 @@ pub fn leaf_text(alloc: Global, n: u64) -> Result<Text, AllocError>
     let mut text = Text::new(alloc);
     push_numbered(&mut text, "refused certificate leaf ", n)?;
     Ok(text)
-}
-
-// Adds a line that ends with a number.
-fn push_numbered(line: &mut Text, words: &str, n: u64) -> Result<(), AllocError>
-    ensures { OnOk result (line.new ≡ line.old ++ numbered_line words.now n) }
-{
-    line.push(words)?;
-    line.push_number(n)?;
-    line.push("\n")
 }

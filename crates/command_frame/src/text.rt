@@ -2,6 +2,7 @@
 ghost use Rattle.std.specs.Prelude.{◌≡◌, [], ◌++◌, OnOk, decimal};
 ghost use Rattle.std.specs.Fmt.{signed_decimal};
 ghost use Rattle.fixed_num.specs.Texts.{fixed_text};
+ghost use Rattle.command_frame.specs.Lines.{numbered_line};
 
 use fixed_num::Line;
 use std::alloc::{AllocError, Global};
@@ -69,4 +70,13 @@ impl Text {
         self.bytes.extend_from_slice(piece)?;
         Ok(())
     }
+}
+
+/// Adds a line that ends with a number.
+pub fn push_numbered(text: &mut Text, words: &str, n: u64) -> Result<(), AllocError>
+    ensures { OnOk result (text.new ≡ text.old ++ numbered_line words.now n) }
+{
+    text.push(words)?;
+    text.push_number(n)?;
+    text.push("\n")
 }

@@ -1,14 +1,13 @@
 //! What is made of an instance and a certificate.
-ghost use Rattle.std.specs.Prelude.{◌≡◌, ◌++◌, IfOk, OnOk, codes};
+ghost use Rattle.std.specs.Prelude.{◌≡◌, ◌++◌, IfOk, OnOk};
 ghost use Rattle.branch_tree.specs.Ranges.{IsInRange};
-ghost use Rattle.command_frame.specs.Lines.{numbered_line};
 ghost use Rattle.command_rebound.specs.Rebinding.{new_bound_line, rebound_report};
 ghost use Rattle.command_rebound.specs.Made.{IsMade};
 
 use band_rebound::{Rebounded, rebound};
 use branch_certificate::{Bound, Certificate};
 use command_check::valid_is_accepted;
-use command_frame::{Text, push_bound_line, push_rounded};
+use command_frame::{Text, push_bound_line, push_numbered, push_rounded};
 use instance_model::Instance;
 use std::alloc::{AllocError, Global};
 
@@ -37,8 +36,8 @@ fn report_on(alloc: Global, inst: &Instance, rebounded: &Rebounded) -> Result<Te
     let mut text = Text::new(alloc);
     text.push("rebound\n")?;
     push_bound(&mut text, rebounded.cert.bound)?;
-    push_count(&mut text, "kept ", rebounded.kept)?;
-    push_count(&mut text, "changed ", rebounded.changed)?;
+    push_numbered(&mut text, "kept ", rebounded.kept)?;
+    push_numbered(&mut text, "changed ", rebounded.changed)?;
     push_rounded(&mut text, inst.rounded())?;
     Ok(text)
 }
@@ -50,13 +49,4 @@ fn push_bound(text: &mut Text, bound: Bound) -> Result<(), AllocError>
         Bound::NoPlan => text.push("bound none\n"),
         Bound::Least(least) => push_bound_line(text, least),
     }
-}
-
-// Adds a line that ends with a count.
-fn push_count(text: &mut Text, words: &str, n: u64) -> Result<(), AllocError>
-    ensures { OnOk result (text.new ≡ text.old ++ numbered_line words.now n) }
-{
-    text.push(words)?;
-    text.push_number(n)?;
-    text.push("\n")
 }

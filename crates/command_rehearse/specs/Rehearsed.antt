@@ -11,7 +11,8 @@ use Rattle.branch_tree.specs.Validity.{IsValid}
 use Rattle.branch_search.specs.declared.tree_end.TreeEnd.{TreeEnd}
 use Rattle.branch_search.specs.Searched.{IsSearched}
 use Rattle.command_check.specs.Checking.{BoundsEveryPlan}
-use Rattle.command_solve.specs.Solved.{end_of, IsTrail, IsGiven, split_count}
+use Rattle.descent_ends.specs.Ends.{end_of, IsTrail, IsGiven}
+use Rattle.descent_ends.specs.Turns.{split_count}
 use Rattle.command_rehearse.specs.declared.summary.Summary.{Summary}
 
 -- the turns of the descent, and those of the search

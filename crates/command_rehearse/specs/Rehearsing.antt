@@ -9,9 +9,9 @@ use Rattle.instance_model.specs.Tables.{Tables}
 use Rattle.instance_model.specs.declared.key.Key.{Key}
 use Rattle.certificate_lines.specs.declared.line.Bound.{Bound}
 use Rattle.certificate_lines.specs.declared.line.Bound.TheVariants.{NoPlan, Least}
+use Rattle.command_frame.specs.Lines.{numbered_line}
 use Rattle.command_frame.specs.Reports.{bound_line, rounded_line}
 use Rattle.command_frame.specs.Ending.{Answer, reply, OrMemory, IsQuiet, Ends, Behind, IsOneOf, IsAnswered, NoFault}
-use Rattle.command_solve.specs.Solving.{count_line}
 use Rattle.instance_gen.specs.Drawn.{drawn_tables}
 use Rattle.command_rehearse.specs.declared.summary.Summary.{Summary}
 use Rattle.command_rehearse.specs.Rehearsed.{IsRehearsed}
@@ -31,20 +31,20 @@ least_line (Least b) = bound_line b
 -- the lines of the instance and its opening plan
 abbrev pub opening_lines : Summary → List ℕ
 opening_lines summary =
-    count_line (codes "interventions") summary.interventions ++ key_line (codes "opening") summary.opening
+    numbered_line (codes "interventions ") summary.interventions ++ key_line (codes "opening") summary.opening
 
 -- those of the descent, and of the way back
 abbrev pub descent_lines : Summary → List ℕ
 descent_lines summary =
     key_line (codes "descent") summary.descent
-    ++ count_line (codes "moves") summary.moves
+    ++ numbered_line (codes "moves ") summary.moves
     ++ key_line (codes "undone") summary.undone
 
 -- those of the certificate, and how many numbers of the text were changed by rounding
 abbrev pub bound_lines : Summary → List ℕ
 bound_lines summary =
     least_line summary.bound
-    ++ count_line (codes "splits") summary.splits
+    ++ numbered_line (codes "splits ") summary.splits
     ++ rounded_line summary.rounded
 
 -- the summary

@@ -6,7 +6,7 @@ ghost use Rattle.command_rehearse.specs.Rehearsed.{IsBounded};
 use crate::rehearsal::TURNS;
 use branch_search::{TreeEnd, search};
 use certificate_check::{CertVerdict, check};
-use command_solve::{given_end, is_feasible, present_starts};
+use descent_ends::{given_end, is_feasible, present_starts};
 use instance_model::Instance;
 use lagrange_bound::RiskGoal;
 use plan_moves::Kept;

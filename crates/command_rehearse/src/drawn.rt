@@ -3,7 +3,7 @@ ghost use Rattle.std.specs.Prelude.{◌≡◌, ◌≤◌, IfOk};
 ghost use Rattle.instance_model.specs.Keys.{IsOpening};
 ghost use Rattle.instance_gen.specs.Drawn.{drawn_tables};
 
-use command_solve::{Opening, opening_of};
+use descent_ends::{Opening, opening_of};
 use fixed_num::Fixed;
 use instance_gen::{drawn_texts_are_read, generate, starts_are_allowed};
 use instance_model::{Instance, Limits, Starts};

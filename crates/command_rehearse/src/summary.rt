@@ -4,8 +4,7 @@ ghost use Rattle.command_rehearse.specs.Rehearsing.{key_line, least_line, openin
 ghost use Rattle.command_rehearse.specs.Rehearsing.{summary_text};
 
 use branch_certificate::Bound;
-use command_frame::{Text, push_bound_line, push_rounded};
-use command_solve::push_count;
+use command_frame::{Text, push_bound_line, push_numbered, push_rounded};
 use instance_model::Key;
 use std::alloc::{AllocError, Global};
 
@@ -44,7 +43,7 @@ pub(crate) fn summary_text(alloc: Global, summary: Summary) -> Result<Text, Allo
 fn push_opening(text: &mut Text, summary: Summary) -> Result<(), AllocError>
     ensures { OnOk result (text.new ≡ text.old ++ opening_lines summary) }
 {
-    push_count(text, "interventions", summary.interventions)?;
+    push_numbered(text, "interventions ", summary.interventions)?;
     push_key(text, "opening", summary.opening)?;
     Ok(())
 }
@@ -54,7 +53,7 @@ fn push_descent(text: &mut Text, summary: Summary) -> Result<(), AllocError>
     ensures { OnOk result (text.new ≡ text.old ++ descent_lines summary) }
 {
     push_key(text, "descent", summary.descent)?;
-    push_count(text, "moves", summary.moves)?;
+    push_numbered(text, "moves ", summary.moves)?;
     push_key(text, "undone", summary.undone)
 }
 
@@ -63,7 +62,7 @@ fn push_bounding(text: &mut Text, summary: Summary) -> Result<(), AllocError>
     ensures { OnOk result (text.new ≡ text.old ++ bound_lines summary) }
 {
     push_least(text, summary.bound)?;
-    push_count(text, "splits", summary.splits)?;
+    push_numbered(text, "splits ", summary.splits)?;
     push_rounded(text, summary.rounded)
 }
 

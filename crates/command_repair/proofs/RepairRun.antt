@@ -30,13 +30,13 @@ use Rattle.command_frame.proofs.AnswerLemmas.{instance_status, plan_status}
 use Rattle.command_frame.proofs.TakenLemmas.{on_taken, bad_instance, on_spelled, bad_plan}
 use Rattle.command_frame.proofs.EndLemmas.{Stays, memory_ends, refusal_ends, ends_quiet, ends_allowed, ends_exact}
 use Rattle.command_frame.proofs.WriteLemmas.{told_ends, told_later, wrote_behind}
-use Rattle.command_frame.specs.Outputs.{holding}
+use Rattle.command_frame.specs.Outputs.{holding, OpensSearched}
 use Rattle.command_frame.proofs.HoldLemmas.{IsNoneOf, named_output, named_after, others_after, held_after}
 use Rattle.command_frame.proofs.HoldLemmas.{held_alike, others_stopped}
 use Rattle.command_frame.proofs.OutputLemmas.{same_holding}
 use Rattle.command_audit.specs.Auditing.{AreKeptStarts, BoundsEveryRepair, audited_report, AnswersAudit}
-use Rattle.command_solve.specs.Solved.{AreEnough, IsWithoutStart, empty_certificate}
-use Rattle.command_solve.specs.Solving.{Opens}
+use Rattle.descent_ends.specs.Turns.{AreEnough}
+use Rattle.descent_ends.specs.Openings.{IsWithoutStart, empty_certificate}
 use Rattle.command_repair.specs.Repairing.{RepairFiles, AreDistinct, cert_write, out_write, IsAuditable, Repairs}
 use Rattle.command_repair.specs.Repairing.{AnswersRepair, DueRepair, ReadsRepair, BehindRepair, TellsRepair}
 use Rattle.command_repair.specs.Repairing.{ExpectsRepair, KeepsOthers, RunsRepair}
@@ -285,34 +285,34 @@ module _ (limits : Limits) (source : Source) (name : List ℕ) (files : RepairFi
 
   -- a refusal, and want of memory, write no file
   unopened_repairs : (inst : Tables) (plan : List (Option ℕ)) (a : Answer) → Repairs limits inst plan files turns a
-      → (Opens a.status → ⊥) → a.writes ≡ []
+      → (OpensSearched a.status → ⊥) → a.writes ≡ []
   unopened_repairs inst plan a (repaired p bound cert m x k r) opens = absurd (opens (inl refl))
   unopened_repairs inst plan a (nothing bound cert m x k) opens = absurd (opens (inr (inr (inl refl))))
   unopened_repairs inst plan a (none cert m x k) opens = absurd (opens (inr (inr (inr (inl refl)))))
   unopened_repairs inst plan a (no_start i w k) opens = absurd (opens (inr (inr (inr (inl refl)))))
 
   unopened_old : (inst : Tables) (a : Answer) → OnOld limits (reading old new) name files turns inst a
-      → (Opens a.status → ⊥) → a.writes ≡ []
+      → (OpensSearched a.status → ⊥) → a.writes ≡ []
   unopened_old inst a (unread fails) opens = refl
   unopened_old inst a (refused bytes b held is) opens = no_plan_files limits inst bytes b is
   unopened_old inst a (stands bytes plan b held spells repairs) opens = unopened_repairs inst plan b repairs opens
 
   unopened_answer : (a : Answer)
       → AnswersRepair limits (reading old new) source.slack source.instance name files turns a
-      → (Opens a.status → ⊥) → a.writes ≡ []
+      → (OpensSearched a.status → ⊥) → a.writes ≡ []
   unopened_answer a (unread fails) opens = refl
   unopened_answer a (refused bytes b held is) opens = no_files limits bytes b is
   unopened_answer a (stands bytes inst b held takes due) opens = unopened_old inst b due opens
 
-  unopened_due : (a : Answer) → Due new a → (Opens a.status → ⊥) → a.writes ≡ []
+  unopened_due : (a : Answer) → Due new a → (OpensSearched a.status → ⊥) → a.writes ≡ []
   unopened_due a (answers b is) opens = unopened_answer b is opens
   unopened_due a no_memory opens = refl
 
-  repair_unopened : (status : ℕ) → Ends Due old new status → (Opens status → ⊥) → new.output ≡ old.output
+  repair_unopened : (status : ℕ) → Ends Due old new status → (OpensSearched status → ⊥) → new.output ≡ old.output
   repair_unopened status (done n d) opens =
       d.writes
       ∙ ap (λ (w : List Writing). (after_writes (files_of w) old).output)
-      (unopened_due d.answer d.due (λ o. opens (subst Opens (sym d.status_is) o)))
+      (unopened_due d.answer d.due (λ o. opens (subst OpensSearched (sym d.status_is) o)))
   repair_unopened status (unsaid u) opens = absurd (opens (inr (inl refl)))
   repair_unopened status (unwritten u) opens = absurd (opens (inr (inl refl)))
 

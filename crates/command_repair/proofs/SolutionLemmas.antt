@@ -1,15 +1,12 @@
 -- What was made of an instance and old starts is an answer to them.
-use Rattle.std.proofs.Common.{◌≡◌, ℕ, ◌*◌, ◌+◌, ◌<◌, ◌≤◌, ◌^◌, refl, sym, subst, arith, ℤ, List, [], ◌∷◌, length}
-use Rattle.std.proofs.Common.{◌++◌, map, Option, Some, None, All, length-append, decimal}
+use Rattle.std.proofs.Common.{◌≡◌, ℕ, ◌*◌, ◌+◌, ◌≤◌, refl, sym, subst, arith, ℤ, List, [], ◌∷◌, length, map}
+use Rattle.std.proofs.Common.{Option, Some, None}
 use Rattle.std.specs.Prelude.{IfSome}
-use Rattle.std.proofs.lemmas.List.Elements.{All-nil, All-cons, All-head, All-tail}
-use Rattle.std.proofs.lemmas.Fmt.{length-decimal-le}
+use Rattle.std.proofs.lemmas.List.Elements.{All-nil, All-cons}
 use Rattle.instance_model.specs.Limits.{standard_limits}
 use Rattle.instance_model.specs.Tables.{Tables}
-use Rattle.instance_model.specs.Fitting.{IsName, IsFitting}
+use Rattle.instance_model.specs.Fitting.{IsFitting}
 use Rattle.instance_model.proofs.RuleLemmas.{KeepsRules-from}
-use Rattle.plan_text.specs.Spelling.{line_text, plan_text}
-use Rattle.plan_text.proofs.WrittenLemmas.{plan_text_spells}
 use Rattle.lagrange_bound.specs.Prices.{PriceList, IsPriceList}
 use Rattle.certificate_lines.specs.declared.line.Bound.{Bound}
 use Rattle.certificate_lines.specs.declared.line.Bound.TheVariants.{NoPlan, Least}
@@ -23,14 +20,14 @@ use Rattle.certificate_text.specs.Laws.{TextsFitFiles}
 use Rattle.plan_changes.specs.Changes.{change_base, change_value}
 use Rattle.command_frame.specs.declared.report.Report.{Report}
 use Rattle.command_frame.specs.Ending.{Writing}
-use Rattle.command_solve.specs.Solved.{IsWithoutStart, empty_certificate}
-use Rattle.command_solve.specs.Made.{IsWritablePlan as IsWritableThere}
-use Rattle.command_solve.proofs.PlanLemmas.{writable_plan}
+use Rattle.descent_ends.specs.Openings.{IsWithoutStart, empty_certificate}
+use Rattle.command_frame.specs.Writing.{IsWritablePlan}
+use Rattle.command_frame.proofs.PlanWrites.{writable_plan, spelled_plan}
 use Rattle.fewest_changes.specs.declared.repairing.Repair.{Repair}
 use Rattle.fewest_changes.specs.Repaired.{IsRepairOf, ComesTo, IsMadeRepair}
 use Rattle.command_repair.specs.Repairing.{RepairFiles, none_report, cert_write, IsAuditable, IsReadable, Repairs}
 use Rattle.command_repair.specs.Repairing.Repairs.{repaired, nothing, none, no_start}
-use Rattle.command_repair.specs.Made.{IsShortValid, CanReport, IsReportOf, out_writes, IsWritablePlan, IsSolution}
+use Rattle.command_repair.specs.Made.{IsShortValid, CanReport, IsReportOf, out_writes, IsSolution}
 
 -- an answer with this status and text
 spoken : (inst : Tables) (old : List (Option ℕ)) (files : RepairFiles) (turns : ℕ) (writes : List Writing)
@@ -55,44 +52,14 @@ spoken inst old files turns writes status text report is same repairs =
 
 -- ---- a feasible plan
 
-writable : (inst : Tables) (plan : List ℕ) → IsFitting inst → IsFeasiblePlan inst plan → IsWritablePlan inst plan
-writable inst plan fit good =
-    let there : IsWritableThere inst plan = writable_plan inst plan fit good in
-    record { each = there.each; small = there.small }
-
-line_short : (name : List ℕ) (start : ℕ) → IsName name → start < 10 ^ 9 → length (line_text name start) ≤ 139
-line_short name start is small =
-    let digits = length-decimal-le 9 start (omega arith) small (omega (arith, small)) in
-    let first = length-append (name ++ 32 ∷ [] ++ decimal start) (10 ∷ []) in
-    let second = length-append (name ++ 32 ∷ []) (decimal start) in
-    let third = length-append name (32 ∷ []) in
-    omega (arith, is.short)
-
-lines_short : (names : List (List ℕ)) (starts : List ℕ) → All IsName names → All (λ start. start < 10 ^ 9) starts
-    → length (plan_text names starts) ≤ 139 * length names
-lines_short [] starts are small = omega arith
-lines_short (name ∷ names) [] are small = omega arith
-lines_short (name ∷ names) (start ∷ starts) are small =
-    let here = line_short name start (All-head IsName name names are)
-    (All-head (λ start. start < 10 ^ 9) start starts small) in
-    let rest = lines_short names starts (All-tail IsName name names are)
-    (All-tail (λ start. start < 10 ^ 9) start starts small) in
-    omega (arith, length-append (line_text name start) (plan_text names starts))
-
 -- its text spells it
 readable : (inst : Tables) (plan : List ℕ) → IsFitting inst → IsFeasiblePlan inst plan
     → IsReadable standard_limits inst plan
-readable inst plan fit good =
-    let there : IsWritablePlan inst plan = writable inst plan fit good in
-    let short = lines_short inst.names plan fit.names.shaped there.small in
-    record {
-      each = good.each;
-      keeps = KeepsRules-from inst (map Some plan) good.feasible;
-      spelled = record {
-        within = omega (arith, fit.names.few);
-        plan_is = plan_text_spells standard_limits.interventions inst.names plan fit.names good.each there.small;
-      };
-    }
+readable inst plan fit good = record {
+  each = good.each;
+  keeps = KeepsRules-from inst (map Some plan) good.feasible;
+  spelled = spelled_plan inst plan fit (writable_plan inst plan fit good.each good.feasible);
+}
 
 -- the plan that is answered is feasible
 plan_feasible : (inst : Tables) (old : List (Option ℕ)) (turns : ℕ) (plan : List ℕ) (cert : Certificate)
@@ -135,7 +102,9 @@ module _ (inst : Tables) (old : List (Option ℕ)) (turns : ℕ) (few : turns �
   writable_best = at plan made
     where
       at : (p : Option (List ℕ)) → IsRepairOf inst old turns p cert → IfSome p (IsWritablePlan inst)
-      at (Some p) m = writable inst p fit (plan_feasible inst old turns p cert m)
+      at (Some p) m =
+          let good = plan_feasible inst old turns p cert m in
+          writable_plan inst p fit good.each good.feasible
       at None m = tt
 
   module _ (good : IsAuditable standard_limits inst old cert) (files : RepairFiles) (report : Report) where

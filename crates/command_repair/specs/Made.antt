@@ -1,5 +1,5 @@
 -- What the steps of a solution come to. Cited by private functions only: no part of any promise.
-use Rattle.std.specs.Prelude.{◌≡◌, ◌⊎◌, ◌≤◌, ◌<◌, ◌^◌, ℕ, ℤ, List, [], ◌∷◌, ◌++◌, length, All, Option, Some, None}
+use Rattle.std.specs.Prelude.{◌⊎◌, ◌≤◌, ℕ, ℤ, List, [], ◌∷◌, ◌++◌, length, Option, Some, None}
 use Rattle.std.specs.Prelude.{IfSome, codes}
 use Rattle.plan_desk.specs.Desk.{Shown, ShowsSame, after_take_in}
 use Rattle.plan_desk.specs.Contents.{KeepsFiles}
@@ -17,10 +17,9 @@ use Rattle.command_frame.specs.Sources.{Source}
 use Rattle.command_frame.specs.Lines.{memory_line, numbered_line}
 use Rattle.command_frame.specs.Ending.{Writing, Answer}
 use Rattle.command_frame.specs.Files.{ReadsInstance, ReadsPlan}
-use Rattle.command_frame.specs.Refusals.{SaysOrFails, IsInstanceCause, IsPlanCause}
-use Rattle.command_frame.specs.Writing.{TellsAnswer}
+use Rattle.command_frame.specs.Refusals.{IsReport, SaysOrFails, IsInstanceCause, IsPlanCause}
+use Rattle.command_frame.specs.Writing.{IsWritablePlan, TellsAnswer}
 use Rattle.command_audit.specs.Auditing.{IsValidFor, least_line}
-use Rattle.command_solve.specs.Made.{IsReport}
 use Rattle.command_repair.specs.declared.solution.Solution.{Solution}
 use Rattle.command_repair.specs.declared.repair.RepairFiles.{RepairFiles as RepairNames}
 use Rattle.command_repair.specs.Repairing.{RepairFiles, counts_text, repaired_report, nothing_report, none_report}
@@ -73,11 +72,6 @@ solution_writes inst files s = cert_write inst files s.certificate ∷ out_write
 abbrev pub answer_of : Tables → RepairFiles → Solution → Answer
 answer_of inst files s =
     record { status = s.report.status; text = s.report.text; writes = solution_writes inst files s }
-
--- one small start for each intervention
-pub record IsWritablePlan (inst : Tables) (plan : List ℕ) : Type 0 where
-  pub each : length plan ≡ length inst.names
-  pub small : All (λ start. start < 10 ^ 9) plan
 
 -- the files of a solution can be written
 pub record IsWritable (inst : Tables) (s : Solution) : Type 0 where

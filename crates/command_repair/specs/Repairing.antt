@@ -23,11 +23,11 @@ use Rattle.command_frame.specs.Bytes.{Spells, RefusesInstance, IsRefusedInstance
 use Rattle.command_frame.specs.Files.{Meeting, reading, by_bytes, OnInstance, OnPlan, OnCertificate, ReadsInstance}
 use Rattle.command_frame.specs.Files.{ReadsPlan, SaysUnread, SaysRefusal, TellsMissing, TellsBytes, TellsInstance}
 use Rattle.command_frame.specs.Files.{TellsPlan}
-use Rattle.command_frame.specs.Outputs.{holding}
+use Rattle.command_frame.specs.Outputs.{holding, OpensSearched}
 use Rattle.command_audit.specs.Auditing.{AreKeptStarts, BoundsEveryRepair, least_line, audited_report, Audits}
 use Rattle.command_audit.specs.Auditing.{AnswersAudit}
-use Rattle.command_solve.specs.Solved.{split_count, AreEnough, IsWithoutStart, empty_certificate}
-use Rattle.command_solve.specs.Solving.{Opens}
+use Rattle.descent_ends.specs.Turns.{split_count, AreEnough}
+use Rattle.descent_ends.specs.Openings.{IsWithoutStart, empty_certificate}
 use Rattle.fewest_changes.specs.Repaired.{IsRepairOf, IsRepaired, IsNothing}
 
 -- ---- the files
@@ -258,7 +258,7 @@ pub record RunsRepair (limits : Limits) (source : Source) (plan_name : List ℕ)
       → IsAnswered (AnswersRepair limits by_bytes source.slack instance plan files turns) old new status
   -- no file is changed but those two, and none but with these statuses; at 9 and 10 that of the plan isn't
   pub others : KeepsOthers files old new
-  pub unopened : (Opens status → ⊥) → new.output ≡ old.output
+  pub unopened : (OpensSearched status → ⊥) → new.output ≡ old.output
   pub no_out : (status ≡ 9) ⊎ (status ≡ 10) → holding new files.out ≡ holding old files.out
   -- the last fault is what it was, but at 7 and 8, and faults never fall
   pub quiet : IsQuiet status old new

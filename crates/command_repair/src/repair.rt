@@ -6,10 +6,10 @@ ghost use Rattle.instance_shape.specs.Ranges.{AreStandard};
 ghost use Rattle.plan_desk.specs.Contents.{OnlyReads};
 ghost use Rattle.command_frame.specs.Sources.{source_view};
 ghost use Rattle.command_frame.specs.Refusals.{KeepsLast};
-ghost use Rattle.command_frame.specs.Writing.{PutsFiles, TellsAnswer};
+ghost use Rattle.command_frame.specs.Writing.{IsWritablePlan, PutsFiles, TellsAnswer};
 ghost use Rattle.command_repair.specs.Repairing.{AreDistinct, RunsRepair};
 ghost use Rattle.command_repair.specs.Made.{AreRead, IsReadCause, out_writes, solution_writes, answer_of};
-ghost use Rattle.command_repair.specs.Made.{IsWritablePlan, IsWritable, files_view, TellsSolution};
+ghost use Rattle.command_repair.specs.Made.{IsWritable, files_view, TellsSolution};
 
 use crate::solution::{Solution, solution_of};
 use command_frame::{

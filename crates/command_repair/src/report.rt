@@ -1,13 +1,13 @@
 //! The texts of reports.
-ghost use Rattle.std.specs.Prelude.{◌≡◌, ◌≤◌, ◌^◌, [], ◌∷◌, ◌++◌, IfOk, OnOk, unsigned_abs};
-ghost use Rattle.command_solve.specs.Solved.{split_count};
+ghost use Rattle.std.specs.Prelude.{◌≡◌, ◌≤◌, ◌^◌, ◌++◌, IfOk, OnOk, unsigned_abs};
 ghost use Rattle.plan_changes.specs.Changes.{changes_of};
 ghost use Rattle.command_repair.specs.Repairing.{counts_text, repaired_report, nothing_report, none_report};
 ghost use Rattle.command_repair.specs.Made.{repaired_text};
 
-use branch_certificate::{Bound, Certificate, Node};
-use command_audit::{push_count, push_least};
-use command_frame::{Text, push_rounded};
+use branch_certificate::{Bound, Certificate};
+use command_audit::push_least;
+use command_frame::{Text, push_numbered, push_rounded};
+use descent_ends::split_count;
 use instance_model::Instance;
 use std::alloc::{AllocError, Global};
 
@@ -24,7 +24,7 @@ pub(crate) fn repaired_text(
 {
     let mut text = Text::new(alloc);
     text.push("plan repaired\n")?;
-    push_count(&mut text, "changed ", changed)?;
+    push_numbered(&mut text, "changed ", changed)?;
     push_least(&mut text, Bound::Least(bound))?;
     push_counts(&mut text, inst, certificate)?;
     Ok(text)
@@ -69,28 +69,6 @@ fn push_counts(
 ) -> Result<(), AllocError>
     ensures { OnOk result (text.new ≡ text.old ++ counts_text inst.now certificate.now) }
 {
-    push_count(text, "splits ", split_count(certificate.nodes.as_slice()))?;
+    push_numbered(text, "splits ", split_count(certificate.nodes.as_slice()))?;
     push_rounded(text, inst.rounded())
-}
-
-// How many nodes are splits.
-fn split_count(nodes: &[Node]) -> u64
-    ensures { result ≡ split_count nodes.now }
-{
-    let mut count: u64 = 0;
-    for node in nodes {
-        count += split_of(*node);
-    }
-    count
-}
-
-// 1 for a split, and 0 for a leaf.
-fn split_of(node: Node) -> u64
-    ensures value { result ≡ split_count (node ∷ []) }
-    ensures small { result ≤ 1 }
-{
-    match node {
-        Node::Split { .. } => 1,
-        _ => 0,
-    }
 }

@@ -1,15 +1,16 @@
 //! What is answered to an instance and a plan.
-ghost use Rattle.std.specs.Prelude.{◌≡◌, ◌≤◌, ℕ, length, IfOk};
+ghost use Rattle.std.specs.Prelude.{◌≤◌, ℕ, IfOk};
 ghost use Rattle.branch_tree.specs.Ranges.{IsBoundInRange};
-ghost use Rattle.command_solve.specs.Solved.{IsWithoutStart, empty_certificate};
+ghost use Rattle.descent_ends.specs.Openings.{IsWithoutStart};
 ghost use Rattle.fewest_changes.specs.Openings.{IsKeptOpening};
 ghost use Rattle.command_repair.specs.Made.{CanReport, IsReportOf, IsSolution};
 
 use crate::checking::valid_is_audited;
 use crate::report::{none_text, nothing_text, repaired_text};
-use branch_certificate::{Bound, Certificate, Node, Nodes, PriceLists, Version};
+use branch_certificate::{Bound, Certificate};
 use certificate_text::texts_are_short;
 use command_frame::Report;
+use descent_ends::empty_certificate;
 use fewest_changes::{Opening, Repair, make_repair, opening_of};
 use instance_model::{Instance, Starts};
 use plan_changes::{ChangeGoal, changes};
@@ -124,19 +125,5 @@ fn startless(
         report: Report { status: 10, text },
         certificate,
         plan: None,
-    })
-}
-
-// The certificate of one leaf, which says that this intervention has no allowed start.
-fn empty_certificate(alloc: Global, i: u32) -> Result<Certificate, AllocError>
-    ensures { IfOk result (λ certificate. certificate ≡ empty_certificate i) }
-{
-    let mut nodes = Vec::new(alloc);
-    nodes.push(Node::Empty { i })?;
-    Ok(Certificate {
-        version: Version::Two,
-        bound: Bound::NoPlan,
-        lists: PriceLists::from_vec(Vec::new(alloc)),
-        nodes: Nodes::from_vec(nodes),
     })
 }

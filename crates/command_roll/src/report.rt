@@ -1,10 +1,9 @@
 //! The texts that `roll` says.
-ghost use Rattle.std.specs.Prelude.{◌≡◌, ◌<◌, ◌^◌, ◌++◌, length, not, count_by, IfOk, OnOk};
+ghost use Rattle.std.specs.Prelude.{◌≡◌, not, count_by, IfOk};
 ghost use Rattle.plan_roll.specs.Rolled.{is_kept as is_kept_of};
-ghost use Rattle.command_frame.specs.Lines.{numbered_line};
 ghost use Rattle.command_roll.specs.Rolling.{rolled_report};
 
-use command_frame::{Text, push_rounded};
+use command_frame::{Text, push_numbered, push_rounded};
 use instance_model::Instance;
 use std::alloc::{AllocError, Global};
 
@@ -35,15 +34,6 @@ fn free_count(plan: &[Option<u32>], period: u32) -> usize
         .count()
 }
 
-/// Adds a line of a word and a number.
-fn push_count(text: &mut Text, word: &str, count: usize) -> Result<(), AllocError>
-    ensures { OnOk result (text.new ≡ text.old ++ numbered_line word.now count) }
-{
-    text.push(word)?;
-    text.push_number(count as u64)?;
-    text.push("\n")
-}
-
 /// The report on the rolled instance.
 pub(crate) fn rolled_text(
     alloc: Global,
@@ -55,8 +45,8 @@ pub(crate) fn rolled_text(
 {
     let mut text = Text::new(alloc);
     text.push("rolled\n")?;
-    push_count(&mut text, "kept ", kept_count(plan, period))?;
-    push_count(&mut text, "free ", free_count(plan, period))?;
+    push_numbered(&mut text, "kept ", kept_count(plan, period) as u64)?;
+    push_numbered(&mut text, "free ", free_count(plan, period) as u64)?;
     push_rounded(&mut text, inst.rounded())?;
     Ok(text)
 }

@@ -13,8 +13,10 @@ use Rattle.plan_moves.specs.declared.change.Change.{Change}
 use Rattle.branch_search.specs.Best.{IsFeasiblePlan, IsBestOver, IsNoWorse, bound_of}
 use Rattle.branch_search.specs.Searched.{IsAmong, IsLeastOf, IsUnfinishedLeaf, IsSearched}
 use Rattle.branch_search.specs.declared.tree_end.TreeEnd.{TreeEnd}
-use Rattle.command_solve.specs.Solved.{end_of, IsGiven, IsSolved, split_count, AreEnough, IsNothing}
-use Rattle.command_solve.proofs.SplitLemmas.{splits_are}
+use Rattle.command_solve.specs.Solved.{IsSolved, IsNothing}
+use Rattle.descent_ends.specs.Ends.{end_of, IsGiven}
+use Rattle.descent_ends.specs.Turns.{split_count, AreEnough}
+use Rattle.descent_ends.proofs.SplitLemmas.{splits_are}
 
 least_same : (a b : ℤ) → Least a ≡ Least b → a ≡ b
 least_same a b e = cc

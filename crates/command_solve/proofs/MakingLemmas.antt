@@ -4,6 +4,7 @@ use Rattle.std.proofs.Common.{Option, Some, All, false}
 use Rattle.std.proofs.lemmas.List.Elements.{All-nil, All-cons}
 use Rattle.instance_model.specs.Tables.{Tables}
 use Rattle.instance_model.specs.Fitting.{IsFitting}
+use Rattle.instance_model.specs.Keys.{IsOpening}
 use Rattle.lagrange_bound.specs.Prices.{PriceList, IsPriceList}
 use Rattle.lagrange_bound.specs.Goals.{risk_base, risk_value}
 use Rattle.lagrange_bound.specs.Worth.{WorthBoundsPlans}
@@ -13,11 +14,13 @@ use Rattle.certificate_text.specs.Laws.{TextsFitFiles}
 use Rattle.price_ladder.specs.Raised.{IsRaised, root_worth, least_total}
 use Rattle.branch_search.specs.declared.tree_end.TreeEnd.{TreeEnd}
 use Rattle.branch_search.specs.Searched.{IsSearched}
-use Rattle.command_solve.specs.declared.making.Descended.{Descended}
-use Rattle.command_solve.specs.Solved.{IsGiven, AreEnough}
-use Rattle.command_solve.specs.Made.{IsDescended, IsMade}
+use Rattle.descent_ends.specs.declared.ending.Descended.{Descended}
+use Rattle.descent_ends.specs.Ends.{IsGiven}
+use Rattle.descent_ends.specs.Turns.{AreEnough}
+use Rattle.command_solve.specs.Made.{IsMade}
+use Rattle.descent_ends.specs.Ends.{IsDescended}
 use Rattle.command_solve.proofs.RootLemmas.{above_root}
-use Rattle.command_solve.proofs.TrailLemmas.{known_changes, small_changes}
+use Rattle.command_solve.proofs.ChangeLemmas.{known_changes, small_changes}
 
 -- what `raise_prices` says of its list
 pub record AreRaised (inst : Tables) (starts : List ℕ) (prices : PriceList) : Type 0 where
@@ -36,7 +39,7 @@ pub record AreFoundWith (inst : Tables) (turns : ℕ) (prices : PriceList) (give
   pub enough : AreEnough inst turns → answer.unfinished ≡ false
 
 module _ (inst : Tables) (fit : IsFitting inst) (turns : ℕ) (few : turns ≤ 1_000_000) (opening : List ℕ)
-    (descended : Descended) (end : IsDescended inst turns opening descended) (prices : PriceList)
+    (opens : IsOpening inst opening) (descended : Descended) (end : IsDescended inst turns opening descended) (prices : PriceList)
     (raised : AreRaised inst descended.starts prices) (given : Option (List ℕ))
     (is_given : IsGiven inst descended.starts given) (answer : TreeEnd)
     (made : AreFoundWith inst turns prices given answer) where
@@ -53,7 +56,7 @@ module _ (inst : Tables) (fit : IsFitting inst) (turns : ℕ) (few : turns ≤ 1
   is_made law short = record {
     solved = record {
       opening = opening;
-      trail = end.trail;
+      trail = record { opens = opens; descent = end.descent };
       prices = prices;
       priced = record {
         raised = subst (λ (plan : List ℕ). IsRaised inst plan prices) end.end raised.raised;
@@ -71,7 +74,7 @@ module _ (inst : Tables) (fit : IsFitting inst) (turns : ℕ) (few : turns ≤ 1
       short = short inst answer.cert fit made.in_range lists_few ex_few (omega (arith, made.nodes, few));
     };
     changes_are = record {
-      known = known_changes inst opening descended.moves end.trail.lower;
-      small = small_changes inst opening descended.moves fit end.trail.lower;
+      known = known_changes inst opening descended.moves end.descent.lower;
+      small = small_changes inst opening descended.moves fit end.descent.lower;
     };
   }

@@ -26,14 +26,16 @@ use Rattle.branch_search.specs.declared.tree_end.TreeEnd.{TreeEnd}
 use Rattle.command_frame.specs.declared.report.Report.{Report}
 use Rattle.command_frame.specs.Ending.{Writing}
 use Rattle.command_check.proofs.CheckRun.{best_plan}
-use Rattle.command_solve.specs.Solved.{IsWithoutStart, empty_certificate}
+use Rattle.descent_ends.specs.Openings.{IsWithoutStart, empty_certificate}
 use Rattle.command_solve.specs.Solving.{SolveFiles, none_report, cert_write, trail_write, IsReplayable, IsFound, Solves}
 use Rattle.command_solve.specs.Solving.Solves.{found, nothing, none, no_start}
 use Rattle.command_check.specs.Accepting.{IsShortValid, IsAcceptable}
 use Rattle.command_solve.specs.Made.{AreWritable, IsMade, CanReport, IsReportOf}
-use Rattle.command_solve.specs.Made.{plan_writes, IsWritablePlan, IsSolution}
+use Rattle.command_solve.specs.Made.{plan_writes, IsSolution}
+use Rattle.command_frame.specs.Writing.{IsWritablePlan}
 use Rattle.command_solve.proofs.AnswerLemmas.{some_has_bound, best_feasible, gap_is_spent, enough_meets, is_nothing}
-use Rattle.command_solve.proofs.PlanLemmas.{writable_plan, evaluable}
+use Rattle.command_solve.proofs.PlanLemmas.{evaluable}
+use Rattle.command_frame.proofs.PlanWrites.{writable_plan}
 
 -- an answer with this status and text
 spoken : (inst : Tables) (files : SolveFiles) (turns : ℕ) (writes : List Writing) (status : ℕ) (text : List ℕ)
@@ -81,8 +83,9 @@ module _ (inst : Tables) (turns : ℕ) (changes : List Change) (answer : TreeEnd
   writable_best = at answer.best refl
     where
       at : (best : Option (List ℕ)) → answer.best ≡ best → IfSome best (IsWritablePlan inst)
-      at (Some plan) is = writable_plan inst plan fit
-          (best_feasible inst solved.prices solved.given turns answer solved.searched plan is)
+      at (Some plan) is =
+          let good = best_feasible inst solved.prices solved.given turns answer solved.searched plan is in
+          writable_plan inst plan fit good.each good.feasible
       at None is = tt
 
   module _ (good : IsAcceptable standard_limits inst answer.cert) where

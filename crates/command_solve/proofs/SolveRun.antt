@@ -33,15 +33,16 @@ use Rattle.command_frame.proofs.AnswerLemmas.{instance_status}
 use Rattle.command_frame.proofs.TakenLemmas.{on_taken, bad_instance}
 use Rattle.command_frame.proofs.EndLemmas.{Stays, memory_ends, refusal_ends, ends_quiet, ends_allowed, ends_exact}
 use Rattle.command_frame.proofs.WriteLemmas.{told_ends, told_later, wrote_behind}
-use Rattle.command_frame.specs.Outputs.{holding}
+use Rattle.command_frame.specs.Outputs.{holding, OpensSearched}
 use Rattle.command_frame.proofs.HoldLemmas.{IsNoneOf, named_output, named_after, others_after, held_after}
 use Rattle.command_frame.proofs.HoldLemmas.{held_alike, others_stopped}
 use Rattle.command_frame.proofs.OutputLemmas.{same_holding}
 use Rattle.command_check.specs.Checking.{IsKeptPlan, BoundsEveryPlan, AnswersCheck}
 use Rattle.command_check.specs.Accepting.{IsCheckable}
-use Rattle.command_solve.specs.Solved.{AreEnough, IsWithoutStart, empty_certificate}
+use Rattle.descent_ends.specs.Turns.{AreEnough}
+use Rattle.descent_ends.specs.Openings.{IsWithoutStart, empty_certificate}
 use Rattle.command_solve.specs.Solving.{SolveFiles, AreDistinct, cert_write, trail_write, plan_write}
-use Rattle.command_solve.specs.Solving.{Solves, AnswersSolve, DueSolve, BehindSolve, ExpectsSolve, KeepsOthers, Opens}
+use Rattle.command_solve.specs.Solving.{Solves, AnswersSolve, DueSolve, BehindSolve, ExpectsSolve, KeepsOthers}
 use Rattle.command_solve.specs.Solving.{RunsSolve}
 use Rattle.command_solve.specs.Solving.Solves.{found, nothing, none, no_start}
 use Rattle.command_solve.specs.Solving.BehindSolve.{found as behind_found, nothing as behind_nothing}
@@ -285,7 +286,7 @@ module _ (limits : Limits) (source : Source) (files : SolveFiles) (turns : ℕ) 
       ∙ same_holding old u.before name u.output
 
   -- a refusal, and want of memory, write no file
-  unopened_solves : (inst : Tables) (a : Answer) → Solves limits inst files turns a → (Opens a.status → ⊥)
+  unopened_solves : (inst : Tables) (a : Answer) → Solves limits inst files turns a → (OpensSearched a.status → ⊥)
       → a.writes ≡ []
   unopened_solves inst a (found changes answer plan bound s f k r e) opens = absurd (opens (inl refl))
   unopened_solves inst a (nothing changes answer bound s f k r) opens = absurd (opens (inr (inr (inl refl))))
@@ -293,20 +294,20 @@ module _ (limits : Limits) (source : Source) (files : SolveFiles) (turns : ℕ) 
   unopened_solves inst a (no_start i w k) opens = absurd (opens (inr (inr (inr (inl refl)))))
 
   unopened_answer : (a : Answer) → AnswersSolve limits (reading old new) source.slack source.instance files turns a
-      → (Opens a.status → ⊥) → a.writes ≡ []
+      → (OpensSearched a.status → ⊥) → a.writes ≡ []
   unopened_answer a (unread fails) opens = refl
   unopened_answer a (refused bytes b held is) opens = no_files limits bytes b is
   unopened_answer a (stands bytes inst b held takes solves) opens = unopened_solves inst b solves opens
 
-  unopened_due : (a : Answer) → Due new a → (Opens a.status → ⊥) → a.writes ≡ []
+  unopened_due : (a : Answer) → Due new a → (OpensSearched a.status → ⊥) → a.writes ≡ []
   unopened_due a (answers b is) opens = unopened_answer b is opens
   unopened_due a no_memory opens = refl
 
-  solve_unopened : (status : ℕ) → Ends Due old new status → (Opens status → ⊥) → new.output ≡ old.output
+  solve_unopened : (status : ℕ) → Ends Due old new status → (OpensSearched status → ⊥) → new.output ≡ old.output
   solve_unopened status (done n d) opens =
       d.writes
       ∙ ap (λ (w : List Writing). (after_writes (files_of w) old).output)
-      (unopened_due d.answer d.due (λ o. opens (subst Opens (sym d.status_is) o)))
+      (unopened_due d.answer d.due (λ o. opens (subst OpensSearched (sym d.status_is) o)))
   solve_unopened status (unsaid u) opens = absurd (opens (inr (inl refl)))
   solve_unopened status (unwritten u) opens = absurd (opens (inr (inl refl)))
 

@@ -1,12 +1,9 @@
 -- What the steps of a solution come to. Cited by private functions only: no part of any promise.
-use Rattle.std.specs.Prelude.{◌≡◌, ◌≤◌, ◌<◌, ◌^◌, ℕ, ℤ, ◌-ℤ◌, List, [], ◌∷◌, ◌++◌, length, map, All, Option, Some, None}
-use Rattle.std.specs.Prelude.{IsTrue, false, ◌↔◌, IfSome, codes}
+use Rattle.std.specs.Prelude.{◌≡◌, ℕ, ℤ, ◌-ℤ◌, List, [], ◌∷◌, ◌++◌, map, All, Option, Some, None, false, IfSome, codes}
 use Rattle.plan_desk.specs.Desk.{Shown}
 use Rattle.plan_desk.specs.Contents.{KeepsFiles}
 use Rattle.instance_model.specs.Limits.{standard_limits}
 use Rattle.instance_model.specs.Tables.{Tables}
-use Rattle.instance_model.specs.Plans.{AreAllowedStarts}
-use Rattle.instance_model.specs.Rules.{IsFeasible}
 use Rattle.plan_score.specs.declared.values.Values.{Values}
 use Rattle.plan_moves.specs.declared.change.Change.{Change}
 use Rattle.plan_moves.specs.Scripts.{NamesKnown, line_of}
@@ -21,25 +18,18 @@ use Rattle.command_frame.specs.declared.report.Report.{Report}
 use Rattle.command_frame.specs.Reports.{score_line, bound_line, gap_line, ranges_text}
 use Rattle.command_frame.specs.Lines.{memory_line}
 use Rattle.command_frame.specs.Ending.{Writing, Answer}
-use Rattle.command_frame.specs.Refusals.{SaysOrFails}
-use Rattle.command_frame.specs.Writing.{TellsAnswer}
+use Rattle.command_frame.specs.Refusals.{IsReport, SaysOrFails}
+use Rattle.command_frame.specs.Writing.{IsWritablePlan, TellsAnswer}
 use Rattle.command_evaluate.specs.Evaluating.{EnclosesEveryReading}
 use Rattle.command_check.specs.Accepting.{IsShortValid}
-use Rattle.command_solve.specs.declared.making.Descended.{Descended}
 use Rattle.command_solve.specs.declared.solution.Solution.{Solution}
 use Rattle.command_solve.specs.declared.solve.SolveFiles.{SolveFiles as SolveNames}
-use Rattle.command_solve.specs.Solved.{end_of, IsTrail, IsSolved, AreEnough}
+use Rattle.descent_ends.specs.Turns.{AreEnough}
+use Rattle.command_solve.specs.Solved.{IsSolved}
 use Rattle.command_solve.specs.Solving.{SolveFiles, counts_text, found_report, nothing_report, none_report}
 use Rattle.command_solve.specs.Solving.{cert_write, trail_write, plan_write, Solves}
 
 -- ---- the descent and the search
-
--- what a descent from an opening plan came to
-pub record IsDescended (inst : Tables) (turns : ℕ) (opening : List ℕ) (descended : Descended) : Type 0 where
-  pub trail : IsTrail inst turns opening descended.moves
-  pub end : descended.starts ≡ end_of opening descended.moves
-  pub allowed : AreAllowedStarts inst descended.starts
-  pub feasible : IsTrue descended.feasible ↔ IsFeasible inst (map Some descended.starts)
 
 -- changes that can be written as a script
 pub record AreWritable (inst : Tables) (changes : List Change) : Type 0 where
@@ -78,11 +68,6 @@ pub record ReportsPlan (inst : Tables) (plan : List ℕ) (b : ℤ) (cert : Certi
   pub text_is : report.text ≡ found_report inst plan b cert changes
   pub encloses : EnclosesEveryReading inst (map Some plan)
 
--- this status and text
-pub record IsReport (status : ℕ) (text : List ℕ) (report : Report) : Type 0 where
-  pub status_is : report.status ≡ status
-  pub text_is : report.text ≡ text
-
 -- the report on a best plan, if there is one, and a bound
 abbrev pub IsReportOf : Tables → Option (List ℕ) → Bound → Certificate → List Change → Report → Type 0
 IsReportOf inst (Some plan) (Least b) cert changes report = ReportsPlan inst plan b cert changes report
@@ -105,11 +90,6 @@ solution_writes inst files s =
 abbrev pub answer_of : Tables → SolveFiles → Solution → Answer
 answer_of inst files s =
     record { status = s.report.status; text = s.report.text; writes = solution_writes inst files s }
-
--- one small start for each intervention
-pub record IsWritablePlan (inst : Tables) (plan : List ℕ) : Type 0 where
-  pub each : length plan ≡ length inst.names
-  pub small : All (λ start. start < 10 ^ 9) plan
 
 -- the files of a solution can be written
 pub record IsWritable (inst : Tables) (s : Solution) : Type 0 where

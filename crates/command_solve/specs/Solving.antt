@@ -2,7 +2,7 @@
 --
 -- `old` and `new` are what the desk shows before and after a run. Worths, scores and bounds are in parts of 10^-18.
 use Rattle.std.specs.Prelude.{◌≡◌, ◌≢◌, ◌⊎◌, ℕ, ◌≤◌, ℤ, ◌-ℤ◌, ◌<ℤ◌, List, [], ◌∷◌, ◌++◌, length, map}
-use Rattle.std.specs.Prelude.{Option, Some, None, codes, decimal}
+use Rattle.std.specs.Prelude.{Option, Some, None, codes}
 use Rattle.plan_desk.specs.Desk.{Shown}
 use Rattle.plan_desk.specs.Contents.{TellsSuch, HoldsBytes, Says}
 use Rattle.instance_model.specs.declared.limits.Limits.{Limits}
@@ -19,19 +19,21 @@ use Rattle.branch_tree.specs.declared.certificate.Certificate.{Certificate}
 use Rattle.certificate_text.specs.Text.{certificate_text}
 use Rattle.branch_search.specs.declared.tree_end.TreeEnd.{TreeEnd}
 use Rattle.command_frame.specs.Sources.{Source}
+use Rattle.command_frame.specs.Lines.{numbered_line}
 use Rattle.command_frame.specs.Reports.{score_line, bound_line, gap_line, ranges_text, rounded_line, feasible_report}
 use Rattle.command_frame.specs.Reports.{accepted_report}
-use Rattle.command_frame.specs.Ending.{Writing, Answer, reply, OrMemory, IsQuiet, Ends, Behind, IsOneOf, IsAllowed}
+use Rattle.command_frame.specs.Ending.{Writing, Answer, reply, OrMemory, IsQuiet, Ends, Behind, IsAllowed}
 use Rattle.command_frame.specs.Ending.{IsAnswered, NoFault}
 use Rattle.command_frame.specs.Bytes.{RefusesInstance, IsRefusedInstance}
 use Rattle.command_frame.specs.Files.{Meeting, reading, by_bytes, OnInstance, OnPlan, ReadsInstance}
 use Rattle.command_frame.specs.Files.{SaysUnread, SaysRefusal, TellsMissing, TellsBytes, TellsInstance}
-use Rattle.command_frame.specs.Outputs.{holding}
+use Rattle.command_frame.specs.Outputs.{holding, OpensSearched}
 use Rattle.command_evaluate.specs.Evaluating.{Judges, AnswersEvaluate}
 use Rattle.command_check.specs.Checking.{IsKeptPlan, BoundsEveryPlan, IsBest, AnswersCheck}
 use Rattle.command_check.specs.Accepting.{IsCheckable}
-use Rattle.command_solve.specs.Solved.{IsSolved, split_count, AreEnough, IsNothing, IsNone, IsWithoutStart}
-use Rattle.command_solve.specs.Solved.{empty_certificate}
+use Rattle.descent_ends.specs.Openings.{IsWithoutStart, empty_certificate}
+use Rattle.descent_ends.specs.Turns.{split_count, AreEnough}
+use Rattle.command_solve.specs.Solved.{IsSolved, IsNothing, IsNone}
 
 -- ---- the files
 
@@ -52,15 +54,11 @@ pub record AreDistinct (instance : List ℕ) (files : SolveFiles) : Type 0 where
 
 -- ---- reports
 
--- a word, a number and a line feed
-abbrev pub count_line : List ℕ → ℕ → List ℕ
-count_line word n = word ++ codes " " ++ decimal n ++ codes "\n"
-
 -- the last lines of each report: the splits of the certificate, the changes of the trail, the rounded numbers
 abbrev pub counts_text : Tables → Certificate → List Change → List ℕ
 counts_text inst cert changes =
-    count_line (codes "splits") (split_count cert.nodes)
-    ++ (count_line (codes "moves") (length changes) ++ rounded_line inst.rounded)
+    numbered_line (codes "splits ") (split_count cert.nodes)
+    ++ (numbered_line (codes "moves ") (length changes) ++ rounded_line inst.rounded)
 
 -- a plan was found
 abbrev pub found_report : Tables → List ℕ → ℤ → Certificate → List Change → List ℕ
@@ -252,10 +250,6 @@ abbrev pub KeepsOthers : SolveFiles → (old new : Shown) → Type 0
 KeepsOthers files old new = (name : List ℕ) → name ≢ files.plan → name ≢ files.cert → name ≢ files.trail
     → holding new name ≡ holding old name
 
--- the statuses with which files are opened
-abbrev pub Opens : ℕ → Type 0
-Opens status = IsOneOf (0 ∷ 8 ∷ 9 ∷ 10 ∷ []) status
-
 pub record RunsSolve (limits : Limits) (source : Source) (files : SolveFiles) (turns : ℕ) (old new : Shown)
     (status : ℕ) : Type 0 where
   -- what was due was written and said, or the writing or saying failed
@@ -270,7 +264,7 @@ pub record RunsSolve (limits : Limits) (source : Source) (files : SolveFiles) (t
       → IsAnswered (AnswersSolve limits by_bytes source.slack instance files turns) old new status
   -- no file is changed but those three, and none but with these statuses; at 9 and 10 that of the plan isn't
   pub others : KeepsOthers files old new
-  pub unopened : (Opens status → ⊥) → new.output ≡ old.output
+  pub unopened : (OpensSearched status → ⊥) → new.output ≡ old.output
   pub no_plan_file : (status ≡ 9) ⊎ (status ≡ 10) → holding new files.plan ≡ holding old files.plan
   -- the last fault is what it was, but at 7 and 8, and faults never fall
   pub quiet : IsQuiet status old new

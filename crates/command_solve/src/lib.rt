@@ -4,12 +4,8 @@
 #![tactic(auto)]
 
 mod making;
-mod opening;
 mod report;
 mod solution;
 mod solve;
 
-pub use making::{given_end, is_feasible, present_starts};
-pub use opening::{Opening, opening_of};
-pub use report::{push_count, split_count};
 pub use solve::{SolveFiles, solve_files};

@@ -1,11 +1,13 @@
 //! The texts of reports.
-ghost use Rattle.std.specs.Prelude.{◌≡◌, ◌≤◌, ◌<◌, ◌^◌, [], ◌∷◌, ◌++◌, IfOk, OnOk, unsigned_abs};
-ghost use Rattle.command_solve.specs.Solved.{split_count};
-ghost use Rattle.command_solve.specs.Solving.{count_line, counts_text, nothing_report, none_report};
+ghost use Rattle.std.specs.Prelude.{◌≡◌, ◌≤◌, ◌<◌, ◌^◌, ◌++◌, IfOk, OnOk, unsigned_abs};
+ghost use Rattle.command_solve.specs.Solving.{counts_text, nothing_report, none_report};
 ghost use Rattle.command_solve.specs.Made.{values_report};
 
-use branch_certificate::{Certificate, Node};
-use command_frame::{Text, push_bound_line, push_gap_line, push_ranges, push_rounded, push_score};
+use branch_certificate::Certificate;
+use command_frame::{
+    Text, push_bound_line, push_gap_line, push_numbered, push_ranges, push_rounded, push_score,
+};
+use descent_ends::split_count;
 use instance_model::Instance;
 use plan_moves::Moves;
 use plan_score::Values;
@@ -75,39 +77,7 @@ fn push_counts(
 ) -> Result<(), AllocError>
     ensures { OnOk result (text.new ≡ text.old ++ counts_text inst.now certificate.now moves.now) }
 {
-    push_count(text, "splits", split_count(certificate.nodes.as_slice()))?;
-    push_count(text, "moves", moves.as_slice().len() as u64)?;
+    push_numbered(text, "splits ", split_count(certificate.nodes.as_slice()))?;
+    push_numbered(text, "moves ", moves.as_slice().len() as u64)?;
     push_rounded(text, inst.rounded())
-}
-
-/// Adds a line of a word and a number.
-pub fn push_count(text: &mut Text, word: &str, n: u64) -> Result<(), AllocError>
-    ensures { OnOk result (text.new ≡ text.old ++ count_line word.now n) }
-{
-    text.push(word)?;
-    text.push(" ")?;
-    text.push_number(n)?;
-    text.push("\n")
-}
-
-/// How many nodes are splits.
-pub fn split_count(nodes: &[Node]) -> u64
-    ensures { result ≡ split_count nodes.now }
-{
-    let mut count: u64 = 0;
-    for node in nodes {
-        count += split_of(*node);
-    }
-    count
-}
-
-// 1 for a split, and 0 for a leaf.
-fn split_of(node: Node) -> u64
-    ensures value { result ≡ split_count (node ∷ []) }
-    ensures small { result ≤ 1 }
-{
-    match node {
-        Node::Split { .. } => 1,
-        _ => 0,
-    }
 }

@@ -1,19 +1,19 @@
 //! What is answered to an instance.
-ghost use Rattle.std.specs.Prelude.{◌≡◌, ◌≤◌, ◌^◌, ℕ, IfOk, unsigned_abs};
+ghost use Rattle.std.specs.Prelude.{◌≤◌, ◌^◌, ℕ, IfOk, unsigned_abs};
 ghost use Rattle.branch_tree.specs.Ranges.{IsBoundInRange};
 ghost use Rattle.branch_search.specs.Best.{IsFeasiblePlan};
 ghost use Rattle.instance_model.specs.Keys.{IsOpening};
-ghost use Rattle.command_solve.specs.Solved.{IsWithoutStart, empty_certificate};
+ghost use Rattle.descent_ends.specs.Openings.{IsWithoutStart};
 ghost use Rattle.command_solve.specs.Made.{CanReport, ReportsPlan, IsReportOf, IsSolution};
 
 use crate::making::make;
-use crate::opening::{Opening, opening_of};
 use crate::report::{found_text, none_text, nothing_text};
-use branch_certificate::{Bound, Certificate, Node, Nodes, PriceLists, Version};
+use branch_certificate::{Bound, Certificate};
 use branch_search::TreeEnd;
 use certificate_text::texts_are_short;
 use command_check::valid_is_accepted;
 use command_frame::Report;
+use descent_ends::{Opening, empty_certificate, opening_of};
 use instance_model::{Instance, Starts, plan_of};
 use plan_moves::Moves;
 use plan_score::{Verdict, judge};
@@ -140,19 +140,5 @@ fn startless(alloc: Global, inst: &Instance, i: u32) -> Result<Solution, AllocEr
         certificate,
         moves,
         plan: None,
-    })
-}
-
-// The certificate of one leaf, which says that this intervention has no allowed start.
-fn empty_certificate(alloc: Global, i: u32) -> Result<Certificate, AllocError>
-    ensures { IfOk result (λ certificate. certificate ≡ empty_certificate i) }
-{
-    let mut nodes = Vec::new(alloc);
-    nodes.push(Node::Empty { i })?;
-    Ok(Certificate {
-        version: Version::Two,
-        bound: Bound::NoPlan,
-        lists: PriceLists::from_vec(Vec::new(alloc)),
-        nodes: Nodes::from_vec(nodes),
     })
 }

@@ -2,9 +2,9 @@
 ghost use Rattle.std.specs.Prelude.{◌≤◌, Some};
 ghost use Rattle.instance_model.specs.Limits.{standard_limits};
 ghost use Rattle.command_frame.specs.Sources.{source_view};
-ghost use Rattle.command_frame.specs.Writing.{PutsFiles, TellsAnswer};
+ghost use Rattle.command_frame.specs.Writing.{IsWritablePlan, PutsFiles, TellsAnswer};
 ghost use Rattle.command_solve.specs.Solving.{AreDistinct, RunsSolve};
-ghost use Rattle.command_solve.specs.Made.{plan_writes, solution_writes, answer_of, IsWritablePlan, IsWritable};
+ghost use Rattle.command_solve.specs.Made.{plan_writes, solution_writes, answer_of, IsWritable};
 ghost use Rattle.command_solve.specs.Made.{files_view, TellsSolution};
 
 use crate::solution::{Solution, solution_of};

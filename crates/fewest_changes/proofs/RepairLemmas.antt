@@ -18,8 +18,8 @@ use Rattle.branch_search.specs.declared.tree_end.TreeEnd.{TreeEnd}
 use Rattle.branch_search.specs.Best.{IsBestOver, IsNoWorse, bound_of}
 use Rattle.branch_search.specs.Searched.{IsBounding, IsAmong, IsLeastOf, IsUnfinishedLeaf, IsSearched}
 use Rattle.plan_changes.specs.Changes.{changes_of, change_base, change_value, least_changes, BoundsCountChanges}
-use Rattle.command_solve.specs.Solved.{split_count, AreEnough}
-use Rattle.command_solve.proofs.SplitLemmas.{splits_are}
+use Rattle.descent_ends.specs.Turns.{split_count, AreEnough}
+use Rattle.descent_ends.proofs.SplitLemmas.{splits_are}
 use Rattle.fewest_changes.specs.Incumbents.{IsBackFrom}
 use Rattle.fewest_changes.specs.Repaired.{IsRepairTree, IsRepaired}
 

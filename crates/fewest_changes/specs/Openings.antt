@@ -2,7 +2,7 @@
 use Rattle.std.specs.Prelude.{◌≡◌, ℕ, ◌<◌, ◌≤◌, List, length, Option, Some, IsTrue, slice_index}
 use Rattle.instance_model.specs.Tables.{Tables, is_allowed}
 use Rattle.instance_model.specs.Plans.{start_of}
-use Rattle.command_solve.specs.Solved.{IsWithoutStart}
+use Rattle.descent_ends.specs.Openings.{IsWithoutStart}
 use Rattle.fewest_changes.specs.declared.opening.Opening.{Opening}
 use Rattle.fewest_changes.specs.declared.opening.Opening.TheVariants.{From, Without}
 

@@ -3,7 +3,7 @@ ghost use Rattle.std.specs.Prelude.{IfOk};
 ghost use Rattle.instance_model.specs.Plans.{AreAllowedStarts};
 ghost use Rattle.fewest_changes.specs.Incumbents.{IsIncumbent};
 
-use crate::descent::feasible_end;
+use descent_ends::descend_from;
 use instance_model::{Instance, Starts, plan_of};
 use plan_changes::give_back;
 use plan_score::broken_rule;
@@ -27,11 +27,10 @@ pub(crate) fn incumbent_of<R: Row>(
         let starts = Vec::from_slice(alloc, opening)?;
         return Ok(Some(Starts::from_vec(starts)));
     }
-    match feasible_end::<R>(alloc, inst, opening, turns)? {
-        None => Ok(None),
-        Some(end) => {
-            let given = give_back(alloc, inst, old, end.as_slice())?;
-            Ok(Some(given))
-        }
+    let descended = descend_from::<R>(alloc, inst, opening, turns)?;
+    if !descended.feasible {
+        return Ok(None);
     }
+    let given = give_back(alloc, inst, old, descended.starts.as_slice())?;
+    Ok(Some(given))
 }

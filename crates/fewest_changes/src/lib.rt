@@ -4,7 +4,6 @@
 //! Interventions count from 0, and starts count from 1. One change is worth 10^18.
 #![tactic(auto)]
 
-mod descent;
 mod incumbent;
 mod opening;
 mod repairing;

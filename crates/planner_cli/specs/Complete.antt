@@ -15,7 +15,7 @@ use Rattle.command_frame.specs.Files.{TellsInstance, TellsPlan, TellsCertificate
 use Rattle.command_evaluate.specs.Evaluating.{Judges}
 use Rattle.command_replay.specs.Replaying.{ScriptedPlan, TellsScripted, Replays}
 use Rattle.command_check.specs.Checking.{CheckedPlan, TellsChecked, Checks}
-use Rattle.command_solve.specs.Solved.{AreEnough}
+use Rattle.descent_ends.specs.Turns.{AreEnough}
 use Rattle.command_solve.specs.Solving.{SolveFiles, Solves}
 use Rattle.command_table.specs.Tabling.{Tabulates}
 use Rattle.command_rebound.specs.Rebinding.{Rebinds}

@@ -5,8 +5,9 @@ use Rattle.instance_model.specs.Rules.{IsFeasible}
 use Rattle.plan_moves.specs.declared.change.Change.{Change}
 use Rattle.plan_moves.specs.KeptPlans.{KeptPlans, present}
 use Rattle.branch_tree.specs.declared.node.Node.{Node}
-use Rattle.command_solve.specs.Solved.{end_of, split_count}
-use Rattle.command_solve.proofs.TrailLemmas.{end_is, instance_is, is_trail, present_feasible}
+use Rattle.descent_ends.specs.Ends.{end_of}
+use Rattle.descent_ends.specs.Turns.{split_count}
+use Rattle.descent_ends.proofs.EndLemmas.{end_is, instance_is, is_trail, present_feasible}
 use Rattle.command_rehearse.specs.Rehearsed.{IsBounded}
 use Rattle.command_rehearse.proofs.RehearsalLemmas.{key_is, all_count, first_left}
 use Rattle.command_rehearse.proofs.rehearsal.rehearse.Goals as goal

@@ -1,6 +1,6 @@
 use Rattle.std.proofs.Common.{arith}
 use Rattle.branch_tree.specs.declared.node.Node.TheVariants.{Split}
-use Rattle.command_solve.proofs.SplitLemmas.{split_more}
+use Rattle.descent_ends.proofs.SplitLemmas.{split_more}
 use Rattle.command_repair.proofs.report.split_count.Goals as goal
 
 pub loop-node-preserved : goal.loop-node-preserved

@@ -1,5 +1,5 @@
 use Rattle.std.proofs.Common.{◌≡◌, ◌≤◌, take}
-use Rattle.command_solve.specs.Solved.{split_count}
+use Rattle.descent_ends.specs.Turns.{split_count}
 use Rattle.command_repair.proofs.report.split_count.Given as goal
 
 abbrev pub invariant-loop-node : goal.invariant-loop-node

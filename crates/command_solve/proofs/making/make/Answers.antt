@@ -10,7 +10,8 @@ returns g c =
     let prices = c.in_ok-prices.prices in
     let p = c.in_ok-prices.ensures in
     let a = c.in_ok-answer.ensures in
-    is_made inst c.fits.ensures c.args.turns c.requires.turns c.args.opening.now c.in_ok-descended.descended
+    is_made inst c.fits.ensures c.args.turns c.requires.turns c.args.opening.now c.requires.opening
+    c.in_ok-descended.descended
     c.in_ok-descended.ensures prices
     (record {
       in_range = p.in_range;

@@ -1,6 +1,6 @@
 use Rattle.std.proofs.Common.{◌∙◌}
 use Rattle.instance_model.specs.Limits.{standard_limits}
-use Rattle.command_solve.specs.Solved.{empty_certificate}
+use Rattle.descent_ends.specs.Openings.{empty_certificate}
 use Rattle.command_solve.proofs.SolutionLemmas.{empty_is_good, no_start_solution}
 use Rattle.command_solve.proofs.solution.startless.Goals as goal
 

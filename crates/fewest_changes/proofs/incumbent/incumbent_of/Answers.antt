@@ -8,27 +8,25 @@ returns-then-not-is_broken g c =
     c.broken_rule.result (c.as_slice.ensures.value ∙ c.in_ok-plan.ensures) c.broken_rule.ensures
     (sym c.is_some-is_broken.ensures ∙ c.if-not-is_broken.true) (c.from_vec.ensures ∙ c.in_ok-starts.ensures.items)
 
-pub returns-in-None : goal.returns-in-None
-returns-in-None g c =
-    not_given c.args.inst.now c.args.old.now c.args.turns c.args.opening.now c.in_ok-feasible_end.field-0
+pub returns-then-not-feasible : goal.returns-then-not-feasible
+returns-then-not-feasible g c =
+    not_given c.args.inst.now c.args.old.now c.args.turns c.args.opening.now c.in_ok-descended.descended
     (not_opens c.args.inst.now c.args.opening.now c.as_slice.result.now c.broken_rule.result
     (c.as_slice.ensures.value ∙ c.in_ok-plan.ensures) c.broken_rule.ensures
-    (sym c.is_some-is_broken.ensures ∙ c.if-not-is_broken.false)) c.in_ok-feasible_end.ensures c.in-None.is
+    (sym c.is_some-is_broken.ensures ∙ c.if-not-is_broken.false)) c.in_ok-descended.ensures
+    c.if-not-feasible.true
 
 pub returns : goal.returns
 returns g c =
-    end_given c.args.inst.now c.args.old.now c.args.turns c.args.opening.now c.in_ok-feasible_end.field-0 c.in-Some.end
-    c.as_slice-in-Some.result.now c.in_ok-given-in-Some.given
+    end_given c.args.inst.now c.args.old.now c.args.turns c.args.opening.now c.in_ok-descended.descended
+    c.as_slice-given.result.now c.in_ok-given.given
     (not_opens c.args.inst.now c.args.opening.now c.as_slice.result.now c.broken_rule.result
     (c.as_slice.ensures.value ∙ c.in_ok-plan.ensures) c.broken_rule.ensures
-    (sym c.is_some-is_broken.ensures ∙ c.if-not-is_broken.false)) c.in_ok-feasible_end.ensures c.in-Some.is
-    c.as_slice-in-Some.ensures
+    (sym c.is_some-is_broken.ensures ∙ c.if-not-is_broken.false)) c.in_ok-descended.ensures c.if-not-feasible.false
+    c.as_slice-given.ensures
     (record {
-      plan = record {
-        each = c.in_ok-given-in-Some.ensures.each;
-        feasible = c.in_ok-given-in-Some.ensures.feasible;
-      };
-      either = c.in_ok-given-in-Some.ensures.either;
-      few = c.in_ok-given-in-Some.ensures.few;
-      none_left = c.in_ok-given-in-Some.ensures.none_left;
+      plan = record { each = c.in_ok-given.ensures.each; feasible = c.in_ok-given.ensures.feasible };
+      either = c.in_ok-given.ensures.either;
+      few = c.in_ok-given.ensures.few;
+      none_left = c.in_ok-given.ensures.none_left;
     })

@@ -1,9 +1,0 @@
-use Rattle.std.proofs.Common.{◌≡◌, ◌≤◌, take}
-use Rattle.command_solve.specs.Solved.{split_count}
-use Rattle.command_solve.proofs.report.split_count.Given as goal
-
-abbrev pub invariant-loop-node : goal.invariant-loop-node
-invariant-loop-node l = record {
-  count : l.count ≡ split_count (take l.node-index l.nodes);
-  few : l.count ≤ l.node-index;
-}

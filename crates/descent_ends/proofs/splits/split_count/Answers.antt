@@ -1,0 +1,12 @@
+use Rattle.std.proofs.Common.{arith}
+use Rattle.branch_tree.specs.declared.node.Node.TheVariants.{Split}
+use Rattle.descent_ends.proofs.SplitLemmas.{split_more}
+use Rattle.descent_ends.proofs.splits.split_count.Goals as goal
+
+pub loop-node-preserved : goal.loop-node-preserved
+loop-node-preserved c =
+    let next = split_more c.args.nodes.now c.loop-node.node-index (Split 0 0) c.loop-node-test.true in
+    record {
+      count = omega (arith, next, c.split_of-count.ensures.value, c.loop-node.invariant.count);
+      few = omega (arith, c.split_of-count.ensures.small, c.loop-node.invariant.few);
+    }
