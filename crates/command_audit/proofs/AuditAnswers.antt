@@ -7,8 +7,8 @@ use Rattle.command_frame.specs.Lines.{failing_leaf_line}
 use Rattle.command_frame.specs.Ending.{reply, IsOneAnswer}
 use Rattle.command_frame.specs.Files.{by_bytes, OnPlan, OnCertificate}
 use Rattle.command_frame.proofs.AnswerLemmas.{instance_once, plan_once, certificate_once}
-use Rattle.command_audit.specs.Auditing.{Audits, AnswersAudit}
-use Rattle.command_audit.specs.Auditing.Audits.{accepted, failing_leaf}
+use Rattle.command_answers.specs.Audit.{Audits, AnswersAudit}
+use Rattle.command_answers.specs.Audit.Audits.{accepted, failing_leaf}
 
 audited_once : (inst : Tables) (old : List (Option ℕ)) (cert : Certificate) → IsOneAnswer (Audits inst old cert)
 audited_once inst old cert a b (accepted x) (accepted y) = refl

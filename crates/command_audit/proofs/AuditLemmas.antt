@@ -12,24 +12,9 @@ use Rattle.certificate_check.specs.Verdicts.{IsVerdict}
 use Rattle.plan_changes.specs.Changes.{changes_of, change_base, change_value, BoundsCountChanges}
 use Rattle.command_frame.specs.Lines.{failing_leaf_line}
 use Rattle.command_frame.specs.Ending.{reply}
-use Rattle.command_audit.specs.Auditing.{BoundsEveryRepair, IsValidFor, FailsFirstFor, audited_report}
-use Rattle.command_audit.specs.Auditing.{Audits}
-use Rattle.command_audit.specs.Auditing.Audits.{accepted, failing_leaf}
-
--- the bound holds for every plan that keeps the rules
-pub bounds_every_repair : (inst : Tables) (old : List (Option ℕ)) (bound : Bound) → BoundsCountChanges
-    → BoundsPlans (change_value old) inst bound → BoundsEveryRepair inst old bound
-unfolding change_value
-bounds_every_repair inst old bound counts bounds =
-    record {
-      least = λ b is starts kept.
-          let at_least : b ≤ℤ pos (1_000_000_000_000_000_000 * changes_of old starts) = subst
-          (λ (x : Bound). IsAtLeast x (change_value old inst starts)) is
-          (bounds starts kept.each (IsFeasible-from inst (map Some starts) kept.keeps)) in
-          (counts b (changes_of old starts)).0 at_least;
-      none = λ is starts kept. subst (λ (x : Bound). IsAtLeast x (change_value old inst starts)) is
-          (bounds starts kept.each (IsFeasible-from inst (map Some starts) kept.keeps));
-    }
+use Rattle.command_answers.specs.Audit.{BoundsEveryRepair, IsValidFor, FailsFirstFor, audited_report}
+use Rattle.command_answers.specs.Audit.{Audits}
+use Rattle.command_answers.specs.Audit.Audits.{accepted, failing_leaf}
 
 -- the checker's verdict on a certificate
 pub record Verdict (inst : Tables) (old : List (Option ℕ)) (cert : Certificate) (verdict : CertVerdict) : Type 0 where

@@ -14,7 +14,7 @@ use Rattle.command_frame.specs.Refusals.{IsCertificateCause, IsDueAs}
 use Rattle.command_frame.proofs.FileLemmas.{on_other, IsRead, read_both, before_reading, reads_before}
 use Rattle.command_frame.proofs.ReadLemmas.{due_within, after_instance, after_plan}
 use Rattle.command_frame.proofs.CertificateLemmas.{certificate_cause_due}
-use Rattle.command_audit.specs.Auditing.{Audits, AnswersAudit}
+use Rattle.command_answers.specs.Audit.{Audits, AnswersAudit}
 
 -- what is due for the certificate of an audit
 abbrev pub OnAudited : Limits → List ℕ → (old new : Shown) → Tables → List (Option ℕ) → Answer → Type 0

@@ -18,9 +18,10 @@ use Rattle.command_frame.proofs.AnswerLemmas.{instance_status, plan_status, cert
 use Rattle.command_frame.proofs.AnswerLemmas.{refused_apart}
 use Rattle.command_frame.proofs.EndLemmas.{Stays, ends_quiet, ends_behind, ends_allowed, ends_exact}
 use Rattle.command_frame.proofs.TakenLemmas.{on_taken, bad_instance, on_spelled, bad_plan}
-use Rattle.command_audit.specs.Auditing.{IsValidFor, FailsFirstFor, Audits, AnswersAudit, DueAudit, ReadsAudit}
+use Rattle.command_audit.specs.Auditing.{DueAudit, ReadsAudit}
+use Rattle.command_answers.specs.Audit.{IsValidFor, FailsFirstFor, Audits, AnswersAudit}
 use Rattle.command_audit.specs.Auditing.{BehindAudit, AuditedFiles, TellsAudited, ExpectsAudit, RunsAudit}
-use Rattle.command_audit.specs.Auditing.Audits.{accepted, failing_leaf}
+use Rattle.command_answers.specs.Audit.Audits.{accepted, failing_leaf}
 use Rattle.command_audit.specs.Auditing.BehindAudit.{accepted as behind_accepted}
 use Rattle.command_audit.specs.Auditing.BehindAudit.{refused_certificate as behind_refused_certificate}
 use Rattle.command_audit.specs.Auditing.BehindAudit.{refused_instance as behind_refused_instance}

@@ -9,7 +9,8 @@ ghost use Rattle.command_frame.specs.Sources.{source_view};
 ghost use Rattle.command_frame.specs.Ending.{reply};
 ghost use Rattle.command_frame.specs.Files.{reading};
 ghost use Rattle.command_frame.specs.Refusals.{KeepsLast, IsDueAs};
-ghost use Rattle.command_audit.specs.Auditing.{Audits, AnswersAudit, RunsAudit};
+ghost use Rattle.command_audit.specs.Auditing.{RunsAudit};
+ghost use Rattle.command_answers.specs.Audit.{Audits, AnswersAudit};
 
 use crate::report::audited_text;
 use branch_certificate::Certificate;

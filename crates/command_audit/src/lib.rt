@@ -7,4 +7,3 @@ mod audit;
 mod report;
 
 pub use audit::audit_files;
-pub use report::push_least;

@@ -9,8 +9,8 @@ use Rattle.command_frame.specs.Lines.{failing_leaf_line}
 use Rattle.command_frame.specs.Reports.{infeasible_report}
 use Rattle.command_frame.specs.Ending.{reply, IsOneAnswer}
 use Rattle.command_frame.specs.Files.{by_bytes, OnGiven, OnCertificate}
-use Rattle.command_check.specs.Checking.{GivenKeeps, IsBroken, Checks, AnswersCheck}
-use Rattle.command_check.specs.Checking.Checks.{broken_plan, failing_leaf, accepted}
+use Rattle.command_answers.specs.Check.{GivenKeeps, IsBroken, Checks, AnswersCheck}
+use Rattle.command_answers.specs.Check.Checks.{broken_plan, failing_leaf, accepted}
 use Rattle.command_frame.proofs.AnswerLemmas.{one_rule, instance_once, certificate_once, given_once}
 
 -- ---- one answer for what was read

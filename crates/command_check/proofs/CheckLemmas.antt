@@ -24,8 +24,8 @@ use Rattle.certificate_check.specs.Verdicts.{IsVerdict}
 use Rattle.command_frame.specs.Lines.{failing_leaf_line}
 use Rattle.command_frame.specs.Reports.{infeasible_report, accepted_text, NamesOf}
 use Rattle.command_frame.specs.Ending.{reply}
-use Rattle.command_check.specs.Checking.{IsKeptPlan, BoundsEveryPlan, IsBroken, Checks}
-use Rattle.command_check.specs.Checking.Checks.{broken_plan, failing_leaf, accepted}
+use Rattle.command_answers.specs.Check.{IsKeptPlan, BoundsEveryPlan, IsBroken, Checks}
+use Rattle.command_answers.specs.Check.Checks.{broken_plan, failing_leaf, accepted}
 use Rattle.command_check.specs.declared.check.Given.{Given}
 use Rattle.command_check.specs.declared.check.Given.TheVariants.{Kept, Broken}
 use Rattle.command_check.specs.Standing.{StandsAs, ChecksFor}
@@ -90,25 +90,6 @@ pub kept_small : (inst : Tables) (given : Option (List (Option ℕ))) (g : Given
     → StandsAs inst given g → g ≡ Kept score → IfSome score (λ z. unsigned_abs z < 10 ^ 36)
 kept_small inst given g score stands is =
     let k : StandsAs inst given (Kept score) = subst (StandsAs inst given) is stands in k.2
-
--- ---- the bound holds for every plan that keeps the rules
-
-bounds_plan : (inst : Tables) (bound : Bound) (plan : List (Option ℕ)) → BoundsPlans risk_value inst bound
-    → IsKeptPlan inst plan → IsAtLeast bound (score_of inst plan)
-bounds_plan inst bound plan bounds kept =
-    let opens = opening_from inst plan kept.each (first_start_rule-none inst plan kept.keeps.starts) in
-    let feasible = subst (IsFeasible inst) opens.starts (IsFeasible-from inst plan kept.keeps) in
-    subst (λ (p : List (Option ℕ)). IsAtLeast bound (score_of inst p)) (sym opens.starts)
-    (bounds _ opens.allowed.each feasible)
-
-pub bounds_every : (inst : Tables) (bound : Bound) → BoundsPlans risk_value inst bound → BoundsEveryPlan inst bound
-bounds_every inst bound bounds =
-    record {
-      least = λ b is plan kept. subst (λ (x : Bound). IsAtLeast x (score_of inst plan)) is
-          (bounds_plan inst bound plan bounds kept);
-      none = λ is plan kept. subst (λ (x : Bound). IsAtLeast x (score_of inst plan)) is
-          (bounds_plan inst bound plan bounds kept);
-    }
 
 -- ---- what is answered on a certificate
 

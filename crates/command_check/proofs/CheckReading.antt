@@ -9,7 +9,7 @@ use Rattle.command_frame.specs.Ending.{Answer}
 use Rattle.command_frame.specs.Bytes.{SpellsOne, RefusesCertificate}
 use Rattle.command_frame.specs.Files.{reading, OnGiven, OnCertificate, ReadsInstance, ReadsGiven, ReadsCertificate}
 use Rattle.command_frame.specs.Files.OnFile.{stands}
-use Rattle.command_check.specs.Checking.{Checks, AnswersCheck}
+use Rattle.command_answers.specs.Check.{Checks, AnswersCheck}
 use Rattle.command_frame.specs.declared.refusal.Refusal.{Refusal}
 use Rattle.command_frame.specs.Refusals.{IsGivenCause, IsCertificateCause, IsDueAs, AfterGiven}
 use Rattle.command_frame.proofs.FileLemmas.{on_other, on_given_other, IsRead, read_given, before_reading, before_given}

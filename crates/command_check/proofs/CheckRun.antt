@@ -26,10 +26,11 @@ use Rattle.command_frame.specs.Bytes.{IsRefusedCertificate, RefusesCertificate}
 use Rattle.command_frame.specs.Files.{Meeting, reading, by_bytes, OnPlan, OnGiven, OnCertificate, ReadsInstance}
 use Rattle.command_frame.specs.Files.{ReadsGiven, TellsInstance, TellsGiven}
 use Rattle.command_frame.specs.Files.OnFile.{unread, refused, stands}
-use Rattle.command_check.specs.Checking.{BoundsEveryPlan, exact_cost, IsBest, GivenKeeps, IsAccepted, Checks}
-use Rattle.command_check.specs.Checking.{AnswersCheck, DueCheck, ReadsCheck, BehindCheck, CheckedPlan, TellsChecked}
+use Rattle.command_answers.specs.Check.{BoundsEveryPlan, exact_cost, IsBest, GivenKeeps, IsAccepted, Checks}
+use Rattle.command_check.specs.Checking.{DueCheck, ReadsCheck, BehindCheck, CheckedPlan, TellsChecked}
+use Rattle.command_answers.specs.Check.{AnswersCheck}
 use Rattle.command_check.specs.Checking.{ExpectsCheck, RunsCheck}
-use Rattle.command_check.specs.Checking.Checks.{broken_plan, failing_leaf, accepted}
+use Rattle.command_answers.specs.Check.Checks.{broken_plan, failing_leaf, accepted}
 use Rattle.command_check.specs.Checking.BehindCheck.{accepted as behind_accepted, broken_given as behind_broken_given}
 use Rattle.command_check.specs.Checking.BehindCheck.{refused_certificate as behind_refused_certificate}
 use Rattle.command_check.specs.Checking.BehindCheck.{refused_instance as behind_refused_instance}
@@ -62,36 +63,6 @@ pub none_given : (inst : Tables) (bound : Bound) (given : Option (List (Option �
     → GivenKeeps inst given → bound ≡ NoPlan → given ≡ None
 none_given inst bound None bounds keeps e = refl
 none_given inst bound (Some plan) bounds keeps e = absurd (bounds.none e plan keeps)
-
-at_least : (a b c : ℤ) → a -ℤ b ≡ pos 0 → b ≤ℤ c → a ≤ℤ c
-at_least a b c e h = omega (arith, signed_arith, e, h)
-
-pub best_plan : (inst : Tables) (given : Option (List (Option ℕ))) (cert : Certificate) (plan : List (Option ℕ)) (b : ℤ)
-    → IsAccepted inst given cert → cert.bound ≡ Least b → score_of inst plan -ℤ b ≡ pos 0 → IsBest inst plan
-best_plan inst given cert plan b all is zero =
-    record {
-      score = λ other kept. at_least (score_of inst plan) b (score_of inst other) zero
-          (all.bounds.least b is other kept);
-      cost = λ other kept.
-          cheaper (score_of inst plan) (score_of inst other) (exact_cost inst plan) (exact_cost inst other) inst.periods
-          (scenario_product inst)
-          (at_least (score_of inst plan) b (score_of inst other) zero (all.bounds.least b is other kept))
-          (all.costs plan).most (all.costs other).least;
-    }
-  where
-    chain : (x y a c : ℤ) (n : ℕ) → x <ℤ (a +ℤ pos n) → a ≤ℤ c → c ≤ℤ y → x <ℤ (y +ℤ pos n)
-    chain x y a c n h k l = omega (arith, signed_arith, h, k, l)
-
-    counts : (p t : ℕ) → pos p *ℤ pos t ≡ pos (t * p)
-    counts p t = same_in (pos p *ℤ pos t) (pos (t * p)) (omega (arith, product_is (pos p) (pos t), mul_comm p t))
-
-    cheaper : (a c x y : ℤ) (t p : ℕ) → a ≤ℤ c → x <ℤ ((a +ℤ pos t) *ℤ pos p) → (c *ℤ pos p) ≤ℤ y
-        → x <ℤ (y +ℤ pos (t * p))
-    cheaper a c x y t p h k l =
-        let parts : (a +ℤ pos t) *ℤ pos p ≡ pos p *ℤ a +ℤ pos (t * p) = sym (turn (a +ℤ pos t) p) ∙ *ℤ-+ℤ (pos p) a
-        (pos t) ∙ ap (λ (z : ℤ). pos p *ℤ a +ℤ z) (counts p t) in
-        chain x y (pos p *ℤ a) (pos p *ℤ c) (t * p) (subst (λ (z : ℤ). x <ℤ z) parts k) (scale_mono p a c h)
-        (subst (λ (z : ℤ). z ≤ℤ y) (sym (turn c p)) l)
 
 -- what is answered to a certificate, and to a plan that may be left out
 abbrev OnChecked : Limits → Tables → Meeting → List ℕ → Option (List (Option ℕ)) → Answer → Type 0

@@ -2,4 +2,3 @@ pub mod CheckReading
 pub mod CheckLemmas
 pub mod CheckAnswers
 pub mod CheckRun
-pub mod AcceptLemmas

@@ -1,97 +1,31 @@
--- The command `check`: the answer to an instance, a plan that may be left out and a certificate, what an accepted
--- certificate says, and what a run promises.
+-- The command `check`: what is due, what stands behind each status, and what a run promises.
 --
 -- `old` and `new` are what the desk shows before and after a run.
-use Rattle.std.specs.Prelude.{◌≡◌, ℕ, ◌*◌, ◌≤◌, ⊤, ℤ, pos, ◌-ℤ◌, ◌+ℤ◌, ◌≤ℤ◌, ◌<ℤ◌, List, length, Option, Some, None}
+use Rattle.std.specs.Prelude.{◌≡◌, ℕ, ◌≤◌, ℤ, pos, ◌-ℤ◌, List, Option, Some, None}
 use Rattle.plan_desk.specs.Desk.{Shown}
 use Rattle.plan_desk.specs.Contents.{TellsSuch, Says}
 use Rattle.instance_model.specs.declared.limits.Limits.{Limits}
 use Rattle.instance_model.specs.Tables.{Tables}
-use Rattle.instance_model.specs.Values.{numerator_of, score_of}
-use Rattle.instance_model.specs.Exact.{scenario_product, sum_of_quotients, CostIsJustAboveScore}
+use Rattle.instance_model.specs.Values.{score_of}
 use Rattle.instance_model.specs.Rules.{first_rule, KeepsRules}
 use Rattle.instance_model.specs.declared.rule.Rule.{Rule}
 use Rattle.lagrange_bound.specs.Goals.{risk_base, risk_value}
-use Rattle.certificate_lines.specs.declared.line.Bound.{Bound}
 use Rattle.certificate_lines.specs.declared.line.Bound.TheVariants.{NoPlan, Least}
 use Rattle.branch_tree.specs.declared.certificate.Certificate.{Certificate}
 use Rattle.branch_tree.specs.Validity.{IsValid, IsFirstFailing}
 use Rattle.command_frame.specs.Sources.{Source}
 use Rattle.command_frame.specs.Lines.{failing_leaf_line}
 use Rattle.command_frame.specs.Reports.{infeasible_report, accepted_report}
-use Rattle.command_frame.specs.Ending.{Answer, reply, IsOneAnswer, OrMemory, IsQuiet, Ends, Behind, IsAllowed}
+use Rattle.command_frame.specs.Ending.{Answer, IsOneAnswer, OrMemory, IsQuiet, Ends, Behind, IsAllowed}
 use Rattle.command_frame.specs.Ending.{IsAnswered, NoFault}
 use Rattle.command_frame.specs.Bytes.{RefusesInstance, IsRefusedInstance, RefusesPlan, IsRefusedPlan}
 use Rattle.command_frame.specs.Bytes.{RefusesCertificate, IsRefusedCertificate}
-use Rattle.command_frame.specs.Files.{Meeting, reading, by_bytes, OnInstance, OnGiven, OnCertificate, ReadsInstance}
-use Rattle.command_frame.specs.Files.{ReadsGiven, ReadsCertificate, SaysUnread, SaysRefusal, TellsMissing, TellsBytes}
-use Rattle.command_frame.specs.Files.{TellsGivenBytes, TellsInstance, TellsGiven, TellsCertificate}
+use Rattle.command_frame.specs.Files.{reading, by_bytes, ReadsInstance, ReadsGiven, ReadsCertificate, SaysUnread}
+use Rattle.command_frame.specs.Files.{SaysRefusal, TellsMissing, TellsBytes, TellsGivenBytes, TellsInstance}
+use Rattle.command_frame.specs.Files.{TellsGiven, TellsCertificate}
+use Rattle.command_answers.specs.Check.{BoundsEveryPlan, IsBest, GivenKeeps, AnswersCheck}
 
--- ---- what an accepted certificate says
-
--- one start or none for each intervention, and the plan keeps the rules
-pub record IsKeptPlan (inst : Tables) (plan : List (Option ℕ)) : Type 0 where
-  pub each : length plan ≡ length inst.names
-  pub keeps : KeepsRules inst plan
-
--- every plan that keeps the rules has a score of at least the bound; where that is none, no plan keeps the rules
-pub record BoundsEveryPlan (inst : Tables) (bound : Bound) : Type 0 where
-  pub least : (b : ℤ) → bound ≡ Least b → (plan : List (Option ℕ)) → IsKeptPlan inst plan → b ≤ℤ score_of inst plan
-  pub none : bound ≡ NoPlan → (plan : List (Option ℕ)) → IsKeptPlan inst plan → ⊥
-
--- the exact cost of a plan as a whole number, of which T * 10^18 times the product of all numbers of scenarios make a
--- cost of 1
-abbrev pub exact_cost : Tables → List (Option ℕ) → ℤ
-exact_cost inst plan = sum_of_quotients inst (numerator_of inst plan)
-
--- no plan that keeps the rules has a lower score, and none costs less by 10^-18 or more
-pub record IsBest (inst : Tables) (plan : List (Option ℕ)) : Type 0 where
-  pub score : (other : List (Option ℕ)) → IsKeptPlan inst other → score_of inst plan ≤ℤ score_of inst other
-  pub cost : (other : List (Option ℕ)) → IsKeptPlan inst other
-      → exact_cost inst plan <ℤ (exact_cost inst other +ℤ pos (inst.periods * scenario_product inst))
-
--- a plan that was given keeps the rules
-abbrev pub GivenKeeps : Tables → Option (List (Option ℕ)) → Type 0
-GivenKeeps inst None = ⊤
-GivenKeeps inst (Some plan) = IsKeptPlan inst plan
-
--- ---- the answer
-
--- the certificate is valid: no leaf fails, and its bound holds for every plan, also for one that was given
-pub record IsAccepted (inst : Tables) (given : Option (List (Option ℕ))) (cert : Certificate) : Type 0 where
-  pub valid : IsValid risk_base risk_value inst cert
-  pub holds : (n : ℕ) → IsFirstFailing risk_base risk_value inst cert n → ⊥
-  pub bounds : BoundsEveryPlan inst cert.bound
-  pub costs : CostIsJustAboveScore inst
-  pub keeps : GivenKeeps inst given
-
--- a plan was given, it does not keep the rules, and this is the first rule that it breaks
-pub record IsBroken (inst : Tables) (given : Option (List (Option ℕ))) (rule : Rule) : Type 0 where
-  pub plan : List (Option ℕ)
-  pub given_is : given ≡ Some plan
-  pub not_kept : KeepsRules inst plan → ⊥
-  pub first : first_rule inst plan ≡ Some rule
-
--- leaf n of the certificate is the first that doesn't hold, and a plan that was given keeps the rules
-pub record IsRefused (inst : Tables) (given : Option (List (Option ℕ))) (cert : Certificate) (n : ℕ) : Type 0 where
-  pub first : IsFirstFailing risk_base risk_value inst cert n
-  pub only : (m : ℕ) → IsFirstFailing risk_base risk_value inst cert m → m ≡ n
-  pub invalid : IsValid risk_base risk_value inst cert → ⊥
-  pub keeps : GivenKeeps inst given
-
--- to an instance, a plan if one is given, and a certificate: 1 with the first broken rule of the plan, where there is
--- one; else 0 where the certificate is valid, and 5 with the first leaf that doesn't hold
-pub data Checks (inst : Tables) (given : Option (List (Option ℕ))) (cert : Certificate) : Answer → Type 0 where
-  broken_plan : (rule : Rule) → IsBroken inst given rule
-      → Checks inst given cert (reply 1 (infeasible_report inst rule))
-  failing_leaf : (n : ℕ) → IsRefused inst given cert n → Checks inst given cert (reply 5 (failing_leaf_line n))
-  accepted : IsAccepted inst given cert → Checks inst given cert (reply 0 (accepted_report inst cert.bound given))
-
--- to the files, with a slack in 10^-12: the instance is word 2, the plan word 3, and the certificate word 4
-abbrev pub AnswersCheck : Limits → Meeting → ℕ → (instance : List ℕ) → (plan : Option (List ℕ)) → (cert : List ℕ)
-    → Answer → Type 0
-AnswersCheck limits met slack instance plan cert = OnInstance limits slack met 2 instance
-    (λ inst. OnGiven limits inst met 3 plan (λ p. OnCertificate limits inst met 4 cert (Checks inst p)))
+-- ---- what is due
 
 -- what is due, once the desk shows `at`
 abbrev pub DueCheck : Limits → Source → Option (List ℕ) → List ℕ → (old at : Shown) → Answer → Type 0

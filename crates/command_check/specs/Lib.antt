@@ -1,4 +1,3 @@
 -- What the contract of the command cites.
 pub mod Checking
-pub mod Accepting
 pub mod Standing

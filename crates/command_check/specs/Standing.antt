@@ -6,7 +6,7 @@ use Rattle.branch_tree.specs.declared.certificate.Certificate.{Certificate as Ce
 use Rattle.command_check.specs.declared.check.Given.{Given}
 use Rattle.command_check.specs.declared.check.Given.TheVariants.{Kept, Broken as BrokenRule}
 use Rattle.command_frame.specs.Ending.{reply}
-use Rattle.command_check.specs.Checking.{GivenKeeps, IsBroken, Checks}
+use Rattle.command_answers.specs.Check.{GivenKeeps, IsBroken, Checks}
 
 -- what a plan that was given comes to
 abbrev pub StandsAs : Tables → Option (List (Option ℕ)) → Given → Type 0

@@ -9,7 +9,8 @@ ghost use Rattle.plan_desk.specs.Contents.{OnlyReads};
 ghost use Rattle.command_frame.specs.Sources.{source_view};
 ghost use Rattle.command_frame.specs.Ending.{reply};
 ghost use Rattle.command_frame.specs.Files.{reading};
-ghost use Rattle.command_check.specs.Checking.{Checks, AnswersCheck, RunsCheck};
+ghost use Rattle.command_check.specs.Checking.{RunsCheck};
+ghost use Rattle.command_answers.specs.Check.{Checks, AnswersCheck};
 ghost use Rattle.command_frame.specs.Refusals.{KeepsLast, IsDueAs};
 ghost use Rattle.command_check.specs.Standing.{StandsAs, ChecksFor};
 

@@ -3,8 +3,6 @@
 //! `RunsCheck` states what a run promises, by what the desk shows before and after it.
 #![tactic(auto)]
 
-mod accepting;
 mod check;
 
-pub use accepting::valid_is_accepted;
 pub use check::check_files;

@@ -6,8 +6,8 @@ use Rattle.instance_model.specs.Rules.{first_rule}
 use Rattle.command_frame.specs.Reports.{infeasible_report}
 use Rattle.command_frame.specs.Ending.{reply, IsOneAnswer}
 use Rattle.command_frame.specs.Files.{by_bytes, OnPlan}
-use Rattle.command_evaluate.specs.Evaluating.{Judges, AnswersEvaluate}
-use Rattle.command_evaluate.specs.Evaluating.Judges.{feasible, infeasible}
+use Rattle.command_answers.specs.Evaluate.{Judges, AnswersEvaluate}
+use Rattle.command_answers.specs.Evaluate.Judges.{feasible, infeasible}
 use Rattle.command_frame.proofs.AnswerLemmas.{one_rule, instance_once, plan_once}
 
 judged_once : (inst : Tables) (plan : List (Option ℕ)) → IsOneAnswer (Judges inst plan)

@@ -16,8 +16,8 @@ use Rattle.command_frame.specs.Sources.{Source}
 use Rattle.command_frame.specs.Reports.{values_report, feasible_report, infeasible_report, NamesOf}
 use Rattle.command_frame.specs.Ending.{Answer, reply}
 use Rattle.command_frame.specs.Files.{reading, OnPlan, ReadsInstance, ReadsPlan}
-use Rattle.command_evaluate.specs.Evaluating.{EnclosesEveryReading, Judges, AnswersEvaluate}
-use Rattle.command_evaluate.specs.Evaluating.Judges.{feasible, infeasible}
+use Rattle.command_answers.specs.Evaluate.{EnclosesEveryReading, Judges, AnswersEvaluate}
+use Rattle.command_answers.specs.Evaluate.Judges.{feasible, infeasible}
 use Rattle.command_frame.proofs.FileLemmas.{IsRead}
 use Rattle.command_frame.proofs.ReadLemmas.{after_instance, after_plan}
 use Rattle.command_frame.proofs.RuleNames.{rule_names}

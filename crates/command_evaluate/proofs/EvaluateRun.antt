@@ -11,9 +11,10 @@ use Rattle.command_frame.specs.Ending.{Answer, Ends}
 use Rattle.command_frame.specs.Bytes.{TakesOne, RefusesInstance, Spells, RefusesPlan}
 use Rattle.command_frame.specs.Files.{Meeting, reading, by_bytes, OnPlan, ReadsInstance, ReadsPlan}
 use Rattle.command_frame.specs.Files.OnFile.{unread, refused, stands}
-use Rattle.command_evaluate.specs.Evaluating.{Judges, AnswersEvaluate, DueEvaluate, BehindEvaluate, ExpectsEvaluate}
+use Rattle.command_evaluate.specs.Evaluating.{DueEvaluate, BehindEvaluate, ExpectsEvaluate}
+use Rattle.command_answers.specs.Evaluate.{Judges, AnswersEvaluate}
 use Rattle.command_evaluate.specs.Evaluating.{RunsEvaluate}
-use Rattle.command_evaluate.specs.Evaluating.Judges.{feasible, infeasible}
+use Rattle.command_answers.specs.Evaluate.Judges.{feasible, infeasible}
 use Rattle.command_evaluate.specs.Evaluating.BehindEvaluate.{feasible as behind_feasible}
 use Rattle.command_evaluate.specs.Evaluating.BehindEvaluate.{infeasible as behind_infeasible}
 use Rattle.command_evaluate.specs.Evaluating.BehindEvaluate.{refused_instance as behind_refused_instance}

@@ -1,4 +1,4 @@
--- The command `evaluate`: the answer to an instance and a plan, and what a run promises.
+-- The command `evaluate`: what is due, what stands behind each status, and what a run promises.
 --
 -- `old` and `new` are what the desk shows before and after a run.
 use Rattle.std.specs.Prelude.{◌≡◌, ℕ, ◌-◌, ◌^◌, ◌≤◌, ℤ, List, Option, Some}
@@ -9,42 +9,19 @@ use Rattle.instance_model.specs.declared.limits.Limits.{Limits}
 use Rattle.instance_model.specs.Tables.{Tables}
 use Rattle.instance_model.specs.Rules.{first_rule, KeepsRules}
 use Rattle.instance_model.specs.declared.rule.Rule.{Rule}
-use Rattle.instance_model.specs.Exact.{IsReading, EnclosesReading}
+use Rattle.instance_model.specs.Exact.{EnclosesReading}
 use Rattle.instance_shape.specs.Defined.{IsTreeOf}
 use Rattle.instance_shape.specs.OwnNumbers.{AreOwnNumbers}
 use Rattle.command_frame.specs.Sources.{Source}
 use Rattle.command_frame.specs.Reports.{feasible_report, infeasible_report}
-use Rattle.command_frame.specs.Ending.{Answer, reply, IsOneAnswer, OrMemory, IsQuiet, Ends, Behind, IsAllowed}
+use Rattle.command_frame.specs.Ending.{Answer, IsOneAnswer, OrMemory, IsQuiet, Ends, Behind, IsAllowed}
 use Rattle.command_frame.specs.Ending.{IsAnswered, NoFault}
 use Rattle.command_frame.specs.Bytes.{RefusesInstance, IsRefusedInstance, RefusesPlan, IsRefusedPlan}
-use Rattle.command_frame.specs.Files.{Meeting, reading, by_bytes, OnInstance, OnPlan, ReadsInstance, ReadsPlan}
-use Rattle.command_frame.specs.Files.{SaysUnread, SaysRefusal, TellsMissing, TellsBytes, TellsInstance, TellsPlan}
+use Rattle.command_frame.specs.Files.{reading, by_bytes, ReadsInstance, ReadsPlan, SaysUnread, SaysRefusal}
+use Rattle.command_frame.specs.Files.{TellsMissing, TellsBytes, TellsInstance, TellsPlan}
+use Rattle.command_answers.specs.Evaluate.{EnclosesEveryReading, AnswersEvaluate}
 
--- ---- the answer
-
--- the printed values of a plan enclose those of every choice of numbers that rounds to the numbers of the instance
-abbrev pub EnclosesEveryReading : Tables → List (Option ℕ) → Type 0
-EnclosesEveryReading inst plan =
-    (f : ℕ) (numbers : List ℤ) → IsReading inst f numbers → EnclosesReading inst plan f numbers
-
--- The printed values of a plan enclose those of the risk numbers as the file has them. Where each of these is a whole
--- multiple of 10^-places, for places of at least 12, the multiples are numbers of which 10^(places - 12) make one
--- count.
-abbrev pub EnclosesOwnNumbers : List ℕ → Tables → List (Option ℕ) → Type 0
-EnclosesOwnNumbers bytes inst plan = (root : Tree) (places : ℕ) (numbers : List ℤ) → IsTreeOf bytes root → 12 ≤ places
-    → AreOwnNumbers places root numbers → EnclosesReading inst plan (10 ^ (places - 12)) numbers
-
--- to an instance and a plan: 0 where the plan keeps the rules, and else 1 with the first rule that it breaks
-pub data Judges (inst : Tables) (plan : List (Option ℕ)) : Answer → Type 0 where
-  feasible : KeepsRules inst plan → EnclosesEveryReading inst plan
-      → Judges inst plan (reply 0 (feasible_report inst plan))
-  infeasible : (rule : Rule) → (KeepsRules inst plan → ⊥) → first_rule inst plan ≡ Some rule
-      → Judges inst plan (reply 1 (infeasible_report inst rule))
-
--- to two files, with a slack in 10^-12: the instance is word 2, and the plan word 3
-abbrev pub AnswersEvaluate : Limits → Meeting → ℕ → (instance plan : List ℕ) → Answer → Type 0
-AnswersEvaluate limits met slack instance plan =
-    OnInstance limits slack met 2 instance (λ inst. OnPlan limits inst met 3 plan (Judges inst))
+-- ---- what is due
 
 -- what is due, once the desk shows `at`
 abbrev pub DueEvaluate : Limits → Source → List ℕ → (old at : Shown) → Answer → Type 0
@@ -52,6 +29,13 @@ DueEvaluate limits source plan old at =
     OrMemory (AnswersEvaluate limits (reading old at) source.slack source.instance plan)
 
 -- ---- what stands behind each status
+
+-- The printed values of a plan enclose those of the risk numbers as the file has them. Where each of these is a whole
+-- multiple of 10^-places, for places of at least 12, the multiples are numbers of which 10^(places - 12) make one
+-- count.
+abbrev pub EnclosesOwnNumbers : List ℕ → Tables → List (Option ℕ) → Type 0
+EnclosesOwnNumbers bytes inst plan = (root : Tree) (places : ℕ) (numbers : List ℤ) → IsTreeOf bytes root → 12 ≤ places
+    → AreOwnNumbers places root numbers → EnclosesReading inst plan (10 ^ (places - 12)) numbers
 
 -- 0: both files were read, the plan keeps the rules, and its report was said, whose values enclose the exact ones,
 -- those of the file's own numbers among them

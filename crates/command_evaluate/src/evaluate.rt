@@ -6,7 +6,8 @@ ghost use Rattle.plan_desk.specs.Contents.{OnlyReads};
 ghost use Rattle.command_frame.specs.Sources.{source_view};
 ghost use Rattle.command_frame.specs.Ending.{reply};
 ghost use Rattle.command_frame.specs.Files.{reading};
-ghost use Rattle.command_evaluate.specs.Evaluating.{Judges, AnswersEvaluate, RunsEvaluate};
+ghost use Rattle.command_evaluate.specs.Evaluating.{RunsEvaluate};
+ghost use Rattle.command_answers.specs.Evaluate.{Judges, AnswersEvaluate};
 ghost use Rattle.command_frame.specs.Refusals.{KeepsLast, IsDueAs};
 
 use command_frame::{

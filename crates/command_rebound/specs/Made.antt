@@ -16,7 +16,7 @@ use Rattle.command_frame.specs.Ending.{Answer}
 use Rattle.command_frame.specs.Files.{ReadsInstance, ReadsCertificate}
 use Rattle.command_frame.specs.Refusals.{SaysOrFails}
 use Rattle.command_frame.specs.Writing.{TellsAnswer}
-use Rattle.command_check.specs.Accepting.{ShortValidIsAcceptable}
+use Rattle.command_answers.specs.Accepting.{ShortValidIsAcceptable}
 use Rattle.command_rebound.specs.declared.making.Made.{Made}
 use Rattle.command_rebound.specs.Rebinding.{rebound_report, Rebinds}
 

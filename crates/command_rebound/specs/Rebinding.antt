@@ -26,8 +26,8 @@ use Rattle.command_frame.specs.Files.{Meeting, reading, by_bytes, OnInstance, On
 use Rattle.command_frame.specs.Files.{ReadsCertificate, SaysUnread, SaysRefusal, TellsMissing, TellsBytes}
 use Rattle.command_frame.specs.Files.{TellsInstance, TellsCertificate}
 use Rattle.command_frame.specs.Outputs.{long_output_line, KeepsAllBut, Opens}
-use Rattle.command_check.specs.Checking.{BoundsEveryPlan, AnswersCheck}
-use Rattle.command_check.specs.Accepting.{IsCheckable}
+use Rattle.command_answers.specs.Check.{BoundsEveryPlan, AnswersCheck}
+use Rattle.command_answers.specs.Accepting.{IsCheckable}
 
 -- ---- the report
 

@@ -6,7 +6,7 @@ ghost use Rattle.command_rebound.specs.Made.{IsMade};
 
 use band_rebound::{Rebounded, rebound};
 use branch_certificate::{Bound, Certificate};
-use command_check::valid_is_accepted;
+use command_answers::valid_is_accepted;
 use command_frame::{Text, push_bound_line, push_numbered, push_rounded};
 use instance_model::Instance;
 use std::alloc::{AllocError, Global};

@@ -10,7 +10,7 @@ use Rattle.lagrange_bound.specs.Goals.{risk_base, risk_value}
 use Rattle.branch_tree.specs.Validity.{IsValid}
 use Rattle.branch_search.specs.declared.tree_end.TreeEnd.{TreeEnd}
 use Rattle.branch_search.specs.Searched.{IsSearched}
-use Rattle.command_check.specs.Checking.{BoundsEveryPlan}
+use Rattle.command_answers.specs.Check.{BoundsEveryPlan}
 use Rattle.descent_ends.specs.Ends.{end_of, IsTrail, IsGiven}
 use Rattle.descent_ends.specs.Turns.{split_count}
 use Rattle.command_rehearse.specs.declared.summary.Summary.{Summary}

@@ -1,4 +1,3 @@
-pub mod AuditableLemmas
 pub mod SolutionLemmas
 pub mod ReadingLemmas
 pub mod RepairRun

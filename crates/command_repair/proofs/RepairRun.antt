@@ -34,10 +34,11 @@ use Rattle.command_frame.specs.Outputs.{holding, OpensSearched}
 use Rattle.command_frame.proofs.HoldLemmas.{IsNoneOf, named_output, named_after, others_after, held_after}
 use Rattle.command_frame.proofs.HoldLemmas.{held_alike, others_stopped}
 use Rattle.command_frame.proofs.OutputLemmas.{same_holding}
-use Rattle.command_audit.specs.Auditing.{AreKeptStarts, BoundsEveryRepair, audited_report, AnswersAudit}
+use Rattle.command_answers.specs.Audit.{AreKeptStarts, BoundsEveryRepair, audited_report, AnswersAudit}
 use Rattle.descent_ends.specs.Turns.{AreEnough}
 use Rattle.descent_ends.specs.Openings.{IsWithoutStart, empty_certificate}
-use Rattle.command_repair.specs.Repairing.{RepairFiles, AreDistinct, cert_write, out_write, IsAuditable, Repairs}
+use Rattle.command_repair.specs.Repairing.{RepairFiles, AreDistinct, cert_write, out_write, Repairs}
+use Rattle.command_answers.specs.Accepting.{IsAuditable}
 use Rattle.command_repair.specs.Repairing.{AnswersRepair, DueRepair, ReadsRepair, BehindRepair, TellsRepair}
 use Rattle.command_repair.specs.Repairing.{ExpectsRepair, KeepsOthers, RunsRepair}
 use Rattle.command_repair.specs.Repairing.Repairs.{repaired, nothing, none, no_start}

@@ -25,9 +25,11 @@ use Rattle.command_frame.specs.Writing.{IsWritablePlan}
 use Rattle.command_frame.proofs.PlanWrites.{writable_plan, spelled_plan}
 use Rattle.fewest_changes.specs.declared.repairing.Repair.{Repair}
 use Rattle.fewest_changes.specs.Repaired.{IsRepairOf, ComesTo, IsMadeRepair}
-use Rattle.command_repair.specs.Repairing.{RepairFiles, none_report, cert_write, IsAuditable, IsReadable, Repairs}
+use Rattle.command_repair.specs.Repairing.{RepairFiles, none_report, cert_write, IsReadable, Repairs}
+use Rattle.command_answers.specs.Accepting.{IsAuditable}
 use Rattle.command_repair.specs.Repairing.Repairs.{repaired, nothing, none, no_start}
-use Rattle.command_repair.specs.Made.{IsShortValid, CanReport, IsReportOf, out_writes, IsSolution}
+use Rattle.command_repair.specs.Made.{CanReport, IsReportOf, out_writes, IsSolution}
+use Rattle.command_answers.specs.Accepting.{IsShortValidFor}
 
 -- an answer with this status and text
 spoken : (inst : Tables) (old : List (Option ℕ)) (files : RepairFiles) (turns : ℕ) (writes : List Writing)
@@ -81,7 +83,7 @@ module _ (inst : Tables) (old : List (Option ℕ)) (turns : ℕ) (few : turns �
       subst (All (λ (list : PriceList). length list.ex ≤ 400)) (sym made.found.lists)
       (All-nil (λ (list : PriceList). length list.ex ≤ 400))
 
-  pub short_valid : TextsFitFiles → IsShortValid inst old cert
+  pub short_valid : TextsFitFiles → IsShortValidFor inst old cert
   short_valid short = record {
     in_range = is.in_range;
     valid = is.valid;
@@ -144,7 +146,7 @@ module _ (inst : Tables) (old : List (Option ℕ)) (i : ℕ) (without : IsWithou
     tree = (leaf (Empty i), record { order = refl; in_range = without.number });
   }
 
-  pub empty_is_good : TextsFitFiles → IsFitting inst → IsShortValid inst old (empty_certificate i)
+  pub empty_is_good : TextsFitFiles → IsFitting inst → IsShortValidFor inst old (empty_certificate i)
   empty_is_good law fit = record {
     in_range = empty_in_range;
     valid = record {

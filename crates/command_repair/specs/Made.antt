@@ -19,24 +19,12 @@ use Rattle.command_frame.specs.Ending.{Writing, Answer}
 use Rattle.command_frame.specs.Files.{ReadsInstance, ReadsPlan}
 use Rattle.command_frame.specs.Refusals.{IsReport, SaysOrFails, IsInstanceCause, IsPlanCause}
 use Rattle.command_frame.specs.Writing.{IsWritablePlan, TellsAnswer}
-use Rattle.command_audit.specs.Auditing.{IsValidFor, least_line}
+use Rattle.command_answers.specs.Audit.{IsValidFor, least_line}
 use Rattle.command_repair.specs.declared.solution.Solution.{Solution}
 use Rattle.command_repair.specs.declared.repair.RepairFiles.{RepairFiles as RepairNames}
 use Rattle.command_repair.specs.Repairing.{RepairFiles, counts_text, repaired_report, nothing_report, none_report}
-use Rattle.command_repair.specs.Repairing.{cert_write, out_write, IsAuditable, Repairs}
-
--- ---- certificates
-
--- a valid certificate whose text is within the limit of certificate files
-pub record IsShortValid (inst : Tables) (old : List (Option ℕ)) (cert : Certificate) : Type 0 where
-  pub in_range : IsInRange inst cert
-  pub valid : IsValidFor inst old cert
-  pub short : length (certificate_text inst cert) ≤ standard_limits.certificate_bytes
-
--- `audit` accepts each of those and its text
-abbrev pub ShortValidIsAuditable : Tables → List (Option ℕ) → Type 0
-ShortValidIsAuditable inst old = (cert : Certificate) → IsShortValid inst old cert
-    → IsAuditable standard_limits inst old cert
+use Rattle.command_repair.specs.Repairing.{cert_write, out_write, Repairs}
+use Rattle.command_answers.specs.Accepting.{IsAuditable}
 
 -- ---- the report
 

@@ -24,8 +24,8 @@ use Rattle.command_frame.specs.Files.{Meeting, reading, by_bytes, OnInstance, On
 use Rattle.command_frame.specs.Files.{ReadsPlan, SaysUnread, SaysRefusal, TellsMissing, TellsBytes, TellsInstance}
 use Rattle.command_frame.specs.Files.{TellsPlan}
 use Rattle.command_frame.specs.Outputs.{holding, OpensSearched}
-use Rattle.command_audit.specs.Auditing.{AreKeptStarts, BoundsEveryRepair, least_line, audited_report, Audits}
-use Rattle.command_audit.specs.Auditing.{AnswersAudit}
+use Rattle.command_answers.specs.Audit.{AreKeptStarts, BoundsEveryRepair, least_line, audited_report, Audits}
+use Rattle.command_answers.specs.Audit.{AnswersAudit}
 use Rattle.descent_ends.specs.Turns.{split_count, AreEnough}
 use Rattle.descent_ends.specs.Openings.{IsWithoutStart, empty_certificate}
 use Rattle.fewest_changes.specs.Repaired.{IsRepairOf, IsRepaired, IsNothing}
@@ -76,14 +76,6 @@ abbrev pub out_write : Tables → RepairFiles → List ℕ → Writing
 out_write inst files plan = record { word = 5; file = record { name = files.out; bytes = plan_text inst.names plan } }
 
 -- ---- what holds of every certificate and plan that is written
-
--- `audit` accepts the text of the certificate for this instance and plan; the certificate is in range, and its bound
--- holds for every plan
-pub record IsAuditable (limits : Limits) (inst : Tables) (old : List (Option ℕ)) (cert : Certificate) : Type 0 where
-  pub in_range : IsInRange inst cert
-  pub accepted : OnCertificate limits inst by_bytes 4 (certificate_text inst cert) (Audits inst old)
-      (reply 0 (audited_report inst cert.bound))
-  pub bounds : BoundsEveryRepair inst old cert.bound
 
 -- the plan keeps the rules, and its text spells it
 pub record IsReadable (limits : Limits) (inst : Tables) (plan : List ℕ) : Type 0 where

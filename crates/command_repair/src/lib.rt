@@ -4,7 +4,6 @@
 //! `RunsRepair` states what a run promises, by what the desk shows before and after it.
 #![tactic(auto)]
 
-mod checking;
 mod repair;
 mod report;
 mod solution;

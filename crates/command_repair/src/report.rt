@@ -5,7 +5,7 @@ ghost use Rattle.command_repair.specs.Repairing.{counts_text, repaired_report, n
 ghost use Rattle.command_repair.specs.Made.{repaired_text};
 
 use branch_certificate::{Bound, Certificate};
-use command_audit::push_least;
+use command_answers::push_least;
 use command_frame::{Text, push_numbered, push_rounded};
 use descent_ends::split_count;
 use instance_model::Instance;

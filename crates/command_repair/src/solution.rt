@@ -5,10 +5,10 @@ ghost use Rattle.descent_ends.specs.Openings.{IsWithoutStart};
 ghost use Rattle.fewest_changes.specs.Openings.{IsKeptOpening};
 ghost use Rattle.command_repair.specs.Made.{CanReport, IsReportOf, IsSolution};
 
-use crate::checking::valid_is_audited;
 use crate::report::{none_text, nothing_text, repaired_text};
 use branch_certificate::{Bound, Certificate};
 use certificate_text::texts_are_short;
+use command_answers::valid_is_audited;
 use command_frame::Report;
 use descent_ends::empty_certificate;
 use fewest_changes::{Opening, Repair, make_repair, opening_of};

@@ -7,8 +7,8 @@ use Rattle.instance_model.proofs.RuleLemmas.{KeepsRules-from}
 use Rattle.plan_text.specs.Spelling.{plan_text}
 use Rattle.branch_search.specs.Best.{IsFeasiblePlan}
 use Rattle.command_frame.specs.Files.OnFile.{stands}
-use Rattle.command_evaluate.specs.Evaluating.{EnclosesEveryReading}
-use Rattle.command_evaluate.specs.Evaluating.Judges.{feasible}
+use Rattle.command_answers.specs.Evaluate.{EnclosesEveryReading}
+use Rattle.command_answers.specs.Evaluate.Judges.{feasible}
 use Rattle.command_solve.specs.Solving.{IsEvaluable}
 use Rattle.command_frame.proofs.PlanWrites.{writable_plan, spelled_plan}
 

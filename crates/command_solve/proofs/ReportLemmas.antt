@@ -11,7 +11,7 @@ use Rattle.plan_moves.specs.declared.change.Change.{Change}
 use Rattle.branch_tree.specs.declared.certificate.Certificate.{Certificate}
 use Rattle.instance_model.specs.Values.{score_of}
 use Rattle.command_frame.specs.Reports.{score_line, bound_line, gap_line, ranges_text}
-use Rattle.command_evaluate.specs.Evaluating.{EnclosesEveryReading}
+use Rattle.command_answers.specs.Evaluate.{EnclosesEveryReading}
 use Rattle.command_solve.specs.Solving.{counts_text, found_report}
 use Rattle.command_solve.specs.Made.{values_report, ReportsPlan}
 

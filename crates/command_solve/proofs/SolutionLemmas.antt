@@ -25,11 +25,11 @@ use Rattle.certificate_text.specs.Laws.{TextsFitFiles}
 use Rattle.branch_search.specs.declared.tree_end.TreeEnd.{TreeEnd}
 use Rattle.command_frame.specs.declared.report.Report.{Report}
 use Rattle.command_frame.specs.Ending.{Writing}
-use Rattle.command_check.proofs.CheckRun.{best_plan}
+use Rattle.command_answers.proofs.BoundLemmas.{best_plan}
 use Rattle.descent_ends.specs.Openings.{IsWithoutStart, empty_certificate}
 use Rattle.command_solve.specs.Solving.{SolveFiles, none_report, cert_write, trail_write, IsReplayable, IsFound, Solves}
 use Rattle.command_solve.specs.Solving.Solves.{found, nothing, none, no_start}
-use Rattle.command_check.specs.Accepting.{IsShortValid, IsAcceptable}
+use Rattle.command_answers.specs.Accepting.{IsShortValid, IsAcceptable}
 use Rattle.command_solve.specs.Made.{AreWritable, IsMade, CanReport, IsReportOf}
 use Rattle.command_solve.specs.Made.{plan_writes, IsSolution}
 use Rattle.command_frame.specs.Writing.{IsWritablePlan}

@@ -37,8 +37,8 @@ use Rattle.command_frame.specs.Outputs.{holding, OpensSearched}
 use Rattle.command_frame.proofs.HoldLemmas.{IsNoneOf, named_output, named_after, others_after, held_after}
 use Rattle.command_frame.proofs.HoldLemmas.{held_alike, others_stopped}
 use Rattle.command_frame.proofs.OutputLemmas.{same_holding}
-use Rattle.command_check.specs.Checking.{IsKeptPlan, BoundsEveryPlan, AnswersCheck}
-use Rattle.command_check.specs.Accepting.{IsCheckable}
+use Rattle.command_answers.specs.Check.{IsKeptPlan, BoundsEveryPlan, AnswersCheck}
+use Rattle.command_answers.specs.Accepting.{IsCheckable}
 use Rattle.descent_ends.specs.Turns.{AreEnough}
 use Rattle.descent_ends.specs.Openings.{IsWithoutStart, empty_certificate}
 use Rattle.command_solve.specs.Solving.{SolveFiles, AreDistinct, cert_write, trail_write, plan_write}

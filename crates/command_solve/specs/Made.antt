@@ -20,8 +20,8 @@ use Rattle.command_frame.specs.Lines.{memory_line}
 use Rattle.command_frame.specs.Ending.{Writing, Answer}
 use Rattle.command_frame.specs.Refusals.{IsReport, SaysOrFails}
 use Rattle.command_frame.specs.Writing.{IsWritablePlan, TellsAnswer}
-use Rattle.command_evaluate.specs.Evaluating.{EnclosesEveryReading}
-use Rattle.command_check.specs.Accepting.{IsShortValid}
+use Rattle.command_answers.specs.Evaluate.{EnclosesEveryReading}
+use Rattle.command_answers.specs.Accepting.{IsShortValid}
 use Rattle.command_solve.specs.declared.solution.Solution.{Solution}
 use Rattle.command_solve.specs.declared.solve.SolveFiles.{SolveFiles as SolveNames}
 use Rattle.descent_ends.specs.Turns.{AreEnough}

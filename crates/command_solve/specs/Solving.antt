@@ -28,9 +28,9 @@ use Rattle.command_frame.specs.Bytes.{RefusesInstance, IsRefusedInstance}
 use Rattle.command_frame.specs.Files.{Meeting, reading, by_bytes, OnInstance, OnPlan, ReadsInstance}
 use Rattle.command_frame.specs.Files.{SaysUnread, SaysRefusal, TellsMissing, TellsBytes, TellsInstance}
 use Rattle.command_frame.specs.Outputs.{holding, OpensSearched}
-use Rattle.command_evaluate.specs.Evaluating.{Judges, AnswersEvaluate}
-use Rattle.command_check.specs.Checking.{IsKeptPlan, BoundsEveryPlan, IsBest, AnswersCheck}
-use Rattle.command_check.specs.Accepting.{IsCheckable}
+use Rattle.command_answers.specs.Evaluate.{Judges, AnswersEvaluate}
+use Rattle.command_answers.specs.Check.{IsKeptPlan, BoundsEveryPlan, IsBest, AnswersCheck}
+use Rattle.command_answers.specs.Accepting.{IsCheckable}
 use Rattle.descent_ends.specs.Openings.{IsWithoutStart, empty_certificate}
 use Rattle.descent_ends.specs.Turns.{split_count, AreEnough}
 use Rattle.command_solve.specs.Solved.{IsSolved, IsNothing, IsNone}

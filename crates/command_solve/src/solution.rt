@@ -11,7 +11,7 @@ use crate::report::{found_text, none_text, nothing_text};
 use branch_certificate::{Bound, Certificate};
 use branch_search::TreeEnd;
 use certificate_text::texts_are_short;
-use command_check::valid_is_accepted;
+use command_answers::valid_is_accepted;
 use command_frame::Report;
 use descent_ends::{Opening, empty_certificate, opening_of};
 use instance_model::{Instance, Starts, plan_of};

@@ -5,8 +5,9 @@ use Rattle.instance_model.specs.Limits.{standard_limits}
 use Rattle.command_frame.specs.Sources.{Source}
 use Rattle.command_frame.specs.Ending.{Answer, IsOneOf, NoFault}
 use Rattle.command_frame.specs.Files.{by_bytes, OnPlan, OnCertificate}
-use Rattle.command_audit.specs.Auditing.{AuditedFiles, TellsAudited, Audits, AnswersAudit, RunsAudit}
-use Rattle.command_audit.specs.Auditing.Audits.{accepted, failing_leaf}
+use Rattle.command_audit.specs.Auditing.{AuditedFiles, TellsAudited, RunsAudit}
+use Rattle.command_answers.specs.Audit.{Audits, AnswersAudit}
+use Rattle.command_answers.specs.Audit.Audits.{accepted, failing_leaf}
 use Rattle.command_frame.specs.Completing.{Completes}
 use Rattle.command_frame.proofs.CompleteReads.{told_instance, told_plan, told_certificate, on_instance, on_plan}
 use Rattle.command_frame.proofs.CompleteReads.{on_certificate}

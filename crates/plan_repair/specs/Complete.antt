@@ -9,7 +9,8 @@ use Rattle.plan_desk.specs.Desk.{Shown}
 use Rattle.instance_model.specs.Limits.{standard_limits}
 use Rattle.instance_model.specs.Tables.{Tables}
 use Rattle.command_frame.specs.Sources.{Source}
-use Rattle.command_audit.specs.Auditing.{AuditedFiles, TellsAudited, Audits}
+use Rattle.command_audit.specs.Auditing.{AuditedFiles, TellsAudited}
+use Rattle.command_answers.specs.Audit.{Audits}
 use Rattle.descent_ends.specs.Turns.{AreEnough}
 use Rattle.command_repair.specs.Repairing.{RepairFiles, TellsRepair, Repairs}
 use Rattle.command_frame.specs.Completing.{Completes}

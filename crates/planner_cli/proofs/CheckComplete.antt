@@ -5,8 +5,9 @@ use Rattle.instance_model.specs.Limits.{standard_limits}
 use Rattle.command_frame.specs.Sources.{Source}
 use Rattle.command_frame.specs.Ending.{Answer, IsOneOf, NoFault}
 use Rattle.command_frame.specs.Files.{by_bytes, OnGiven, OnCertificate}
-use Rattle.command_check.specs.Checking.{CheckedPlan, TellsChecked, Checks, AnswersCheck, RunsCheck}
-use Rattle.command_check.specs.Checking.Checks.{broken_plan, failing_leaf, accepted}
+use Rattle.command_check.specs.Checking.{CheckedPlan, TellsChecked, RunsCheck}
+use Rattle.command_answers.specs.Check.{Checks, AnswersCheck}
+use Rattle.command_answers.specs.Check.Checks.{broken_plan, failing_leaf, accepted}
 use Rattle.command_frame.specs.Completing.{Completes}
 use Rattle.command_frame.proofs.CompleteReads.{told_instance, told_given, told_certificate, on_instance, on_given}
 use Rattle.command_frame.proofs.CompleteReads.{on_certificate}

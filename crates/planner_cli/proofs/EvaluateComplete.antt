@@ -6,8 +6,9 @@ use Rattle.instance_model.specs.Tables.{Tables}
 use Rattle.command_frame.specs.Sources.{Source}
 use Rattle.command_frame.specs.Ending.{Answer, IsOneOf, NoFault}
 use Rattle.command_frame.specs.Files.{by_bytes, OnPlan, TellsInstance, TellsPlan}
-use Rattle.command_evaluate.specs.Evaluating.{Judges, AnswersEvaluate, RunsEvaluate}
-use Rattle.command_evaluate.specs.Evaluating.Judges.{feasible, infeasible}
+use Rattle.command_evaluate.specs.Evaluating.{RunsEvaluate}
+use Rattle.command_answers.specs.Evaluate.{Judges, AnswersEvaluate}
+use Rattle.command_answers.specs.Evaluate.Judges.{feasible, infeasible}
 use Rattle.command_frame.specs.Completing.{Completes}
 use Rattle.command_frame.proofs.CompleteReads.{told_instance, told_plan, on_instance, on_plan}
 use Rattle.command_frame.proofs.CompleteLemmas.{completes}

@@ -12,9 +12,10 @@ use Rattle.branch_tree.specs.declared.certificate.Certificate.{Certificate}
 use Rattle.instance_gen.specs.Drawn.{drawn_tables}
 use Rattle.command_frame.specs.Sources.{Source}
 use Rattle.command_frame.specs.Files.{TellsInstance, TellsPlan, TellsCertificate}
-use Rattle.command_evaluate.specs.Evaluating.{Judges}
+use Rattle.command_answers.specs.Evaluate.{Judges}
 use Rattle.command_replay.specs.Replaying.{ScriptedPlan, TellsScripted, Replays}
-use Rattle.command_check.specs.Checking.{CheckedPlan, TellsChecked, Checks}
+use Rattle.command_check.specs.Checking.{CheckedPlan, TellsChecked}
+use Rattle.command_answers.specs.Check.{Checks}
 use Rattle.descent_ends.specs.Turns.{AreEnough}
 use Rattle.command_solve.specs.Solving.{SolveFiles, Solves}
 use Rattle.command_table.specs.Tabling.{Tabulates}

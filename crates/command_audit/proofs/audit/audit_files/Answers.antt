@@ -3,7 +3,8 @@ use Rattle.std.proofs.Common.{subst}
 use Rattle.instance_model.specs.declared.limits.Limits.{Limits}
 use Rattle.command_frame.specs.Sources.{source_view}
 use Rattle.command_frame.specs.Files.{reading}
-use Rattle.command_audit.specs.Auditing.{AnswersAudit, RunsAudit}
+use Rattle.command_audit.specs.Auditing.{RunsAudit}
+use Rattle.command_answers.specs.Audit.{AnswersAudit}
 use Rattle.command_frame.proofs.EndLemmas.{reads_keep, report_ends}
 use Rattle.command_audit.proofs.AuditRun.{audit_stays, audit_runs}
 use Rattle.command_audit.proofs.audit.audit_files.Goals as goal

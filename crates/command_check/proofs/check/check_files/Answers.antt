@@ -4,7 +4,8 @@ use Rattle.std.proofs.Common.{subst}
 use Rattle.instance_model.specs.declared.limits.Limits.{Limits}
 use Rattle.command_frame.specs.Sources.{source_view}
 use Rattle.command_frame.specs.Files.{reading}
-use Rattle.command_check.specs.Checking.{AnswersCheck, RunsCheck}
+use Rattle.command_check.specs.Checking.{RunsCheck}
+use Rattle.command_answers.specs.Check.{AnswersCheck}
 use Rattle.command_frame.proofs.EndLemmas.{reads_keep, report_ends}
 use Rattle.command_check.proofs.CheckRun.{check_stays, check_runs}
 use Rattle.command_check.proofs.check.check_files.Goals as goal

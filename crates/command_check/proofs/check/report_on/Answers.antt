@@ -1,6 +1,6 @@
 use Rattle.std.proofs.lemmas.Result.{IfOk-weaker}
 use Rattle.command_frame.specs.Ending.{reply}
-use Rattle.command_check.specs.Checking.{Checks}
+use Rattle.command_answers.specs.Check.{Checks}
 use Rattle.command_check.specs.Standing.{ChecksFor}
 use Rattle.command_check.proofs.CheckLemmas.{broken_names, broken_checks, kept_checks, kept_small}
 use Rattle.command_check.proofs.check.report_on.Goals as goal

@@ -3,7 +3,7 @@ use Rattle.std.proofs.lemmas.Result.{err_from_is_err_and}
 use Rattle.command_frame.specs.Sources.{source_view}
 use Rattle.command_frame.specs.Ending.{reply}
 use Rattle.command_frame.specs.Files.{reading, OnPlan}
-use Rattle.command_evaluate.specs.Evaluating.{Judges}
+use Rattle.command_answers.specs.Evaluate.{Judges}
 use Rattle.command_frame.proofs.FileLemmas.{is_read}
 use Rattle.command_frame.proofs.ReadLemmas.{kept_before, refuses_instance, refuses_plan}
 use Rattle.command_evaluate.proofs.EvaluateLemmas.{evaluate_judges}

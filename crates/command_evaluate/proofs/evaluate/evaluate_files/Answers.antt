@@ -3,7 +3,8 @@ use Rattle.std.proofs.Common.{subst}
 use Rattle.instance_model.specs.declared.limits.Limits.{Limits}
 use Rattle.command_frame.specs.Sources.{source_view}
 use Rattle.command_frame.specs.Files.{reading}
-use Rattle.command_evaluate.specs.Evaluating.{AnswersEvaluate, RunsEvaluate}
+use Rattle.command_evaluate.specs.Evaluating.{RunsEvaluate}
+use Rattle.command_answers.specs.Evaluate.{AnswersEvaluate}
 use Rattle.command_frame.proofs.EndLemmas.{reads_keep, report_ends}
 use Rattle.command_evaluate.proofs.EvaluateRun.{evaluate_stays, evaluate_runs}
 use Rattle.command_evaluate.proofs.evaluate.evaluate_files.Goals as goal

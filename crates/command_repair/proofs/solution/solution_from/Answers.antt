@@ -1,5 +1,5 @@
 use Rattle.std.proofs.Common.{List, Option, ℕ, subst}
-use Rattle.command_repair.specs.Made.{ShortValidIsAuditable}
+use Rattle.command_answers.specs.Accepting.{ShortValidIsAuditable}
 use Rattle.command_repair.proofs.SolutionLemmas.{short_valid, can_report, is_solution}
 use Rattle.command_repair.proofs.solution.solution_from.Goals as goal
 

@@ -1,5 +1,5 @@
-use Rattle.command_repair.proofs.AuditableLemmas.{auditable}
-use Rattle.command_repair.proofs.checking.valid_is_audited.Goals as goal
+use Rattle.command_answers.proofs.AuditableLemmas.{auditable}
+use Rattle.command_answers.proofs.laws.valid_is_audited.Goals as goal
 
 pub returns : goal.returns
 returns c =

@@ -1,5 +1,5 @@
 -- `audit` accepts each valid certificate whose text is short.
-use Rattle.std.proofs.Common.{◌≡◌, ℕ, List, Option, refl, sym}
+use Rattle.std.proofs.Common.{◌≡◌, ℕ, List, Option, refl}
 use Rattle.instance_model.specs.Limits.{standard_limits}
 use Rattle.instance_model.specs.Tables.{Tables}
 use Rattle.instance_model.specs.Fitting.{IsFitting}
@@ -9,43 +9,16 @@ use Rattle.certificate_check.specs.declared.verdict.CertVerdict.TheVariants.{Val
 use Rattle.certificate_check.proofs.VerdictLemmas.{one_verdict}
 use Rattle.certificate_text.specs.Text.{certificate_text}
 use Rattle.certificate_text.specs.Laws.{TextsTell}
-use Rattle.branch_certificate.specs.declared.fault.CertFault.{CertFault}
-use Rattle.branch_certificate.specs.declared.fault.CertFault.TheVariants.{Cut, BadLine, Bounds, Memory}
-use Rattle.branch_certificate.specs.Faults.{HasCertFault}
-use Rattle.branch_certificate.proofs.CompleteLemmas.{no_fault}
 use Rattle.plan_changes.specs.Changes.{change_base, change_value, BoundsCountChanges}
-use Rattle.command_frame.specs.Bytes.{SpellsOne}
 use Rattle.command_frame.specs.Files.OnFile.{stands}
-use Rattle.command_audit.specs.Auditing.{FailsFirstFor, IsAudited}
-use Rattle.command_audit.specs.Auditing.Audits.{accepted}
-use Rattle.command_audit.proofs.AuditLemmas.{bounds_every_repair}
-use Rattle.command_repair.specs.Made.{IsShortValid, ShortValidIsAuditable}
+use Rattle.command_answers.specs.Audit.{FailsFirstFor, IsAudited}
+use Rattle.command_answers.specs.Audit.Audits.{accepted}
+use Rattle.command_answers.proofs.BoundLemmas.{bounds_every_repair}
+use Rattle.command_answers.proofs.TextLemmas.{spells}
+use Rattle.command_answers.specs.Accepting.{IsShortValidFor, ShortValidIsAuditable}
 
 module _ (inst : Tables) (fit : IsFitting inst) (old : List (Option ℕ)) (cert : Certificate)
-    (good : IsShortValid inst old cert) where
-  -- the text has no fault
-  sound : (fault : CertFault) → HasCertFault inst (certificate_text inst cert) fault → ⊥
-  sound (Cut n) has = never (no_fault inst cert (certificate_text inst cert) (Cut n) fit good.in_range refl has)
-    where
-      never : Cut n ≡ Memory → ⊥
-      never e = cc
-  sound (BadLine n) has = never (no_fault inst cert (certificate_text inst cert) (BadLine n) fit good.in_range refl has)
-    where
-      never : BadLine n ≡ Memory → ⊥
-      never e = cc
-  sound (Bounds n) has = never (no_fault inst cert (certificate_text inst cert) (Bounds n) fit good.in_range refl has)
-    where
-      never : Bounds n ≡ Memory → ⊥
-      never e = cc
-  sound Memory has = has
-
-  spells : TextsTell → SpellsOne standard_limits inst (certificate_text inst cert) cert
-  spells tell = record {
-    spells = record { within = good.short; text_of = record { in_range = good.in_range; text = refl } };
-    only = λ other also. tell inst other cert fit also.in_range good.in_range (sym also.text);
-    sound = sound;
-  }
-
+    (good : IsShortValidFor inst old cert) where
   none_fails : NodesAreOneTree → (n : ℕ) → FailsFirstFor inst old cert n → ⊥
   none_fails law n first =
       never (one_verdict law (change_base old) (change_value old) inst cert Valid (LeafFails n) good.valid first)
@@ -65,8 +38,9 @@ pub auditable : (inst : Tables) (old : List (Option ℕ)) → IsFitting inst →
     → ValidBoundsPlans (change_base old) (change_value old) → BoundsCountChanges → ShortValidIsAuditable inst old
 auditable inst old fit one tell law counts cert good =
     let all = is_audited inst fit old cert good one law counts in
+    let text = spells standard_limits inst fit cert good.in_range good.short tell in
     record {
       in_range = good.in_range;
-      accepted = stands (certificate_text inst cert) cert _ refl (spells inst fit old cert good tell) (accepted all);
+      accepted = stands (certificate_text inst cert) cert _ refl text (accepted all);
       bounds = all.bounds;
     }

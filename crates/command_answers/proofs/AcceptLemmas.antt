@@ -1,5 +1,5 @@
 -- `check` accepts each valid certificate whose text is short.
-use Rattle.std.proofs.Common.{◌≡◌, ℕ, refl, sym, None}
+use Rattle.std.proofs.Common.{◌≡◌, ℕ, refl, None}
 use Rattle.instance_model.specs.declared.limits.Limits.{Limits}
 use Rattle.instance_model.specs.Tables.{Tables}
 use Rattle.instance_model.specs.Fitting.{IsFitting}
@@ -12,42 +12,15 @@ use Rattle.certificate_check.specs.declared.verdict.CertVerdict.TheVariants.{Val
 use Rattle.certificate_check.proofs.VerdictLemmas.{one_verdict}
 use Rattle.certificate_text.specs.Text.{certificate_text}
 use Rattle.certificate_text.specs.Laws.{TextsTell}
-use Rattle.branch_certificate.specs.declared.fault.CertFault.{CertFault}
-use Rattle.branch_certificate.specs.declared.fault.CertFault.TheVariants.{Cut, BadLine, Bounds, Memory}
-use Rattle.branch_certificate.specs.Faults.{HasCertFault}
-use Rattle.branch_certificate.proofs.CompleteLemmas.{no_fault}
-use Rattle.command_frame.specs.Bytes.{SpellsOne}
 use Rattle.command_frame.specs.Files.OnFile.{stands}
-use Rattle.command_check.specs.Checking.{IsAccepted}
-use Rattle.command_check.specs.Checking.Checks.{accepted}
-use Rattle.command_check.proofs.CheckLemmas.{bounds_every}
-use Rattle.command_check.specs.Accepting.{IsShortValid, ShortValidIsAcceptable}
+use Rattle.command_answers.specs.Check.{IsAccepted}
+use Rattle.command_answers.specs.Check.Checks.{accepted}
+use Rattle.command_answers.proofs.BoundLemmas.{bounds_every}
+use Rattle.command_answers.proofs.TextLemmas.{spells}
+use Rattle.command_answers.specs.Accepting.{IsShortValid, ShortValidIsAcceptable}
 
 module _ (limits : Limits) (inst : Tables) (fit : IsFitting inst) (cert : Certificate)
     (good : IsShortValid limits inst cert) where
-  -- the text has no fault
-  sound : (fault : CertFault) → HasCertFault inst (certificate_text inst cert) fault → ⊥
-  sound (Cut n) has = never (no_fault inst cert (certificate_text inst cert) (Cut n) fit good.in_range refl has)
-    where
-      never : Cut n ≡ Memory → ⊥
-      never e = cc
-  sound (BadLine n) has = never (no_fault inst cert (certificate_text inst cert) (BadLine n) fit good.in_range refl has)
-    where
-      never : BadLine n ≡ Memory → ⊥
-      never e = cc
-  sound (Bounds n) has = never (no_fault inst cert (certificate_text inst cert) (Bounds n) fit good.in_range refl has)
-    where
-      never : Bounds n ≡ Memory → ⊥
-      never e = cc
-  sound Memory has = has
-
-  spells : TextsTell → SpellsOne limits inst (certificate_text inst cert) cert
-  spells tell = record {
-    spells = record { within = good.short; text_of = record { in_range = good.in_range; text = refl } };
-    only = λ other also. tell inst other cert fit also.in_range good.in_range (sym also.text);
-    sound = sound;
-  }
-
   none_fails : NodesAreOneTree → (n : ℕ) → IsFirstFailing risk_base risk_value inst cert n → ⊥
   none_fails law n first = never (one_verdict law risk_base risk_value inst cert Valid (LeafFails n) good.valid first)
     where
@@ -68,11 +41,11 @@ pub acceptable : (inst : Tables) → IsFitting inst → CostIsJustAboveScore ins
     → ValidBoundsPlans risk_base risk_value → ShortValidIsAcceptable inst
 acceptable inst fit costs one tell law limits cert good =
     let all = is_accepted limits inst fit cert good costs one law in
+    let text = spells limits inst fit cert good.in_range good.short tell in
     record {
       checkable = record {
         in_range = good.in_range;
-        accepted = stands (certificate_text inst cert) cert _ refl (spells limits inst fit cert good tell) (accepted
-            all);
+        accepted = stands (certificate_text inst cert) cert _ refl text (accepted all);
         bounds = all.bounds;
       };
       accepted = all;

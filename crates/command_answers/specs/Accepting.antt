@@ -1,6 +1,7 @@
--- Certificates that `check` without a plan accepts.
-use Rattle.std.specs.Prelude.{◌≤◌, length, None}
+-- Certificates that `check` without a plan accepts, and those that `audit` does.
+use Rattle.std.specs.Prelude.{ℕ, ◌≤◌, List, length, Option, None}
 use Rattle.instance_model.specs.declared.limits.Limits.{Limits}
+use Rattle.instance_model.specs.Limits.{standard_limits}
 use Rattle.instance_model.specs.Tables.{Tables}
 use Rattle.lagrange_bound.specs.Goals.{risk_base, risk_value}
 use Rattle.branch_tree.specs.declared.certificate.Certificate.{Certificate}
@@ -10,7 +11,10 @@ use Rattle.certificate_text.specs.Text.{certificate_text}
 use Rattle.command_frame.specs.Reports.{accepted_report}
 use Rattle.command_frame.specs.Ending.{reply}
 use Rattle.command_frame.specs.Files.{by_bytes, OnCertificate}
-use Rattle.command_check.specs.Checking.{BoundsEveryPlan, IsAccepted, Checks}
+use Rattle.command_answers.specs.Check.{BoundsEveryPlan, IsAccepted, Checks}
+use Rattle.command_answers.specs.Audit.{BoundsEveryRepair, IsValidFor, audited_report, Audits}
+
+-- ---- `check`
 
 -- `check` without a plan accepts the text of the certificate for this instance; the certificate is in range, and its
 -- bound holds for every plan
@@ -35,3 +39,24 @@ pub record IsAcceptable (limits : Limits) (inst : Tables) (cert : Certificate) :
 abbrev pub ShortValidIsAcceptable : Tables → Type 0
 ShortValidIsAcceptable inst =
     (limits : Limits) (cert : Certificate) → IsShortValid limits inst cert → IsAcceptable limits inst cert
+
+-- ---- `audit`
+
+-- `audit` accepts the text of the certificate for this instance and plan; the certificate is in range, and its bound
+-- holds for every plan
+pub record IsAuditable (limits : Limits) (inst : Tables) (old : List (Option ℕ)) (cert : Certificate) : Type 0 where
+  pub in_range : IsInRange inst cert
+  pub accepted : OnCertificate limits inst by_bytes 4 (certificate_text inst cert) (Audits inst old)
+      (reply 0 (audited_report inst cert.bound))
+  pub bounds : BoundsEveryRepair inst old cert.bound
+
+-- a valid certificate whose text is within the limit of certificate files
+pub record IsShortValidFor (inst : Tables) (old : List (Option ℕ)) (cert : Certificate) : Type 0 where
+  pub in_range : IsInRange inst cert
+  pub valid : IsValidFor inst old cert
+  pub short : length (certificate_text inst cert) ≤ standard_limits.certificate_bytes
+
+-- `audit` accepts each of those and its text
+abbrev pub ShortValidIsAuditable : Tables → List (Option ℕ) → Type 0
+ShortValidIsAuditable inst old = (cert : Certificate) → IsShortValidFor inst old cert
+    → IsAuditable standard_limits inst old cert

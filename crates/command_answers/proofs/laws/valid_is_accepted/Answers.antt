@@ -1,5 +1,5 @@
-use Rattle.command_check.proofs.AcceptLemmas.{acceptable}
-use Rattle.command_check.proofs.accepting.valid_is_accepted.Goals as goal
+use Rattle.command_answers.proofs.AcceptLemmas.{acceptable}
+use Rattle.command_answers.proofs.laws.valid_is_accepted.Goals as goal
 
 pub returns : goal.returns
 returns c =

@@ -1,0 +1,5 @@
+-- Why valid certificates are accepted.
+pub mod BoundLemmas
+pub mod TextLemmas
+pub mod AcceptLemmas
+pub mod AuditableLemmas
