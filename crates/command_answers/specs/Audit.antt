@@ -1,5 +1,5 @@
--- The answer of `audit` to an instance, a plan and a certificate, and what an accepted certificate says of the number of
--- changes from that plan.
+-- The answer of `audit` to an instance, a plan and a certificate, and what an accepted certificate says of the number
+-- of changes from that plan.
 use Rattle.std.specs.Prelude.{◌≡◌, ℕ, ◌≤◌, ℤ, List, length, map, ◌++◌, Option, Some, codes}
 use Rattle.instance_model.specs.declared.limits.Limits.{Limits}
 use Rattle.instance_model.specs.Tables.{Tables}

@@ -1,6 +1,6 @@
-//! The answers of `evaluate`, `check` and `audit` to the bytes of files, which other commands promise of what they write.
+//! The answers of `evaluate`, `check` and `audit` to the bytes of files.
 //!
-//! A command that writes a plan or a certificate says of the bytes what one of these three answers to them. So the
+//! A command that writes a plan or a certificate says of its bytes what one of these three answers to them. So the
 //! relations of files and answers stand here, below all commands, with the laws that valid certificates are accepted.
 #![tactic(auto)]
 

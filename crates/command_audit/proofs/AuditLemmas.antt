@@ -1,20 +1,17 @@
 -- What is answered on a certificate.
-use Rattle.std.proofs.Common.{◌≡◌, ℕ, ◌*◌, List, map, Option, Some, pos, ◌≤ℤ◌, sym, ◌∙◌, subst}
+use Rattle.std.proofs.Common.{◌≡◌, ℕ, List, Option, sym, ◌∙◌, subst}
 use Rattle.instance_model.specs.Tables.{Tables}
-use Rattle.instance_model.proofs.RuleLemmas.{IsFeasible-from}
-use Rattle.certificate_lines.specs.declared.line.Bound.{Bound}
 use Rattle.branch_tree.specs.declared.certificate.Certificate.{Certificate}
-use Rattle.branch_tree.specs.Holding.{IsAtLeast}
 use Rattle.branch_tree.specs.Validity.{BoundsPlans}
 use Rattle.certificate_check.specs.declared.verdict.CertVerdict.{CertVerdict}
 use Rattle.certificate_check.specs.declared.verdict.CertVerdict.TheVariants.{Valid, LeafFails}
 use Rattle.certificate_check.specs.Verdicts.{IsVerdict}
-use Rattle.plan_changes.specs.Changes.{changes_of, change_base, change_value, BoundsCountChanges}
+use Rattle.plan_changes.specs.Changes.{change_base, change_value, BoundsCountChanges}
 use Rattle.command_frame.specs.Lines.{failing_leaf_line}
 use Rattle.command_frame.specs.Ending.{reply}
-use Rattle.command_answers.specs.Audit.{BoundsEveryRepair, IsValidFor, FailsFirstFor, audited_report}
-use Rattle.command_answers.specs.Audit.{Audits}
+use Rattle.command_answers.specs.Audit.{IsValidFor, FailsFirstFor, audited_report, Audits}
 use Rattle.command_answers.specs.Audit.Audits.{accepted, failing_leaf}
+use Rattle.command_answers.proofs.BoundLemmas.{bounds_every_repair}
 
 -- the checker's verdict on a certificate
 pub record Verdict (inst : Tables) (old : List (Option ℕ)) (cert : Certificate) (verdict : CertVerdict) : Type 0 where

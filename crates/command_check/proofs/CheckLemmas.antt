@@ -6,17 +6,15 @@ use Rattle.instance_model.specs.Tables.{Tables}
 use Rattle.instance_model.specs.Plans.{RunsAreAllowed}
 use Rattle.instance_model.specs.Values.{score_of}
 use Rattle.instance_model.specs.Exact.{CostIsJustAboveScore}
-use Rattle.instance_model.specs.Rules.{first_rule, first_start_rule, IsFeasible}
+use Rattle.instance_model.specs.Rules.{first_rule, first_start_rule}
 use Rattle.instance_model.specs.declared.rule.Rule.{Rule}
-use Rattle.instance_model.proofs.RuleLemmas.{first_start_rule-none, KeepsRules-from, IsFeasible-from}
+use Rattle.instance_model.proofs.RuleLemmas.{KeepsRules-from, IsFeasible-from}
 use Rattle.instance_model.proofs.FirstLemmas.{or_else-none}
 use Rattle.instance_model.proofs.PlanLemmas.{RunsAreAllowed-from_none}
 use Rattle.plan_score.specs.Values.{values_of}
 use Rattle.plan_score.specs.declared.values.Values.{Values}
 use Rattle.lagrange_bound.specs.Goals.{risk_base, risk_value}
-use Rattle.certificate_lines.specs.declared.line.Bound.{Bound}
 use Rattle.branch_tree.specs.declared.certificate.Certificate.{Certificate}
-use Rattle.branch_tree.specs.Holding.{IsAtLeast}
 use Rattle.branch_tree.specs.Validity.{IsValid, IsFirstFailing, BoundsPlans}
 use Rattle.certificate_check.specs.declared.verdict.CertVerdict.{CertVerdict}
 use Rattle.certificate_check.specs.declared.verdict.CertVerdict.TheVariants.{Valid, LeafFails}
@@ -24,13 +22,13 @@ use Rattle.certificate_check.specs.Verdicts.{IsVerdict}
 use Rattle.command_frame.specs.Lines.{failing_leaf_line}
 use Rattle.command_frame.specs.Reports.{infeasible_report, accepted_text, NamesOf}
 use Rattle.command_frame.specs.Ending.{reply}
-use Rattle.command_answers.specs.Check.{IsKeptPlan, BoundsEveryPlan, IsBroken, Checks}
+use Rattle.command_answers.specs.Check.{IsBroken, Checks}
 use Rattle.command_answers.specs.Check.Checks.{broken_plan, failing_leaf, accepted}
 use Rattle.command_check.specs.declared.check.Given.{Given}
 use Rattle.command_check.specs.declared.check.Given.TheVariants.{Kept, Broken}
 use Rattle.command_check.specs.Standing.{StandsAs, ChecksFor}
 use Rattle.command_frame.proofs.RuleNames.{rule_names}
-use Rattle.command_frame.proofs.OpeningLemmas.{opening_from}
+use Rattle.command_answers.proofs.BoundLemmas.{bounds_every}
 
 -- ---- a plan that was given
 

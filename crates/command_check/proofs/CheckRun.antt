@@ -1,22 +1,13 @@
 -- What a run of `check` promises follows from its end.
-use Rattle.std.proofs.Common.{◌≡◌, ℕ, ◌*◌, ◌≤◌, ◌⊎◌, inl, inr, List, Option, Some, None, ℤ, pos, ◌+ℤ◌, ◌-ℤ◌, ◌*ℤ◌, ◌≤ℤ◌}
-use Rattle.std.proofs.Common.{◌<ℤ◌, refl, sym, ◌∙◌, ap, subst, arith}
-use Rattle.std.proofs.Math.Nat.{mul_comm}
-use borrow.Author.Differences.{same_in, product_is}
-use Rattle.fixed_num.proofs.SignedLemmas.{signed_arith}
-use Rattle.fixed_num.proofs.SumLemmas.{*ℤ-+ℤ}
-use Rattle.instance_model.proofs.DeviationLemmas.{scale_mono}
-use Rattle.instance_model.proofs.QuotientLemmas.{turn}
+use Rattle.std.proofs.Common.{◌≡◌, ℕ, ◌≤◌, ◌⊎◌, inl, inr, refl, sym, subst, List, Option, Some, None}
 use Rattle.plan_desk.specs.Desk.{Shown}
 use Rattle.plan_desk.specs.Contents.{Says, KeepsFiles}
 use Rattle.instance_model.specs.declared.limits.Limits.{Limits}
 use Rattle.instance_model.specs.Tables.{Tables}
-use Rattle.instance_model.specs.Values.{score_of}
-use Rattle.instance_model.specs.Exact.{scenario_product}
 use Rattle.instance_model.specs.Rules.{KeepsRules}
 use Rattle.lagrange_bound.specs.Goals.{risk_base, risk_value}
 use Rattle.certificate_lines.specs.declared.line.Bound.{Bound}
-use Rattle.certificate_lines.specs.declared.line.Bound.TheVariants.{NoPlan, Least}
+use Rattle.certificate_lines.specs.declared.line.Bound.TheVariants.{NoPlan}
 use Rattle.branch_tree.specs.declared.certificate.Certificate.{Certificate}
 use Rattle.branch_tree.specs.Validity.{IsValid, IsFirstFailing}
 use Rattle.command_frame.specs.Sources.{Source}
@@ -26,9 +17,8 @@ use Rattle.command_frame.specs.Bytes.{IsRefusedCertificate, RefusesCertificate}
 use Rattle.command_frame.specs.Files.{Meeting, reading, by_bytes, OnPlan, OnGiven, OnCertificate, ReadsInstance}
 use Rattle.command_frame.specs.Files.{ReadsGiven, TellsInstance, TellsGiven}
 use Rattle.command_frame.specs.Files.OnFile.{unread, refused, stands}
-use Rattle.command_answers.specs.Check.{BoundsEveryPlan, exact_cost, IsBest, GivenKeeps, IsAccepted, Checks}
+use Rattle.command_answers.specs.Check.{BoundsEveryPlan, GivenKeeps, Checks, AnswersCheck}
 use Rattle.command_check.specs.Checking.{DueCheck, ReadsCheck, BehindCheck, CheckedPlan, TellsChecked}
-use Rattle.command_answers.specs.Check.{AnswersCheck}
 use Rattle.command_check.specs.Checking.{ExpectsCheck, RunsCheck}
 use Rattle.command_answers.specs.Check.Checks.{broken_plan, failing_leaf, accepted}
 use Rattle.command_check.specs.Checking.BehindCheck.{accepted as behind_accepted, broken_given as behind_broken_given}
@@ -52,6 +42,7 @@ use Rattle.command_frame.proofs.FileLemmas.{exact_reading, exact_given, OrUnread
 use Rattle.command_frame.proofs.FileLemmas.{then_next, then_more, say_refusal}
 use Rattle.command_frame.proofs.AnswerLemmas.{instance_status, plan_status, certificate_status, text_accepted}
 use Rattle.command_frame.proofs.AnswerLemmas.{refused_apart}
+use Rattle.command_answers.proofs.BoundLemmas.{best_plan}
 use Rattle.command_check.proofs.CheckAnswers.{kept_or_broken, checked_files_once}
 use Rattle.command_frame.proofs.EndLemmas.{Stays, ends_quiet, ends_behind, ends_allowed, ends_exact}
 use Rattle.command_frame.proofs.TakenLemmas.{on_taken, bad_instance, on_spelled, bad_plan}

@@ -1,15 +1,15 @@
 //! The frame of all commands: their files are read, a report or a refusal is made, and what is due is said.
 //!
 //! A command is a crate above this one. It reads its files by `instance_of`, `plan_of` and their like, writes files, if
-//! it does, by `put_plan` and its like, and says what is due by `say_report` or its parts. `Ends` states how a run comes
-//! to its end, whatever the command.
+//! it does, by `put_plan` and its like, and says what is due by `say_report` or its parts. `Ends` states how a run
+//! comes to its end, whatever the command.
 //!
 //! A command that writes one file of which the text may be too long knows the length of the text before it opens the
 //! file. It refuses a text that is longer than a limit by `refuse_long`, and changes no other file: `KeepsAllBut` and
 //! `Opens` are the words for that in its promises.
 //!
-//! `Completes` is what a run promises in which nothing goes wrong: the files of the command are read, and no fault rose.
-//! The laws of the programs say it of each of their commands.
+//! `Completes` is what a run promises in which nothing goes wrong: the files of the command are read, and no fault
+//! rose. The laws of the programs say it of each of their commands.
 #![tactic(auto)]
 
 mod instance_line;

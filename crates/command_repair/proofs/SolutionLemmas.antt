@@ -26,10 +26,9 @@ use Rattle.command_frame.proofs.PlanWrites.{writable_plan, spelled_plan}
 use Rattle.fewest_changes.specs.declared.repairing.Repair.{Repair}
 use Rattle.fewest_changes.specs.Repaired.{IsRepairOf, ComesTo, IsMadeRepair}
 use Rattle.command_repair.specs.Repairing.{RepairFiles, none_report, cert_write, IsReadable, Repairs}
-use Rattle.command_answers.specs.Accepting.{IsAuditable}
+use Rattle.command_answers.specs.Accepting.{IsAuditable, IsShortValidFor}
 use Rattle.command_repair.specs.Repairing.Repairs.{repaired, nothing, none, no_start}
 use Rattle.command_repair.specs.Made.{CanReport, IsReportOf, out_writes, IsSolution}
-use Rattle.command_answers.specs.Accepting.{IsShortValidFor}
 
 -- an answer with this status and text
 spoken : (inst : Tables) (old : List (Option ℕ)) (files : RepairFiles) (turns : ℕ) (writes : List Writing)

@@ -1,5 +1,5 @@
 -- What the steps of a solution come to. Cited by private functions only: no part of any promise.
-use Rattle.std.specs.Prelude.{◌⊎◌, ◌≤◌, ℕ, ℤ, List, [], ◌∷◌, ◌++◌, length, Option, Some, None}
+use Rattle.std.specs.Prelude.{◌⊎◌, ◌≤◌, ℕ, ℤ, List, [], ◌∷◌, ◌++◌, Option, Some, None}
 use Rattle.std.specs.Prelude.{IfSome, codes}
 use Rattle.plan_desk.specs.Desk.{Shown, ShowsSame, after_take_in}
 use Rattle.plan_desk.specs.Contents.{KeepsFiles}
@@ -10,7 +10,6 @@ use Rattle.certificate_lines.specs.declared.line.Bound.{Bound}
 use Rattle.certificate_lines.specs.declared.line.Bound.TheVariants.{NoPlan, Least}
 use Rattle.branch_tree.specs.declared.certificate.Certificate.{Certificate}
 use Rattle.branch_tree.specs.Ranges.{IsInRange}
-use Rattle.certificate_text.specs.Text.{certificate_text}
 use Rattle.command_frame.specs.declared.report.Report.{Report}
 use Rattle.command_frame.specs.declared.refusal.Refusal.{Refusal}
 use Rattle.command_frame.specs.Sources.{Source}
@@ -19,12 +18,11 @@ use Rattle.command_frame.specs.Ending.{Writing, Answer}
 use Rattle.command_frame.specs.Files.{ReadsInstance, ReadsPlan}
 use Rattle.command_frame.specs.Refusals.{IsReport, SaysOrFails, IsInstanceCause, IsPlanCause}
 use Rattle.command_frame.specs.Writing.{IsWritablePlan, TellsAnswer}
-use Rattle.command_answers.specs.Audit.{IsValidFor, least_line}
+use Rattle.command_answers.specs.Audit.{least_line}
 use Rattle.command_repair.specs.declared.solution.Solution.{Solution}
 use Rattle.command_repair.specs.declared.repair.RepairFiles.{RepairFiles as RepairNames}
 use Rattle.command_repair.specs.Repairing.{RepairFiles, counts_text, repaired_report, nothing_report, none_report}
 use Rattle.command_repair.specs.Repairing.{cert_write, out_write, Repairs}
-use Rattle.command_answers.specs.Accepting.{IsAuditable}
 
 -- ---- the report
 

@@ -11,7 +11,6 @@ use Rattle.instance_model.specs.Rules.{KeepsRules}
 use Rattle.plan_text.specs.Spelling.{plan_text}
 use Rattle.certificate_lines.specs.declared.line.Bound.TheVariants.{NoPlan, Least}
 use Rattle.branch_tree.specs.declared.certificate.Certificate.{Certificate}
-use Rattle.branch_tree.specs.Ranges.{IsInRange}
 use Rattle.certificate_text.specs.Text.{certificate_text}
 use Rattle.plan_changes.specs.Changes.{changes_of}
 use Rattle.command_frame.specs.Sources.{Source}
@@ -20,12 +19,12 @@ use Rattle.command_frame.specs.Reports.{rounded_line}
 use Rattle.command_frame.specs.Ending.{Writing, Answer, reply, OrMemory, IsQuiet, Ends, Behind, IsAllowed, IsAnswered}
 use Rattle.command_frame.specs.Ending.{NoFault}
 use Rattle.command_frame.specs.Bytes.{Spells, RefusesInstance, IsRefusedInstance, RefusesPlan, IsRefusedPlan}
-use Rattle.command_frame.specs.Files.{Meeting, reading, by_bytes, OnInstance, OnPlan, OnCertificate, ReadsInstance}
+use Rattle.command_frame.specs.Files.{Meeting, reading, by_bytes, OnInstance, OnPlan, ReadsInstance}
 use Rattle.command_frame.specs.Files.{ReadsPlan, SaysUnread, SaysRefusal, TellsMissing, TellsBytes, TellsInstance}
 use Rattle.command_frame.specs.Files.{TellsPlan}
 use Rattle.command_frame.specs.Outputs.{holding, OpensSearched}
-use Rattle.command_answers.specs.Audit.{AreKeptStarts, BoundsEveryRepair, least_line, audited_report, Audits}
-use Rattle.command_answers.specs.Audit.{AnswersAudit}
+use Rattle.command_answers.specs.Audit.{AreKeptStarts, BoundsEveryRepair, least_line, audited_report, AnswersAudit}
+use Rattle.command_answers.specs.Accepting.{IsAuditable}
 use Rattle.descent_ends.specs.Turns.{split_count, AreEnough}
 use Rattle.descent_ends.specs.Openings.{IsWithoutStart, empty_certificate}
 use Rattle.fewest_changes.specs.Repaired.{IsRepairOf, IsRepaired, IsNothing}

@@ -15,10 +15,9 @@ use Rattle.price_ladder.specs.Raised.{IsRaised, root_worth, least_total}
 use Rattle.branch_search.specs.declared.tree_end.TreeEnd.{TreeEnd}
 use Rattle.branch_search.specs.Searched.{IsSearched}
 use Rattle.descent_ends.specs.declared.ending.Descended.{Descended}
-use Rattle.descent_ends.specs.Ends.{IsGiven}
+use Rattle.descent_ends.specs.Ends.{IsGiven, IsDescended}
 use Rattle.descent_ends.specs.Turns.{AreEnough}
 use Rattle.command_solve.specs.Made.{IsMade}
-use Rattle.descent_ends.specs.Ends.{IsDescended}
 use Rattle.command_solve.proofs.RootLemmas.{above_root}
 use Rattle.command_solve.proofs.ChangeLemmas.{known_changes, small_changes}
 
@@ -39,7 +38,8 @@ pub record AreFoundWith (inst : Tables) (turns : ℕ) (prices : PriceList) (give
   pub enough : AreEnough inst turns → answer.unfinished ≡ false
 
 module _ (inst : Tables) (fit : IsFitting inst) (turns : ℕ) (few : turns ≤ 1_000_000) (opening : List ℕ)
-    (opens : IsOpening inst opening) (descended : Descended) (end : IsDescended inst turns opening descended) (prices : PriceList)
+    (opens : IsOpening inst opening) (descended : Descended) (end : IsDescended inst turns opening descended)
+    (prices : PriceList)
     (raised : AreRaised inst descended.starts prices) (given : Option (List ℕ))
     (is_given : IsGiven inst descended.starts given) (answer : TreeEnd)
     (made : AreFoundWith inst turns prices given answer) where

@@ -18,11 +18,10 @@ use Rattle.branch_search.specs.declared.tree_end.TreeEnd.{TreeEnd}
 use Rattle.branch_search.specs.Best.{IsFeasiblePlan, IsBestOver, IsNoWorse}
 use Rattle.branch_search.specs.Searched.{IsSearched}
 use Rattle.plan_changes.specs.Changes.{changes_of, change_base, change_value, BoundsCountChanges, OldStartsAreNoChanges}
-use Rattle.descent_ends.specs.Ends.{end_of}
+use Rattle.descent_ends.specs.Ends.{end_of, IsDescentFrom}
 use Rattle.descent_ends.specs.Turns.{AreEnough}
 use Rattle.fewest_changes.specs.Openings.{IsKeptOpening}
 use Rattle.fewest_changes.specs.Incumbents.{IsBackFrom, IsIncumbent}
-use Rattle.descent_ends.specs.Ends.{IsDescentFrom}
 use Rattle.fewest_changes.specs.Incumbents.IsIncumbent.{opens, descends, nothing}
 use Rattle.fewest_changes.specs.Repaired.{IsRepairTree, IsRepairOf, ComesTo, IsMadeRepair, IsBackOf}
 use Rattle.fewest_changes.proofs.RepairLemmas.{fewer_le, found_tree, none_never, repaired, no_tree, none_given, unmet}

@@ -17,12 +17,11 @@ use Rattle.branch_search.specs.Best.{IsBestOver}
 use Rattle.branch_search.specs.Searched.{IsSplitBox, IsBounding, IsAmong, IsLeastOf, IsUnfinishedLeaf}
 use Rattle.plan_changes.specs.Changes.{changes_of, change_base, change_value, least_changes}
 use Rattle.plan_changes.specs.Returning.{NoneCanGoBack}
-use Rattle.descent_ends.specs.Ends.{end_of}
+use Rattle.descent_ends.specs.Ends.{end_of, IsDescentFrom}
 use Rattle.descent_ends.specs.Turns.{split_count, AreEnough}
 use Rattle.fewest_changes.specs.declared.repairing.Repair.{Repair}
 use Rattle.fewest_changes.specs.Openings.{IsKeptOpening}
 use Rattle.fewest_changes.specs.Incumbents.{IsBackFrom, IsIncumbent}
-use Rattle.descent_ends.specs.Ends.{IsDescentFrom}
 
 -- ---- the tree
 
