@@ -3,7 +3,7 @@ use Rattle.std.specs.Prelude.{◌≡◌, ℕ, ◌<◌, ◌≤◌, ℤ, ◌+ℤ�
 use Rattle.std.specs.Prelude.{slice_index_or}
 use Rattle.json_grammar.specs.Grammar.{IsNumber}
 use Rattle.decimal_numbers.specs.Exact.{fixed, millionths}
-use Rattle.json_spelling.specs.Spellable.{IsSpellableText}
+use Rattle.json_laws.specs.Spellable.{IsSpellableText}
 use Rattle.instance_model.specs.declared.limits.Limits.{Limits}
 use Rattle.instance_model.specs.Naturals.{count_sum}
 use Rattle.instance_model.specs.Tables.{Tables}

@@ -10,7 +10,7 @@ ghost use Rattle.instance_text.specs.Conditions.{SpellsPart, widened};
 ghost use Rattle.instance_text.specs.Styles.{Style, decimals};
 ghost use Rattle.instance_text.specs.Written.{instance_text};
 
-use json_spelling::spelled_is_read;
+use json_laws::spelled_is_read;
 
 /// The text of an instance without rounded numbers and within the limits is read as that instance, for each style that
 /// spells its numbers. What is read has its bands widened by the slack that it is read with.

@@ -1,7 +1,7 @@
 //! Risks are put out.
 ghost use Rattle.std.specs.Prelude.{◌≡◌, ◌+◌, ◌<◌, ◌≤◌, decimal, length, is_some, IsTrue};
 ghost use Rattle.fixed_num.specs.Sums.{list_of};
-ghost use Rattle.json_spelling.specs.Spelling.{spell};
+ghost use Rattle.json_laws.specs.Spelling.{spell};
 ghost use Rattle.instance_model.specs.RiskNumbers.{numbers_of};
 ghost use Rattle.instance_model.specs.Tables.{tmax, is_allowed, in_run, scenarios_of, risk_of};
 ghost use Rattle.instance_text.specs.Styles.{Style};

@@ -18,3 +18,8 @@ pub mod Reach
 pub mod Dues
 pub mod OnePlace
 pub mod Settling
+pub mod SpelledCharacters
+pub mod SpelledReading
+pub mod SpelledNesting
+pub mod SpelledParts
+pub mod SpelledShortest

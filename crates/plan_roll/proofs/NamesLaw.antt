@@ -7,7 +7,7 @@ use Rattle.json_grammar.specs.Tree.{Tree, tree, Node, Members, no_members, and_m
 use Rattle.json_grammar.specs.Tree.{members_events}
 use Rattle.json_laws.specs.Sound.{AreSound}
 use Rattle.json_laws.proofs.Laws.{last_sound}
-use Rattle.json_spelling.specs.Spellable.{IsSpellableText}
+use Rattle.json_laws.specs.Spellable.{IsSpellableText}
 use Rattle.instance_model.specs.Fitting.{IsName}
 use Rattle.instance_shape.specs.declared.fault.Known.{Known}
 use Rattle.instance_shape.specs.Keys.{text_of}

@@ -9,8 +9,8 @@ use Rattle.std.proofs.lemmas.Str.{encode_ascii}
 use Rattle.std.specs.Char.{encode_utf8}
 use lib.Utf8.{scalar, scalars, encodes, scalar_cases}
 use Rattle.json_grammar.specs.Grammar.{Between, IsUtf8Tail, IsShortEscape, IsCharacter, AreCharacters, IsString}
-use Rattle.json_spelling.specs.Spelling.{needs_escape, escaped, quoted}
-use Rattle.json_spelling.specs.Spellable.{IsSpellableText}
+use Rattle.json_laws.specs.Spelling.{needs_escape, escaped, quoted}
+use Rattle.json_laws.specs.Spellable.{IsSpellableText}
 
 pub escaped-nil : escaped [] ≡ []
 unfolding escaped

@@ -4,10 +4,10 @@ ghost use Rattle.std.specs.Prelude.{◌≡◌, ℕ, ◌≤◌, List, length, Non
 ghost use Rattle.json_grammar.specs.Grammar.{IsText};
 ghost use Rattle.json_grammar.specs.Tree.{Tree};
 ghost use Rattle.json_grammar.specs.Prefix.{first_past};
-ghost use Rattle.json_spelling.specs.Value.{Value};
-ghost use Rattle.json_spelling.specs.Spelling.{spell};
-ghost use Rattle.json_spelling.specs.Spellable.{IsSpellable};
-ghost use Rattle.json_spelling.specs.Placed.{placed_at, value_of};
+ghost use Rattle.json_laws.specs.Value.{Value};
+ghost use Rattle.json_laws.specs.Spelling.{spell};
+ghost use Rattle.json_laws.specs.Spellable.{IsSpellable};
+ghost use Rattle.json_laws.specs.Placed.{placed_at, value_of};
 
 /// The text of a spellable value is a JSON text nested at most 16 deep, and its tree is the value's: that of no other
 /// value, each part at the place where its text stands.

@@ -1,6 +1,6 @@
 -- Defines the shortest text of a value: no blanks, and no escape but those of quotes and backslashes.
 use Rattle.std.specs.Prelude.{ℕ, ◌==◌, ◌||◌, Bool, true, false, cond, List, [], ◌∷◌, ◌++◌}
-use Rattle.json_spelling.specs.Value.{Value, Values, no_values, and_value, Fields, no_fields, and_field}
+use Rattle.json_laws.specs.Value.{Value, Values, no_values, and_value, Fields, no_fields, and_field}
 
 -- a quote or a backslash, which doesn't stand for itself between quotes
 abbrev pub needs_escape : ℕ → Bool

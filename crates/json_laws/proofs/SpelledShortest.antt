@@ -10,10 +10,10 @@ use Rattle.json_grammar.specs.Tree.{Tree, Node, Trees, Members}
 use Rattle.json_grammar.specs.Grammar.{IsPlain, AreFourHexDigits, IsCharacter, AreCharacters, IsString}
 use Rattle.json_grammar.specs.Grammar.{IsValue, value, IsNode, IsElement, element, IsMoreTrees, no_more, more, IsMember}
 use Rattle.json_grammar.specs.Grammar.{member, IsMoreMembers, no_more_members, more_members, IsText}
-use Rattle.json_spelling.specs.Spelling.{needs_escape, escaped, quoted, spell, spell_more_values, spell_more_fields}
-use Rattle.json_spelling.specs.Placed.{value_of, node_value, tree_values, member_fields}
-use Rattle.json_spelling.proofs.Characters.{escaped-nil, escaped-other, escaped-escape, escaped-append, AreHigh}
-use Rattle.json_spelling.proofs.Characters.{escaped-high}
+use Rattle.json_laws.specs.Spelling.{needs_escape, escaped, quoted, spell, spell_more_values, spell_more_fields}
+use Rattle.json_laws.specs.Placed.{value_of, node_value, tree_values, member_fields}
+use Rattle.json_laws.proofs.SpelledCharacters.{escaped-nil, escaped-other, escaped-escape, escaped-append, AreHigh}
+use Rattle.json_laws.proofs.SpelledCharacters.{escaped-high}
 
 -- an escape at most doubles a byte
 one_twice : (b : ℕ) (bs : List ℕ) → (needs_escape b ≡ true) ⊎ (needs_escape b ≡ false)

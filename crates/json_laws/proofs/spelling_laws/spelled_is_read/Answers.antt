@@ -1,6 +1,6 @@
-use Rattle.json_spelling.proofs.Reading.{text_is_read}
-use Rattle.json_spelling.proofs.Nesting.{tree_is_shallow, value_of-placed_at}
-use Rattle.json_spelling.proofs.spelling_laws.spelled_is_read.Goals as goal
+use Rattle.json_laws.proofs.SpelledReading.{text_is_read}
+use Rattle.json_laws.proofs.SpelledNesting.{tree_is_shallow, value_of-placed_at}
+use Rattle.json_laws.proofs.spelling_laws.spelled_is_read.Goals as goal
 
 pub returns-clause-text : goal.returns-clause-text
 returns-clause-text c v h = text_is_read v h.sound

@@ -1,11 +1,11 @@
 -- How deep the tree of a value is nested, and that it stands for the value.
 use Rattle.std.proofs.Common.{◌≡◌, ℕ, zero, suc, ◌+◌, ◌≤◌, length, None, refl, ap, ◌∙◌, arith}
 use Rattle.json_grammar.specs.Prefix.{first_past, node_first_past, trees_first_past, members_first_past}
-use Rattle.json_spelling.specs.Value.{Value, Values, no_values, and_value, Fields, no_fields, and_field, depth}
-use Rattle.json_spelling.specs.Value.{values_depth, fields_depth}
-use Rattle.json_spelling.specs.Spelling.{quoted, spell}
-use Rattle.json_spelling.specs.Placed.{placed_node, placed_at, placed_values, placed_fields, value_of, node_value}
-use Rattle.json_spelling.specs.Placed.{tree_values, member_fields}
+use Rattle.json_laws.specs.Value.{Value, Values, no_values, and_value, Fields, no_fields, and_field, depth}
+use Rattle.json_laws.specs.Value.{values_depth, fields_depth}
+use Rattle.json_laws.specs.Spelling.{quoted, spell}
+use Rattle.json_laws.specs.Placed.{placed_node, placed_at, placed_values, placed_fields, value_of, node_value}
+use Rattle.json_laws.specs.Placed.{tree_values, member_fields}
 
 mutual
   node_is_shallow : (n at k : ℕ) (v : Value) → depth v ≤ n → node_first_past n at (placed_node k v) ≡ None

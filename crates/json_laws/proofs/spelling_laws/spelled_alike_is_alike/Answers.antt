@@ -1,11 +1,11 @@
 use Rattle.std.proofs.Common.{sym, ap, subst, ◌∙◌}
 use Rattle.json_grammar.specs.Grammar.{IsText}
 use Rattle.json_laws.proofs.Laws.{one_tree}
-use Rattle.json_spelling.specs.Spelling.{spell}
-use Rattle.json_spelling.specs.Placed.{placed_at, value_of}
-use Rattle.json_spelling.proofs.Reading.{text_is_read}
-use Rattle.json_spelling.proofs.Nesting.{value_of-placed_at}
-use Rattle.json_spelling.proofs.spelling_laws.spelled_alike_is_alike.Goals as goal
+use Rattle.json_laws.specs.Spelling.{spell}
+use Rattle.json_laws.specs.Placed.{placed_at, value_of}
+use Rattle.json_laws.proofs.SpelledReading.{text_is_read}
+use Rattle.json_laws.proofs.SpelledNesting.{value_of-placed_at}
+use Rattle.json_laws.proofs.spelling_laws.spelled_alike_is_alike.Goals as goal
 
 pub returns : goal.returns
 returns c v w h g e =

@@ -8,8 +8,8 @@ use Rattle.std.proofs.lemmas.Str.{IsUtf8-from_ascii, IsUtf8-string_bytes}
 use Rattle.std.specs.Prelude.{string_bytes}
 use Rattle.std.specs.declared.string.String.{String}
 use Rattle.std.specs.Str.{IsAscii}
-use Rattle.json_spelling.specs.Value.{Value, Field, values_of, fields_of, depth, values_depth, fields_depth}
-use Rattle.json_spelling.specs.Spellable.{IsSpellableText, IsSound, AreSound, AreSoundFields}
+use Rattle.json_laws.specs.Value.{Value, Field, values_of, fields_of, depth, values_depth, fields_depth}
+use Rattle.json_laws.specs.Spellable.{IsSpellableText, IsSound, AreSound, AreSoundFields}
 
 pub AreSound-values_of : (vs : List Value) → All IsSound vs → AreSound (values_of vs)
 AreSound-values_of [] h = tt

@@ -2,7 +2,7 @@
 use Rattle.std.specs.Prelude.{ℕ, ◌≤◌, List, All}
 use Rattle.std.specs.Str.{IsUtf8}
 use Rattle.json_grammar.specs.Grammar.{IsNumber}
-use Rattle.json_spelling.specs.Value.{Value, Values, no_values, and_value, Fields, no_fields, and_field, depth}
+use Rattle.json_laws.specs.Value.{Value, Values, no_values, and_value, Fields, no_fields, and_field, depth}
 
 -- UTF-8 without control bytes
 pub record IsSpellableText (bytes : List ℕ) : Type 0 where

@@ -5,11 +5,11 @@ use Rattle.json_grammar.specs.Tree.{Tree, tree, Node}
 use Rattle.json_grammar.specs.Grammar.{AreBlanks, IsString, IsValue, value, IsNode, IsElement, element, IsMoreTrees}
 use Rattle.json_grammar.specs.Grammar.{no_more, more, IsMember, member, IsMoreMembers, no_more_members, more_members}
 use Rattle.json_grammar.specs.Grammar.{IsText}
-use Rattle.json_spelling.specs.Value.{Value, Values, no_values, and_value, Fields, no_fields, and_field}
-use Rattle.json_spelling.specs.Spelling.{quoted, spell, spell_more_values, spell_more_fields}
-use Rattle.json_spelling.specs.Spellable.{IsSpellableText, IsSound, AreSound, AreSoundFields}
-use Rattle.json_spelling.specs.Placed.{placed_node, placed_at, placed_values, placed_fields}
-use Rattle.json_spelling.proofs.Characters.{quoted_is_read}
+use Rattle.json_laws.specs.Value.{Value, Values, no_values, and_value, Fields, no_fields, and_field}
+use Rattle.json_laws.specs.Spelling.{quoted, spell, spell_more_values, spell_more_fields}
+use Rattle.json_laws.specs.Spellable.{IsSpellableText, IsSound, AreSound, AreSoundFields}
+use Rattle.json_laws.specs.Placed.{placed_node, placed_at, placed_values, placed_fields}
+use Rattle.json_laws.proofs.SpelledCharacters.{quoted_is_read}
 
 -- a value with no blanks round it
 as_element : (k : ℕ) (v : List ℕ) (n : Node) → IsNode k v n → IsElement k v (tree k (k + length v) n)

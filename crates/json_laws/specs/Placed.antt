@@ -1,8 +1,8 @@
 -- Defines the tree of a value's text that begins at an offset, and the value that a tree stands for.
 use Rattle.std.specs.Prelude.{ℕ, suc, ◌+◌, length}
 use Rattle.json_grammar.specs.Tree.{Tree, tree, Node, Trees, no_trees, and_tree, Members, no_members, and_member}
-use Rattle.json_spelling.specs.Value.{Value, Values, no_values, and_value, Fields, no_fields, and_field}
-use Rattle.json_spelling.specs.Spelling.{spell, quoted}
+use Rattle.json_laws.specs.Value.{Value, Values, no_values, and_value, Fields, no_fields, and_field}
+use Rattle.json_laws.specs.Spelling.{spell, quoted}
 
 -- The offset of the first byte comes first.
 abbrev mutual

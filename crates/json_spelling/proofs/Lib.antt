@@ -1,5 +1,0 @@
-pub mod Characters
-pub mod Reading
-pub mod Nesting
-pub mod Parts
-pub mod Shortest

@@ -1,4 +1,0 @@
-pub mod Value
-pub mod Spelling
-pub mod Spellable
-pub mod Placed
