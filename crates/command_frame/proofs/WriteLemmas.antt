@@ -12,6 +12,7 @@ use Rattle.plan_desk.specs.declared.call.DeskCall.{DeskCall}
 use Rattle.plan_desk.specs.declared.call.DeskCall.TheVariants.{FinishOut}
 use Rattle.plan_desk.specs.declared.call.Failed.{Failed}
 use Rattle.plan_desk.proofs.FileWrites.{same_again, file_alike, file_written, not_ended, stops_alike}
+use Rattle.command_frame.specs.declared.report.Report.{Report}
 use Rattle.command_frame.specs.Lines.{write_line}
 use Rattle.command_frame.specs.Ending.{Writing, Answer, files_of, writing_at, OrMemory, WriteFails, SaysUnwritten, Ends}
 use Rattle.command_frame.specs.Ending.{Behind}
@@ -21,7 +22,8 @@ use Rattle.command_frame.specs.Ending.Ends.{done, unsaid, unwritten}
 use Rattle.command_frame.specs.Ending.Behind.{of_command, unsaid as behind_unsaid, unwritten as behind_unwritten}
 use Rattle.command_frame.specs.Ending.Behind.{no_memory as behind_memory}
 use Rattle.command_frame.specs.Refusals.{SaysOrFails}
-use Rattle.command_frame.specs.Writing.{StopsPut, PutsFile, HasWritten, StopsWriting, PutsFiles, TellsAnswer}
+use Rattle.command_frame.specs.Writing.{StopsPut, PutsFile, HasWritten, StopsWriting, PutsFiles, SaysWritten}
+use Rattle.command_frame.specs.Writing.{TellsAnswer}
 use Rattle.command_frame.specs.Writing.TellsAnswer.{written as told_written, unwritten as told_unwritten}
 use Rattle.command_frame.proofs.SayLemmas.{rose_before, says_before}
 use Rattle.command_frame.proofs.FileLemmas.{Goes}
@@ -240,3 +242,11 @@ wrote_behind Answers OfCommand old new status f (done n d) =
 wrote_behind Answers OfCommand old new status f (unsaid u) =
     behind_unsaid (unsaid_fails (λ at. OrMemory (Answers at)) old new u) u
 wrote_behind Answers OfCommand old new status f (unwritten u) = behind_unwritten u
+
+-- ---- a report behind files that were written
+
+pub told_behind : {T : Type 0} (writes : List Writing) (report : Report) (old mid new : Shown) (wrote : Result T ℕ)
+    (status : ℕ) → PutsFiles writes old mid wrote → KeepsFiles mid new → SaysWritten report mid new wrote status
+    → TellsAnswer (record { status = report.status; text = report.text; writes = writes }) old new status
+told_behind writes report old mid new (Ok x) status puts keeps says = told_written mid puts keeps says
+told_behind writes report old mid new (Err word) status puts keeps says = told_unwritten mid word puts keeps says

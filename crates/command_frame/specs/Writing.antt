@@ -5,6 +5,7 @@ use Rattle.plan_desk.specs.Contents.{KeepsFiles}
 use Rattle.plan_desk.specs.FileWrites.{FileWrite, after_file, after_writes, StopsFile, StopsWrites}
 use Rattle.plan_desk.specs.declared.call.DeskCall.{DeskCall}
 use Rattle.instance_model.specs.Tables.{Tables}
+use Rattle.command_frame.specs.declared.report.Report.{Report}
 use Rattle.command_frame.specs.Lines.{write_line}
 use Rattle.command_frame.specs.Ending.{Writing, Answer, files_of, writing_at, WriteFails}
 use Rattle.command_frame.specs.Refusals.{SaysOrFails}
@@ -46,6 +47,12 @@ pub record StopsWriting (writes : List Writing) (old new : Shown) (word : ℕ) :
 abbrev pub PutsFiles : {T : Type 0} → List Writing → (old new : Shown) → Result T ℕ → Type 0
 PutsFiles writes old new (Ok x) = HasWritten writes old new
 PutsFiles writes old new (Err word) = StopsWriting writes old new word
+
+-- behind files that were written a report was said, or the line of the word of the one whose writing stopped; or saying
+-- that failed
+abbrev pub SaysWritten : {T : Type 0} → Report → (old new : Shown) → Result T ℕ → ℕ → Type 0
+SaysWritten report old new (Ok x) status = SaysOrFails report.status report.text old new status
+SaysWritten report old new (Err word) status = SaysOrFails 8 (write_line word) old new status
 
 -- the files of an answer were written and then its text was said, or the writing of one stopped and then its line was
 -- said; or saying that failed

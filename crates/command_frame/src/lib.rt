@@ -34,4 +34,4 @@ pub use report::{
 pub use saying::{refuse, say, say_line, say_numbered, say_report};
 pub use source::Source;
 pub use text::{Text, push_numbered};
-pub use writing::{WRITE_WORDS, put_certificate, put_moves, put_plan};
+pub use writing::{WRITE_WORDS, put_certificate, put_moves, put_plan, say_written};

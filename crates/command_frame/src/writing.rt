@@ -1,12 +1,15 @@
-//! The files that commands write: each is opened, written whole and ended.
+//! The files that commands write: each is opened, written whole and ended, and then what is due is said.
 ghost use Rattle.std.specs.Prelude.{◌≡◌, ◌<◌, ◌^◌, length, All};
 ghost use Rattle.plan_moves.specs.Scripts.{NamesKnown, line_of};
 ghost use Rattle.plan_text.specs.Spelling.{plan_text};
 ghost use Rattle.move_script.specs.Spelling.{HasSmallStart, moves_text};
 ghost use Rattle.branch_tree.specs.Ranges.{IsInRange};
 ghost use Rattle.certificate_text.specs.Text.{certificate_text};
-ghost use Rattle.command_frame.specs.Writing.{PutsFile};
+ghost use Rattle.plan_desk.specs.Contents.{KeepsFiles};
+ghost use Rattle.command_frame.specs.Writing.{PutsFile, SaysWritten};
 
+use crate::report::Report;
+use crate::saying::{say, say_numbered};
 use branch_certificate::{Certificate, write_certificate};
 use instance_model::Instance;
 use move_script::write_moves;
@@ -65,4 +68,17 @@ pub fn put_plan<D: Desk>(
     desk.put_out(name)?;
     write_plan(inst, starts, desk)?;
     desk.finish_out()
+}
+
+/// Says the report behind files that were written, or which one could not be written whole: the error is its word.
+///
+/// Answers the status that is due with it; 8 where a file was not written, or saying failed. Takes no memory.
+pub fn say_written<D: Desk>(desk: &mut D, wrote: Result<(), u64>, report: &Report) -> u8
+    ensures ends { SaysWritten report.now (D.shows desk.old) (D.shows desk.new) wrote result }
+    ensures keeps { KeepsFiles (D.shows desk.old) (D.shows desk.new) }
+{
+    match wrote {
+        Ok(()) => say(desk, report.status, report.text.as_slice()),
+        Err(word) => say_numbered(desk, 8, WRITE_WORDS, word),
+    }
 }

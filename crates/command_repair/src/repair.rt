@@ -13,8 +13,8 @@ ghost use Rattle.command_repair.specs.Made.{IsWritable, files_view, TellsSolutio
 
 use crate::solution::{Solution, solution_of};
 use command_frame::{
-    MEMORY_LINE, Refusal, Source, WRITE_WORDS, instance_of, plan_of, put_certificate, put_plan,
-    refuse, say, say_numbered,
+    MEMORY_LINE, Refusal, Source, instance_of, plan_of, put_certificate, put_plan, refuse, say,
+    say_written,
 };
 use instance_model::{Instance, Limits, Starts};
 use plan_desk::Desk;
@@ -109,14 +109,8 @@ fn tell<D: Desk>(inst: &Instance, files: &RepairFiles<'_>, solution: &Solution, 
     ensures { TellsAnswer (answer_of inst.now (files_view files.now) solution.now) (D.shows desk.old)
         (D.shows desk.new) result }
 {
-    match write_files(inst, files, solution, desk) {
-        Ok(()) => say(
-            desk,
-            solution.report.status,
-            solution.report.text.as_slice(),
-        ),
-        Err(word) => say_numbered(desk, 8, WRITE_WORDS, word),
-    }
+    let wrote = write_files(inst, files, solution, desk);
+    say_written(desk, wrote, &solution.report)
 }
 
 // Writes the certificate and, if there is one, the plan. The error is the word of the file that could not be written.

@@ -9,8 +9,7 @@ ghost use Rattle.command_solve.specs.Made.{files_view, TellsSolution};
 
 use crate::solution::{Solution, solution_of};
 use command_frame::{
-    MEMORY_LINE, Source, WRITE_WORDS, instance_of, put_certificate, put_moves, put_plan, refuse,
-    say, say_numbered,
+    MEMORY_LINE, Source, instance_of, put_certificate, put_moves, put_plan, refuse, say, say_written,
 };
 use instance_model::{Instance, Limits, Starts};
 use plan_desk::Desk;
@@ -72,14 +71,8 @@ fn tell<D: Desk>(inst: &Instance, files: &SolveFiles<'_>, solution: &Solution, d
     ensures { TellsAnswer (answer_of inst.now (files_view files.now) solution.now) (D.shows desk.old)
         (D.shows desk.new) result }
 {
-    match write_files(inst, files, solution, desk) {
-        Ok(()) => say(
-            desk,
-            solution.report.status,
-            solution.report.text.as_slice(),
-        ),
-        Err(word) => say_numbered(desk, 8, WRITE_WORDS, word),
-    }
+    let wrote = write_files(inst, files, solution, desk);
+    say_written(desk, wrote, &solution.report)
 }
 
 // Writes the certificate, the trail and, if there is one, the plan. The error is the word of the file that could not be
