@@ -9,7 +9,8 @@ ghost use Rattle.command_solve.specs.Made.{files_view, TellsSolution};
 
 use crate::solution::{Solution, solution_of};
 use command_frame::{
-    MEMORY_LINE, Source, instance_of, put_certificate, put_moves, put_plan, refuse, say, say_written,
+    MEMORY_LINE, Source, instance_of, put_certificate, put_moves, put_plan, refuse, say,
+    say_written,
 };
 use instance_model::{Instance, Limits, Starts};
 use plan_desk::Desk;
