@@ -8,13 +8,13 @@ returns-then-not-is_broken g c =
     c.broken_rule.result (c.as_slice.ensures.value ∙ c.in_ok-plan.ensures) c.broken_rule.ensures
     (sym c.is_some-is_broken.ensures ∙ c.if-not-is_broken.true) (c.from_vec.ensures ∙ c.in_ok-starts.ensures.items)
 
-pub returns-then-not-feasible : goal.returns-then-not-feasible
-returns-then-not-feasible g c =
+pub returns-then-not-descended : goal.returns-then-not-descended
+returns-then-not-descended g c =
     not_given c.args.inst.now c.args.old.now c.args.turns c.args.opening.now c.in_ok-descended.descended
     (not_opens c.args.inst.now c.args.opening.now c.as_slice.result.now c.broken_rule.result
     (c.as_slice.ensures.value ∙ c.in_ok-plan.ensures) c.broken_rule.ensures
     (sym c.is_some-is_broken.ensures ∙ c.if-not-is_broken.false)) c.in_ok-descended.ensures
-    c.if-not-feasible.true
+    c.if-not-descended.true
 
 pub returns : goal.returns
 returns g c =
@@ -22,7 +22,7 @@ returns g c =
     c.as_slice-given.result.now c.in_ok-given.given
     (not_opens c.args.inst.now c.args.opening.now c.as_slice.result.now c.broken_rule.result
     (c.as_slice.ensures.value ∙ c.in_ok-plan.ensures) c.broken_rule.ensures
-    (sym c.is_some-is_broken.ensures ∙ c.if-not-is_broken.false)) c.in_ok-descended.ensures c.if-not-feasible.false
+    (sym c.is_some-is_broken.ensures ∙ c.if-not-is_broken.false)) c.in_ok-descended.ensures c.if-not-descended.false
     c.as_slice-given.ensures
     (record {
       plan = record { each = c.in_ok-given.ensures.each; feasible = c.in_ok-given.ensures.feasible };
