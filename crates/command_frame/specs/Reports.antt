@@ -88,6 +88,11 @@ bound_cost inst least = floor_of least (inst.periods * 1_000_000)
 abbrev pub bound_line : ℤ → List ℕ
 bound_line least = codes "bound " ++ signed_decimal least ++ codes "\n"
 
+-- the same of a bound that may be none
+abbrev pub bound_or_none_line : Bound → List ℕ
+bound_or_none_line NoPlan = codes "bound none\n"
+bound_or_none_line (Least b) = bound_line b
+
 -- a count of 10^-12 behind a word
 unfoldable pub fixed_line : List ℕ → ℤ → List ℕ
 fixed_line word n = word ++ fixed_text n ++ codes "\n"

@@ -5,7 +5,7 @@ ghost use Rattle.branch_tree.specs.Ranges.{IsBoundInRange};
 ghost use Rattle.command_frame.specs.Reports.{values_report, infeasible_report, score_line, ranges_text, range_line};
 ghost use Rattle.command_frame.specs.Reports.{rounded_line, numbered, band_text, rule_text, pair_text, NamesOf};
 ghost use Rattle.command_frame.specs.Reports.{bound_line, fixed_line, cost_line, bound_lines, bound_text, bound_cost};
-ghost use Rattle.command_frame.specs.Reports.{gap_line, score_and_gap, gap_text, accepted_text};
+ghost use Rattle.command_frame.specs.Reports.{bound_or_none_line, gap_line, score_and_gap, gap_text, accepted_text};
 
 use crate::text::Text;
 use branch_certificate::Bound;
@@ -98,6 +98,16 @@ pub fn push_bound_line(text: &mut Text, least: i128) -> Result<(), AllocError>
     text.push("bound ")?;
     text.push_signed(least)?;
     text.push("\n")
+}
+
+/// Adds the same line of a bound that may be none.
+pub fn push_bound_or_none(text: &mut Text, bound: Bound) -> Result<(), AllocError>
+    ensures { OnOk result (text.new ≡ text.old ++ bound_or_none_line bound) }
+{
+    match bound {
+        Bound::NoPlan => text.push("bound none\n"),
+        Bound::Least(least) => push_bound_line(text, least),
+    }
 }
 
 fn push_cost_line(text: &mut Text, cost: i128) -> Result<(), AllocError>

@@ -8,8 +8,6 @@ use Rattle.plan_desk.specs.Contents.{TellsSuch, HoldsBytes, Says}
 use Rattle.instance_model.specs.declared.limits.Limits.{Limits}
 use Rattle.instance_model.specs.Tables.{Tables}
 use Rattle.lagrange_bound.specs.Goals.{risk_base, risk_value}
-use Rattle.certificate_lines.specs.declared.line.Bound.{Bound}
-use Rattle.certificate_lines.specs.declared.line.Bound.TheVariants.{NoPlan, Least}
 use Rattle.branch_tree.specs.declared.certificate.Certificate.{Certificate}
 use Rattle.branch_tree.specs.Validity.{IsValid}
 use Rattle.certificate_text.specs.Text.{certificate_text}
@@ -18,7 +16,7 @@ use Rattle.band_rebound.specs.Rebinding.{IsNoLower}
 use Rattle.band_rebound.specs.Rebounds.{IsReboundOf}
 use Rattle.command_frame.specs.Sources.{Source}
 use Rattle.command_frame.specs.Lines.{numbered_line}
-use Rattle.command_frame.specs.Reports.{bound_line, rounded_line, accepted_report}
+use Rattle.command_frame.specs.Reports.{bound_or_none_line, rounded_line, accepted_report}
 use Rattle.command_frame.specs.Ending.{Writing, Answer, reply, IsOneAnswer, OrMemory, IsQuiet, Ends, Behind, IsAllowed}
 use Rattle.command_frame.specs.Ending.{IsAnswered, NoFault}
 use Rattle.command_frame.specs.Bytes.{RefusesInstance, IsRefusedInstance, RefusesCertificate, IsRefusedCertificate}
@@ -31,16 +29,11 @@ use Rattle.command_answers.specs.Accepting.{IsCheckable}
 
 -- ---- the report
 
--- the new bound, in parts of 10^-18
-abbrev pub new_bound_line : Bound → List ℕ
-new_bound_line NoPlan = codes "bound none\n"
-new_bound_line (Least b) = bound_line b
-
 -- the report on a certificate that was made for the instance
 abbrev pub rebound_report : Tables → Rebounded → List ℕ
 rebound_report inst answer =
     codes "rebound\n"
-    ++ (new_bound_line answer.cert.bound
+    ++ (bound_or_none_line answer.cert.bound
     ++ (numbered_line (codes "kept ") answer.kept
     ++ (numbered_line (codes "changed ") answer.changed ++ rounded_line inst.rounded)))
 

@@ -1,13 +1,13 @@
 //! What is made of an instance and a certificate.
-ghost use Rattle.std.specs.Prelude.{◌≡◌, ◌++◌, IfOk, OnOk};
+ghost use Rattle.std.specs.Prelude.{◌≡◌, IfOk};
 ghost use Rattle.branch_tree.specs.Ranges.{IsInRange};
-ghost use Rattle.command_rebound.specs.Rebinding.{new_bound_line, rebound_report};
+ghost use Rattle.command_rebound.specs.Rebinding.{rebound_report};
 ghost use Rattle.command_rebound.specs.Made.{IsMade};
 
 use band_rebound::{Rebounded, rebound};
-use branch_certificate::{Bound, Certificate};
+use branch_certificate::Certificate;
 use command_answers::valid_is_accepted;
-use command_frame::{Text, push_bound_line, push_numbered, push_rounded};
+use command_frame::{Text, push_bound_or_none, push_numbered, push_rounded};
 use instance_model::Instance;
 use std::alloc::{AllocError, Global};
 
@@ -35,18 +35,9 @@ fn report_on(alloc: Global, inst: &Instance, rebounded: &Rebounded) -> Result<Te
 {
     let mut text = Text::new(alloc);
     text.push("rebound\n")?;
-    push_bound(&mut text, rebounded.cert.bound)?;
+    push_bound_or_none(&mut text, rebounded.cert.bound)?;
     push_numbered(&mut text, "kept ", rebounded.kept)?;
     push_numbered(&mut text, "changed ", rebounded.changed)?;
     push_rounded(&mut text, inst.rounded())?;
     Ok(text)
-}
-
-fn push_bound(text: &mut Text, bound: Bound) -> Result<(), AllocError>
-    ensures { OnOk result (text.new ≡ text.old ++ new_bound_line bound) }
-{
-    match bound {
-        Bound::NoPlan => text.push("bound none\n"),
-        Bound::Least(least) => push_bound_line(text, least),
-    }
 }

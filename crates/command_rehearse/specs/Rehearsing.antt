@@ -7,10 +7,8 @@ use Rattle.plan_desk.specs.Desk.{Shown}
 use Rattle.plan_desk.specs.Contents.{Says}
 use Rattle.instance_model.specs.Tables.{Tables}
 use Rattle.instance_model.specs.declared.key.Key.{Key}
-use Rattle.certificate_lines.specs.declared.line.Bound.{Bound}
-use Rattle.certificate_lines.specs.declared.line.Bound.TheVariants.{NoPlan, Least}
 use Rattle.command_frame.specs.Lines.{numbered_line}
-use Rattle.command_frame.specs.Reports.{bound_line, rounded_line}
+use Rattle.command_frame.specs.Reports.{bound_or_none_line, rounded_line}
 use Rattle.command_frame.specs.Ending.{Answer, reply, OrMemory, IsQuiet, Ends, Behind, IsOneOf, IsAnswered, NoFault}
 use Rattle.instance_gen.specs.Drawn.{drawn_tables}
 use Rattle.command_rehearse.specs.declared.summary.Summary.{Summary}
@@ -22,11 +20,6 @@ use Rattle.command_rehearse.specs.Rehearsed.{IsRehearsed}
 abbrev pub key_line : List ℕ → Key → List ℕ
 key_line word key =
     word ++ codes " " ++ signed_decimal key.violation ++ codes " " ++ signed_decimal key.score ++ codes "\n"
-
--- the bound as a score
-abbrev pub least_line : Bound → List ℕ
-least_line NoPlan = codes "bound none\n"
-least_line (Least b) = bound_line b
 
 -- the lines of the instance and its opening plan
 abbrev pub opening_lines : Summary → List ℕ
@@ -43,7 +36,7 @@ descent_lines summary =
 -- those of the certificate, and how many numbers of the text were changed by rounding
 abbrev pub bound_lines : Summary → List ℕ
 bound_lines summary =
-    least_line summary.bound
+    bound_or_none_line summary.bound
     ++ numbered_line (codes "splits ") summary.splits
     ++ rounded_line summary.rounded
 

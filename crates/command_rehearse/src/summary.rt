@@ -1,10 +1,10 @@
 //! The summary of a rehearsal, and its text.
 ghost use Rattle.std.specs.Prelude.{◌≡◌, ◌++◌, IfOk, OnOk};
-ghost use Rattle.command_rehearse.specs.Rehearsing.{key_line, least_line, opening_lines, descent_lines, bound_lines};
+ghost use Rattle.command_rehearse.specs.Rehearsing.{key_line, opening_lines, descent_lines, bound_lines};
 ghost use Rattle.command_rehearse.specs.Rehearsing.{summary_text};
 
 use branch_certificate::Bound;
-use command_frame::{Text, push_bound_line, push_numbered, push_rounded};
+use command_frame::{Text, push_bound_or_none, push_numbered, push_rounded};
 use instance_model::Key;
 use std::alloc::{AllocError, Global};
 
@@ -61,7 +61,7 @@ fn push_descent(text: &mut Text, summary: Summary) -> Result<(), AllocError>
 fn push_bounding(text: &mut Text, summary: Summary) -> Result<(), AllocError>
     ensures { OnOk result (text.new ≡ text.old ++ bound_lines summary) }
 {
-    push_least(text, summary.bound)?;
+    push_bound_or_none(text, summary.bound)?;
     push_numbered(text, "splits ", summary.splits)?;
     push_rounded(text, summary.rounded)
 }
@@ -76,14 +76,4 @@ fn push_key(text: &mut Text, word: &str, key: Key) -> Result<(), AllocError>
     text.push(" ")?;
     text.push_signed(key.score)?;
     text.push("\n")
-}
-
-// Adds the bound as a score.
-fn push_least(text: &mut Text, bound: Bound) -> Result<(), AllocError>
-    ensures { OnOk result (text.new ≡ text.old ++ least_line bound) }
-{
-    match bound {
-        Bound::NoPlan => text.push("bound none\n"),
-        Bound::Least(least) => push_bound_line(text, least),
-    }
 }
