@@ -1,4 +1,5 @@
--- The text of the rolled instance is read as the rolled one of what the instance's own text is read as.
+-- The text of the rolled instance is read as that instance, and as the rolled one of what the instance's own text is
+-- read as.
 use Rattle.std.proofs.Common.{◌≡◌, ℕ, ◌<◌, ◌^◌, refl, sym, ◌∙◌, ap, subst, arith, List, [], ◌∷◌, ◌++◌, Option, ℤ, pos}
 use Rattle.std.proofs.Common.{All, unsigned_abs}
 use Rattle.std.specs.Prelude.{◌+ℤ◌, ◌-ℤ◌, map}
@@ -20,7 +21,7 @@ use Rattle.instance_text.specs.Styles.{Style, decimals}
 use Rattle.instance_text.specs.Written.{instance_text}
 use Rattle.plan_roll.specs.Rolled.{rolled_delta, rolled_durations, is_left, rolled_cells, start_risks, rolled_risks}
 use Rattle.plan_roll.specs.Rolled.{rolled}
-use Rattle.plan_roll.specs.Texts.{rolled_text, TextIsRead}
+use Rattle.plan_roll.specs.Texts.{rolled_text, HasSmallBands, TextIsRead, TextIsReadAgain}
 use Rattle.plan_roll.proofs.FitLaw.{tables_fit}
 use Rattle.plan_roll.proofs.WithinLaw.{defined_names, defined_within, defined_small, rolled_within, rolled_names}
 use Rattle.plan_roll.proofs.WithinLaw.{rolled_unrounded}
@@ -100,18 +101,22 @@ DecimalsSpell =
     (inst : Tables) → IsFitting inst → All (λ z. unsigned_abs z < 10 ^ 20) inst.upper
     → All (λ z. unsigned_abs z < 10 ^ 20) inst.lower → SpellsNumbers decimals inst
 
-pub text_is_read : TextsAreRead → DecimalsSpell → (inst : Tables) (plan : List (Option ℕ)) (period : ℕ)
-    → TextIsRead inst plan period
-unfolding rolled_text
-text_is_read texts spell inst plan period limits slack bytes wide a d w =
-    let fits = defined_fits limits (pos 0) bytes inst a no_slack d in
-    let small = defined_small limits bytes inst d in
-    let fitting = tables_fit inst plan period fits in
-    let read : Defines limits slack (rolled_text inst plan period) (widened slack (rolled inst plan period)) =
-    texts decimals limits slack (rolled inst plan period) fitting (rolled_unrounded inst plan period)
-    (rolled_within limits inst plan period fits (defined_within limits (pos 0) bytes inst d))
-    (spell (rolled inst plan period) fitting small.upper small.lower)
-    (rolled_names inst plan period (defined_names limits (pos 0) bytes inst d)) in
-    subst (Defines limits slack (rolled_text inst plan period))
-    (rolled_widened inst slack plan period
-    ∙ ap (λ x. rolled x plan period) (defined_widened limits slack bytes inst wide d w)) read
+module _ (texts : TextsAreRead) (spell : DecimalsSpell) (inst : Tables) (plan : List (Option ℕ)) (period : ℕ) where
+  -- that of an instance with small bands
+  pub text_is_read : IsFitting inst → HasSpellableNames inst → HasSmallBands inst → TextIsRead inst plan period
+  unfolding rolled_text
+  text_is_read fits names small limits slack within =
+      let fitting = tables_fit inst plan period fits in
+      let read : Defines limits slack (rolled_text inst plan period) (widened slack (rolled inst plan period)) =
+      texts decimals limits slack (rolled inst plan period) fitting (rolled_unrounded inst plan period)
+      (rolled_within limits inst plan period fits within)
+      (spell (rolled inst plan period) fitting small.upper small.lower) (rolled_names inst plan period names) in
+      subst (Defines limits slack (rolled_text inst plan period)) (rolled_widened inst slack plan period) read
+
+  -- that of an instance that was read
+  pub text_is_read_again : TextIsReadAgain inst plan period
+  text_is_read_again limits slack bytes wide a d w =
+      subst (Defines limits slack (rolled_text inst plan period))
+      (ap (λ x. rolled x plan period) (defined_widened limits slack bytes inst wide d w))
+      (text_is_read (defined_fits limits (pos 0) bytes inst a no_slack d) (defined_names limits (pos 0) bytes inst d)
+      (defined_small limits bytes inst d) limits slack (defined_within limits (pos 0) bytes inst d))

@@ -2,11 +2,12 @@
 ghost use Rattle.std.specs.Prelude.{◌≡◌, ℕ, List, Option, length, IsTrue};
 ghost use Rattle.plan_desk.specs.Written.{WritesText};
 ghost use Rattle.plan_roll.specs.Laws.{RollsPlan};
-ghost use Rattle.plan_roll.specs.Texts.{rolled_text, TextIsRead};
+ghost use Rattle.plan_roll.specs.Texts.{rolled_text, HasSmallBands, TextIsRead, TextIsReadAgain};
 
 use crate::laws::{plans_roll, rolled_text_is_read};
 use crate::view::Rolled;
 use instance_model::Instance;
+use instance_text::{decimals_spell_numbers, names_are_spellable, texts_are_read};
 use instance_writer::{instance_length, write_instance};
 use plan_desk::{Desk, Failed};
 
@@ -22,8 +23,9 @@ pub fn rolled_length(inst: &Instance, plan: &[Option<u32>], period: u32) -> u64
 
 /// Writes the text of the rolled instance to the end of the file that is open, in one pass. Takes no memory.
 ///
-/// The text is read as the rolled instance (`read`), of which a plan is feasible exactly where it is feasible for the
-/// instance and goes on with the plan so far, with the same score (`plans`).
+/// Where no band limit reaches 10^20 in absolute value, the text is read as the rolled instance (`read`); the bands of
+/// an instance that was read without a slack are such (`read_again`). A plan of the rolled one is feasible exactly where
+/// it is feasible for the instance and goes on with the plan so far, with the same score (`plans`).
 #[tactic(auto, unfolding(crate::specs::Texts::rolled_text))]
 pub fn write_rolled<D: Desk>(
     inst: &Instance,
@@ -34,11 +36,15 @@ pub fn write_rolled<D: Desk>(
     requires each { length plan.now ≡ length inst.now.names }
     requires opened { IsTrue (D.shows desk.old).output.opened }
     ensures text { WritesText (rolled_text inst.now plan.now period) (D.shows desk.old) (D.shows desk.new) result }
-    ensures read { TextIsRead inst.now plan.now period }
+    ensures read { HasSmallBands inst.now → TextIsRead inst.now plan.now period }
+    ensures read_again { TextIsReadAgain inst.now plan.now period }
     ensures plans { (new : List (Option ℕ)) → RollsPlan inst.now plan.now period new }
 {
     inst.fits();
-    plans_roll();
+    names_are_spellable(inst);
+    texts_are_read();
+    decimals_spell_numbers();
     rolled_text_is_read();
+    plans_roll();
     write_instance(&Rolled { inst, plan, period }, desk)
 }
