@@ -7,6 +7,7 @@ pub mod Backward
 pub mod Viable
 pub mod Prefixes
 pub mod Utf
+pub mod WholeUtf
 pub mod Building
 pub mod Laws
 pub mod Depth

@@ -42,7 +42,7 @@ four_is w a b c d e least h g f i =
 scalar_is : (c : ℕ) → (c < 0xd800) ⊎ ((0xe000 ≤ c) × (c < 0x11_0000)) → scalar c ≡ true
 scalar_is c o = grind (arith, nat_tests)
 
-utf_one : (b : ℕ) → b < 128 → IsUtf8 (b ∷ [])
+pub utf_one : (b : ℕ) → b < 128 → IsUtf8 (b ∷ [])
 utf_one b h = subst IsUtf8 (encode_ascii b h) (IsUtf8-encode b (scalar_is b (inl (omega arith))))
 
 utf_two : (a b : ℕ) → Between 0xc2 0xdf a → IsUtf8Tail b → IsUtf8 (a ∷ b ∷ [])
@@ -91,7 +91,7 @@ unit_small : {ds : List ℕ} {u : ℕ} → Rattle.json_grammar.specs.Grammar.Are
 unit_small (Rattle.json_grammar.specs.Grammar.unit ha hb hc hd) = let a = ha.below in let b = hb.below in
     let c = hc.below in let d = hd.below in omega arith
 
-utf_character : {c x : List ℕ} → IsCharacter c x → IsUtf8 x
+pub utf_character : {c x : List ℕ} → IsCharacter c x → IsUtf8 x
 utf_character (IsCharacter.plain {b} h) = let i = h.high in utf_one b (omega arith)
 utf_character (IsCharacter.two {a} {b} h g) = utf_two a b h g
 utf_character (IsCharacter.three_e0 {b} {c} h g) = utf_three 0xe0 b c (record { low = omega arith; high = omega arith })

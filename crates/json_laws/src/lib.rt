@@ -10,5 +10,5 @@ mod text_laws;
 pub use spelling_laws::{spelled_alike_is_alike, spelled_is_read, spelled_is_shortest};
 pub use text_laws::{
     due_events_are_one_list, events_ascend, fault_excludes_text, fault_stays, text_has_one_answer,
-    text_has_one_tree,
+    text_has_one_tree, text_is_utf8,
 };

@@ -1,6 +1,7 @@
 //! Laws of the definitions on texts and streams. The functions do nothing: the contract is the law.
 
 ghost use Rattle.std.specs.Prelude.{◌≡◌, ℕ, ◌<◌, List, ◌++◌, length, Bool, None};
+ghost use Rattle.std.specs.Str.{IsUtf8};
 ghost use Rattle.json_grammar.specs.Tree.{Tree, Event, events_of};
 ghost use Rattle.json_grammar.specs.Grammar.{IsText};
 ghost use Rattle.json_grammar.specs.Prefix.{IsSyntaxFault, IsShallow, IsDepthFault, first_past};
@@ -18,6 +19,11 @@ pub fn text_has_one_answer()
 /// A JSON text has one tree.
 pub fn text_has_one_tree()
     ensures { (bytes : List ℕ) (one other : Tree) → IsText bytes one → IsText bytes other → one ≡ other }
+{}
+
+/// A JSON text is UTF-8.
+pub fn text_is_utf8()
+    ensures { (bytes : List ℕ) (tree : Tree) → IsText bytes tree → IsUtf8 bytes }
 {}
 
 /// The events of a JSON text begin at ascending offsets.
