@@ -54,6 +54,28 @@ fn begins(desk: &MemDesk, name: &str, bytes: &[u8]) -> bool {
     }
 }
 
+// How many line feeds the file of this name has; none where it isn't there.
+fn line_feeds(desk: &MemDesk, name: &str) -> usize {
+    let mut count: usize = 0;
+    if let Some(held) = desk.file(name) {
+        for byte in held {
+            if *byte == b'\n' {
+                count = count.saturating_add(1);
+            }
+        }
+    }
+    count
+}
+
+// Whether the file of this name has one line or two, each with its line feed.
+fn has_one_line_or_two(desk: &MemDesk, name: &str) -> bool {
+    let count = line_feeds(desk, name);
+    match desk.file(name) {
+        Some(held) => held.ends_with(b"\n") && (count == 1 || count == 2),
+        None => false,
+    }
+}
+
 #[test]
 fn a_best_plan_is_found(rt: HostRuntime) -> Result<(), Fail> {
     let alloc = rt.alloc();
@@ -68,7 +90,7 @@ fn a_best_plan_is_found(rt: HostRuntime) -> Result<(), Fail> {
             b"mpcert 2\nbound 2000000000000000000\nlists 1\nprices\n"
         )
     );
-    assert!(rt; begins(&desk, "M", b""));
+    assert!(rt; has_one_line_or_two(&desk, "M"));
     Ok(())
 }
 

@@ -2,6 +2,7 @@
 //! them by hand. The fast ladder's list is one of several: its worth is at least as great here, and at most that of
 //! the best list.
 
+ghost use Rattle.std.specs.Prelude.{◌≤◌};
 ghost use Rattle.instance_model.specs.Plans.{AreAllowedStarts};
 ghost use Rattle.lagrange_bound.specs.Prices.{IsPriceList};
 
@@ -150,6 +151,44 @@ fn raised(alloc: Global, text: &str, starts: &[u32]) -> Result<Option<(Row, i128
     Ok(rows_of(alloc, &inst, starts)?)
 }
 
+/// Whether no limit has a price in period `t`.
+fn limits_are_free(inst: &Instance, prices: &Prices, t: u32) -> bool
+    requires prices { IsPriceList inst.now prices.now }
+    requires from { 1 ≤ t }
+    requires to { t ≤ inst.now.periods }
+{
+    for c in 0..inst.resources() {
+        if prices.up(inst, c, t) != 0 || prices.lo(inst, c, t) != 0 {
+            return false;
+        }
+    }
+    true
+}
+
+/// Whether a list is that of zeros: no limit and no exclusion has a price, and no period a tail.
+fn is_zero(inst: &Instance, prices: &Prices) -> bool
+    requires { IsPriceList inst.now prices.now }
+{
+    for t in 1..inst.periods() + 1 {
+        if prices.tail(inst, t).is_some() || !limits_are_free(inst, prices, t) {
+            return false;
+        }
+    }
+    prices.ex_prices().is_empty()
+}
+
+/// Whether the fast ladder raises the list of zeros for a plan of these starts, where they are allowed, on the instance
+/// of a text.
+fn zeros_are_raised(alloc: Global, text: &str, starts: &[u32]) -> Result<Option<bool>, Fail> {
+    let limits = Limits::standard();
+    let inst = read_instance(alloc, &limits, Fixed::zero(), text.as_bytes())?;
+    if !are_allowed(&inst, starts) {
+        return Ok(None);
+    }
+    let prices = raise_prices(alloc, &inst, starts)?;
+    Ok(Some(is_zero(&inst, &prices)))
+}
+
 /// The bound that is raised for a plan of these starts, where they are allowed, on the instance of a text.
 fn bound_of(alloc: Global, text: &str, starts: &[u32]) -> Result<Option<i128>, Fail> {
     let limits = Limits::standard();
@@ -253,6 +292,16 @@ fn nothing_is_raised_without_interventions(rt: HostRuntime) -> Result<(), Fail> 
         scenario: 0,
     };
     assert!(rt; are_as_wanted(rows, wanted, 0), "{rows:?}");
+    Ok(())
+}
+
+// The list itself: no number of it is above 0 where there is no intervention, and one is where a step gains.
+#[test]
+fn zeros_are_raised_where_no_step_gains(rt: HostRuntime) -> Result<(), Fail> {
+    let alloc = rt.alloc();
+    assert_eq!(rt; zeros_are_raised(alloc, IDLE, &[])?, Some(true));
+    assert_eq!(rt; zeros_are_raised(alloc, PAIR, &[1, 1])?, Some(false));
+    assert_eq!(rt; zeros_are_raised(alloc, SKEWED, &[1])?, Some(false));
     Ok(())
 }
 
