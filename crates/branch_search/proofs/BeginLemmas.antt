@@ -14,8 +14,8 @@ use Rattle.branch_tree.specs.declared.node.Node.{Node}
 use Rattle.branch_tree.specs.declared.node.Node.TheVariants.{Split, Cost}
 use Rattle.branch_tree.specs.Trees.{root_box}
 use Rattle.branch_tree.proofs.RootLemmas.{root_is_box}
-use Rattle.branch_search.specs.declared.cell.Cell.{Cell}
-use Rattle.branch_search.specs.declared.settling.Settled.{Settled}
+use Rattle.branch_search.specs.declared.tree.cell.Cell.{Cell}
+use Rattle.branch_search.specs.declared.splitting.settling.Settled.{Settled}
 use Rattle.branch_search.specs.Best.{IsFeasiblePlan, IsNoWorse, IsBestOver}
 use Rattle.branch_search.specs.Tasks.{Task, freed, worth_in}
 use Rattle.branch_search.specs.Growing.{cell_at, node_at, box_at, IsLeafNode, IsLinked, IsPartOf, AreBoxesOf}

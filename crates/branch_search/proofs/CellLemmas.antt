@@ -11,7 +11,7 @@ use Rattle.branch_tree.specs.declared.node.Node.{Node}
 use Rattle.branch_tree.specs.declared.node.Node.TheVariants.{Split, Cost, Point, Band, Excl, Empty}
 use Rattle.branch_tree.specs.Trees.{below, above, IsSplit}
 use Rattle.branch_tree.proofs.RootLemmas.{parts_are_boxes}
-use Rattle.branch_search.specs.declared.cell.Cell.{Cell}
+use Rattle.branch_search.specs.declared.tree.cell.Cell.{Cell}
 use Rattle.branch_search.specs.Growing.{cell_at, node_at, box_at, IsLeafNode, IsSplitAt, IsLinked, IsPartOf, AreBoxesOf}
 use Rattle.branch_search.specs.Growing.{split_cells, split_list}
 

@@ -12,7 +12,7 @@ use Rattle.branch_tree.specs.declared.node.Node.{Node}
 use Rattle.branch_tree.specs.declared.node.Node.TheVariants.{Split}
 use Rattle.branch_tree.specs.Trees.{below, above, root_box, IsSplit}
 use Rattle.branch_tree.proofs.RootLemmas.{root_at, length-root, changed_at}
-use Rattle.branch_search.specs.declared.cell.Cell.{Cell}
+use Rattle.branch_search.specs.declared.tree.cell.Cell.{Cell}
 use Rattle.branch_search.specs.Growing.{cell_at, node_at, box_at, IsSplitAt, IsLinked, IsPartOf, AreBoxesOf}
 use Rattle.branch_search.specs.Climbing.{cut_above, cut_below, narrowed, IsCommon, IsClimbed}
 use Rattle.branch_search.proofs.TreeLemmas.{linked_split}

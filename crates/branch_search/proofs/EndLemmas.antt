@@ -22,8 +22,8 @@ use Rattle.branch_tree.specs.Trees.{Tree, Leaf, leaves, root_box}
 use Rattle.branch_tree.specs.Holding.{IsAtLeast, LeafHolds, first_starts, IsSingle}
 use Rattle.branch_tree.specs.Ranges.{IsLeafInRange, IsTreeInRange, IsTreeOf}
 use Rattle.branch_search.specs.declared.best.Best.{Best}
-use Rattle.branch_search.specs.declared.cell.Cell.{Cell}
-use Rattle.branch_search.specs.declared.growth.Growth.{Growth}
+use Rattle.branch_search.specs.declared.tree.cell.Cell.{Cell}
+use Rattle.branch_search.specs.declared.tree.growth.Growth.{Growth}
 use Rattle.branch_search.specs.declared.tree_end.TreeEnd.{TreeEnd}
 use Rattle.branch_search.specs.Splits.{split_boxes}
 use Rattle.branch_search.specs.Best.{IsReached, IsShort, bound_of}

@@ -13,7 +13,7 @@ use Rattle.lagrange_bound.specs.declared.span.Span.{Span}
 use Rattle.branch_tree.specs.declared.node.Node.{Node}
 use Rattle.branch_tree.specs.declared.node.Node.TheVariants.{Split, Cost, Point, Band, Excl, Empty}
 use Rattle.branch_tree.specs.Trees.{below, above}
-use Rattle.branch_search.specs.declared.cell.Cell.{Cell}
+use Rattle.branch_search.specs.declared.tree.cell.Cell.{Cell}
 use Rattle.branch_search.specs.Tasks.{Task, worth_in}
 use Rattle.branch_search.specs.Growing.{cell_at, node_at, box_at, split_cells, split_list}
 use Rattle.branch_search.specs.Settled.{IsWorthOf}

@@ -10,7 +10,7 @@ use Rattle.branch_tree.specs.declared.node.Node.TheVariants.{Split, Cost, Point,
 use Rattle.branch_tree.specs.Trees.{below, above, IsSplit}
 use Rattle.branch_tree.specs.Holding.{first_starts}
 use Rattle.branch_tree.proofs.StartLemmas.{has_start_from}
-use Rattle.branch_search.specs.declared.settling.Settled.{Settled}
+use Rattle.branch_search.specs.declared.splitting.settling.Settled.{Settled}
 use Rattle.branch_search.specs.Best.{IsReached, IsBestOver}
 use Rattle.branch_search.specs.Tasks.{Task, freed}
 use Rattle.branch_search.specs.Growing.{IsLeafNode}

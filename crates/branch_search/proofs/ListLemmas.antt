@@ -4,7 +4,7 @@ use Rattle.std.proofs.Common.{List, [], ◌∷◌, ◌++◌, length, map, revers
 use Rattle.std.proofs.lemmas.List.{append-nil, map-append, length-append, length-map, reverse-append, nil_from_length}
 use Rattle.branch_tree.specs.declared.node.Node.{Node}
 use Rattle.branch_tree.specs.declared.node.Node.TheVariants.{Split}
-use Rattle.branch_search.specs.declared.cell.Cell.{Cell}
+use Rattle.branch_search.specs.declared.tree.cell.Cell.{Cell}
 use Rattle.branch_search.specs.Growing.{cell_at, node_at, IsLeafNode}
 use Rattle.branch_search.specs.Shapes.{Shape, tip, fork, top, numbers, size, IsWithin, IsForkAt, Stands, IsShapeOf}
 use Rattle.branch_search.specs.Listing.{all_numbers, AllStand, AllWithinOf, IsListed}

@@ -18,7 +18,7 @@ use Rattle.branch_tree.specs.declared.node.Node.TheVariants.{Cost}
 use Rattle.branch_tree.specs.Holding.{IsSingle, first_starts, list_at}
 use Rattle.branch_tree.specs.Trees.{AreStartsIn}
 use Rattle.branch_tree.proofs.Refuting.{feasible_allowed, length-first_starts}
-use Rattle.branch_search.specs.declared.worths.Worths.{Worths}
+use Rattle.branch_search.specs.declared.closing.worths.Worths.{Worths}
 use Rattle.branch_search.specs.Boxes.{IsUnrefuted, worth_by, IsGreatest}
 use Rattle.branch_search.specs.Tasks.{free_task}
 use Rattle.branch_search.specs.Settled.{IsLeafOf}

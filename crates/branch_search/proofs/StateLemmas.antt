@@ -20,15 +20,15 @@ use Rattle.branch_tree.specs.Trees.{IsSplit}
 use Rattle.branch_tree.specs.Ranges.{HasPricesOf, IsBoundInRange, IsInRange}
 use Rattle.branch_tree.specs.Holding.{IsSingle}
 use Rattle.branch_search.specs.declared.best.Best.{Best}
-use Rattle.branch_search.specs.declared.cell.Cell.{Cell}
-use Rattle.branch_search.specs.declared.growth.Growth.{Growth}
-use Rattle.branch_search.specs.declared.settling.Settled.{Settled}
+use Rattle.branch_search.specs.declared.tree.cell.Cell.{Cell}
+use Rattle.branch_search.specs.declared.tree.growth.Growth.{Growth}
+use Rattle.branch_search.specs.declared.splitting.settling.Settled.{Settled}
 use Rattle.branch_search.specs.declared.tree_end.TreeEnd.{TreeEnd}
 use Rattle.branch_search.specs.Best.{IsShort}
 use Rattle.branch_search.specs.Searched.{lists_of, IsSearched}
 use Rattle.branch_search.specs.Tasks.{Task, freed}
 use Rattle.branch_search.specs.Boxes.{IsUnrefuted}
-use Rattle.branch_search.specs.Hands.{IsHand}
+use Rattle.branch_search.specs.CurrentBoxes.{IsCurrentBox}
 use Rattle.branch_search.specs.Growing.{box_at, node_at, split_cells, AreBoxesOf}
 use Rattle.branch_search.specs.Settled.{ArePartsOf}
 use Rattle.branch_search.specs.Valued.{plan_in, IsSmallValue, IsBelow, IsValued}
@@ -143,10 +143,10 @@ pub step_kept : (task : Task) (old new : Growth) (n i m c1 c2 : ℕ) (left right
     → new.cells.items ≡ split_cells old.cells.items n i m left.node right.node
     → c1 ≡ length old.cells.items → c2 ≡ length old.cells.items + 1
     → IsPermutation (with_entry left.worth c1 rest) mid → IsPermutation (with_entry right.worth c2 mid) new.waiting
-    → new.splits ≡ old.splits + 1 → IsValued task.value task.inst new.best → IsHand task.inst new.hand
+    → new.splits ≡ old.splits + 1 → IsValued task.value task.inst new.best → IsCurrentBox task.inst new.current
     → IsGrowth task new
 step_kept task old new n i m c1 c2 left right y z rest mid spans fits lists law g w p l e s parts cells d1 d2 pl pr
-    splits v hand =
+    splits v current =
     let short = popped_short task.value task.inst old.best old.waiting rest y z n g.valued w p l in
     let next = grown_more task old.cells.items n i m left right (plan_in old.best) (plan_in new.best) y old.waiting rest
     mid new.waiting old.splits g.state p l short fits lists law
@@ -160,7 +160,7 @@ step_kept task old new n i m c1 c2 left right y z rest mid spans fits lists law 
           (subst (λ (k : ℕ). IsGrown task (split_cells old.cells.items n i m left.node right.node) new.waiting
           (plan_in new.best) k) (sym splits) next);
       valued = v;
-      hand = hand;
+      current = current;
     }
 
 -- ---- the end

@@ -15,8 +15,8 @@ use Rattle.branch_tree.specs.declared.node.Node.TheVariants.{Split, Cost}
 use Rattle.branch_tree.specs.Trees.{below, above, IsSplit}
 use Rattle.branch_tree.specs.Holding.{list_at}
 use Rattle.branch_tree.proofs.Soundness.{list_in_range}
-use Rattle.branch_search.specs.declared.cell.Cell.{Cell}
-use Rattle.branch_search.specs.declared.settling.Settled.{Settled}
+use Rattle.branch_search.specs.declared.tree.cell.Cell.{Cell}
+use Rattle.branch_search.specs.declared.splitting.settling.Settled.{Settled}
 use Rattle.branch_search.specs.Best.{IsShort, IsBestOver}
 use Rattle.branch_search.specs.Tasks.{Task, freed, worth_in, IsBelowGiven}
 use Rattle.branch_search.specs.Growing.{cell_at, node_at, box_at, IsLeafNode, split_cells, split_list}

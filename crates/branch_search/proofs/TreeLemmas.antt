@@ -12,7 +12,7 @@ use Rattle.branch_tree.specs.declared.node.Node.{Node}
 use Rattle.branch_tree.specs.declared.node.Node.TheVariants.{Split, Cost, Point, Band, Excl, Empty}
 use Rattle.branch_tree.specs.Trees.{Tree, leaf, split, pre_order, below, above, IsSplit, Leaf, leaves}
 use Rattle.branch_tree.specs.Ranges.{IsLeafInRange, IsTreeInRange}
-use Rattle.branch_search.specs.declared.cell.Cell.{Cell}
+use Rattle.branch_search.specs.declared.tree.cell.Cell.{Cell}
 use Rattle.branch_search.specs.Splits.{split_boxes}
 use Rattle.branch_search.specs.Growing.{cell_at, node_at, box_at, IsLeafNode, IsSplitAt, IsLinked, AreBoxesOf}
 use Rattle.branch_search.specs.Shapes.{Shape, tip, fork, top, numbers, forks, same, times, IsWithin, IsForkAt, Stands}

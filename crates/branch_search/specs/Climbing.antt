@@ -4,7 +4,7 @@ use Rattle.std.specs.Prelude.{◌≡◌, ℕ, ◌+◌, ◌<◌, ◌≤◌, List,
 use Rattle.instance_model.specs.Tables.{Tables, tmax}
 use Rattle.lagrange_bound.specs.declared.span.Span.{Span}
 use Rattle.lagrange_bound.specs.Boxes.{span_of}
-use Rattle.branch_search.specs.declared.cell.Cell.{Cell}
+use Rattle.branch_search.specs.declared.tree.cell.Cell.{Cell}
 use Rattle.branch_search.specs.Growing.{AreBoxesOf, box_at}
 
 -- the part of an interval up to a start, and that after it

@@ -7,7 +7,7 @@ use Rattle.lagrange_bound.specs.Boxes.{IsBox}
 use Rattle.branch_tree.specs.declared.node.Node.{Node}
 use Rattle.branch_tree.specs.declared.node.Node.TheVariants.{Split, Cost, Point, Band, Excl, Empty}
 use Rattle.branch_tree.specs.Trees.{root_box, below, above, IsSplit}
-use Rattle.branch_search.specs.declared.cell.Cell.{Cell}
+use Rattle.branch_search.specs.declared.tree.cell.Cell.{Cell}
 
 -- what stands at a number
 abbrev pub cell_at : List Cell → ℕ → Cell

@@ -9,7 +9,7 @@ pub mod Shapes
 pub mod Settled
 pub mod Valued
 pub mod Entries
-pub mod Hands
+pub mod CurrentBoxes
 pub mod States
 pub mod Refuting
 pub mod Pricing

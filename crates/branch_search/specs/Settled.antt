@@ -8,7 +8,7 @@ use Rattle.branch_tree.specs.declared.node.Node.TheVariants.{Split, Cost, Point,
 use Rattle.branch_tree.specs.Holding.{IsSingle, BandHolds, ExclHolds, EmptyHolds}
 use Rattle.branch_tree.specs.Ranges.{IsLeafInRange}
 use Rattle.branch_tree.specs.Trees.{below, above}
-use Rattle.branch_search.specs.declared.settling.Settled.{Settled}
+use Rattle.branch_search.specs.declared.splitting.settling.Settled.{Settled}
 use Rattle.branch_search.specs.Boxes.{IsUnrefuted, IsGreatest}
 use Rattle.branch_search.specs.Growing.{IsLeafNode}
 use Rattle.branch_search.specs.Searched.{IsPointLeaf}

@@ -9,8 +9,8 @@ use Rattle.certificate_lines.specs.declared.line.Bound.TheVariants.{NoPlan, Leas
 use Rattle.certificate_lines.specs.declared.line.Version.TheVariants.{Two}
 use Rattle.branch_tree.specs.declared.node.Node.TheVariants.{Split, Cost}
 use Rattle.branch_search.specs.declared.best.Best.{Best}
-use Rattle.branch_search.specs.declared.cell.Cell.{Cell}
-use Rattle.branch_search.specs.declared.growth.Growth.{Growth}
+use Rattle.branch_search.specs.declared.tree.cell.Cell.{Cell}
+use Rattle.branch_search.specs.declared.tree.growth.Growth.{Growth}
 use Rattle.branch_search.specs.declared.tree_end.TreeEnd.{TreeEnd}
 use Rattle.branch_search.specs.Best.{IsBestOver}
 use Rattle.branch_search.specs.Valued.{plan_in, IsValued, IsSmallValue, IsBelow}
@@ -18,7 +18,7 @@ use Rattle.branch_search.specs.Tasks.{Task, worth_in}
 use Rattle.branch_search.specs.Growing.{node_at, box_at, AreBoxesOf}
 use Rattle.branch_search.specs.Shapes.{Shape, forks, numbers, IsShapeOf}
 use Rattle.branch_search.specs.Settled.{IsSettled}
-use Rattle.branch_search.specs.Hands.{IsHand}
+use Rattle.branch_search.specs.CurrentBoxes.{IsCurrentBox}
 
 -- ---- what waits
 
@@ -70,7 +70,7 @@ pub record IsGrown (task : Task) (cells : List Cell) (entries : List (ℤ × ℕ
 pub record IsGrowth (task : Task) (growth : Growth) : Type 0 where
   pub state : IsGrown task growth.cells.items growth.waiting (plan_in growth.best) growth.splits
   pub valued : IsValued task.value task.inst growth.best
-  pub hand : IsHand task.inst growth.hand
+  pub current : IsCurrentBox task.inst growth.current
 
 -- ---- what is left
 

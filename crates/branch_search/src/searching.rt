@@ -13,10 +13,9 @@ ghost use Rattle.branch_search.specs.Pricing.{AreWorthsOf};
 ghost use Rattle.branch_search.specs.States.{IsGrowth, IsLeftWorth};
 
 use crate::TreeEnd;
-use crate::finishing::finish;
-use crate::growth::Growth;
-use crate::step::{begin, left_worth, split_least};
-use crate::worths::{Worths, worths_of};
+use crate::closing::{Worths, worths_of};
+use crate::splitting::{begin, left_worth, split_least};
+use crate::tree::{Growth, finish};
 use instance_model::Instance;
 use lagrange_bound::{Goal, Prices, worths_are_small};
 use std::alloc::{AllocError, Global};

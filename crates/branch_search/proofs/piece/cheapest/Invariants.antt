@@ -1,5 +1,0 @@
-use Rattle.std.proofs.Common.{◌<◌, IfSome}
-use Rattle.branch_search.proofs.piece.cheapest.Given as goal
-
-abbrev pub invariant-loop-k : goal.invariant-loop-k
-invariant-loop-k l = IfSome l.found (λ k. k < l.fn.past)

@@ -1,6 +1,0 @@
-use Rattle.std.proofs.Common.{◌≡◌, take}
-use Rattle.branch_tree.specs.Holding.{first_starts}
-use Rattle.branch_search.proofs.point.starts_of.Given as goal
-
-abbrev pub invariant-loop-span : goal.invariant-loop-span
-invariant-loop-span l = l.starts.items ≡ first_starts (take l.span-index l.spans)

@@ -1,0 +1,88 @@
+//! A leaf that refutes the current box: an interval without a start, a band, or an exclusion.
+ghost use Rattle.std.specs.Prelude.{◌≡◌, ◌<◌, ◌≤◌, length, slice_set, IfSome, IfNone};
+ghost use Rattle.instance_model.specs.Tables.{tmax};
+ghost use Rattle.lagrange_bound.specs.Boxes.{HasStarts, span_of};
+ghost use Rattle.box_state.specs.Bands.{IsPart};
+ghost use Rattle.branch_search.specs.Boxes.{IsUnrefuted};
+ghost use Rattle.branch_search.specs.CurrentBoxes.{IsCurrentBox};
+ghost use Rattle.branch_search.specs.Refuting.{IsEmptyIn, IsRefuting};
+
+use crate::splitting::CurrentBox;
+use box_state::{Band, holding_exclusion, holding_exclusion_by, others_are_kept};
+use branch_tree::{Node, has_start};
+use instance_model::Instance;
+use lagrange_bound::Span;
+
+/// The first intervention whose interval has no allowed start.
+fn first_empty(inst: &Instance, spans: &[Span]) -> Option<u32>
+    requires { length spans.now ≡ length inst.now.names }
+    ensures some { IfSome result (IsEmptyIn inst.now spans.now) }
+    ensures none { IfNone result (HasStarts inst.now spans.now) }
+{
+    for i in 0..inst.interventions() {
+        if !has_start(inst, i, spans[i as usize]) {
+            return Some(i);
+        }
+    }
+    None
+}
+
+/// The leaf of a band.
+fn band_leaf(band: Band) -> Node
+    ensures { result ≡ Node.Band band.c band.t band.side }
+{
+    Node::Band {
+        c: band.c,
+        t: band.t,
+        side: band.side,
+    }
+}
+
+/// A leaf that refutes the current box: of its first interval without a start, of a band, or of an exclusion.
+pub(crate) fn refuting_leaf(inst: &Instance, current: &CurrentBox) -> Option<Node>
+    requires { IsCurrentBox inst.now current.now }
+    ensures some { IfSome result (IsRefuting inst.now current.now.boxes.spans) }
+    ensures none { IfNone result (IsUnrefuted inst.now current.now.boxes.spans) }
+{
+    let spans = current.boxes.spans();
+    if let Some(i) = first_empty(inst, spans) {
+        return Some(Node::Empty { i });
+    }
+    if let Some(band) = current.boxes.holding_band(inst) {
+        return Some(band_leaf(band));
+    }
+    match holding_exclusion(inst, spans) {
+        Some(e) => Some(Node::Excl { e }),
+        None => None,
+    }
+}
+
+/// The same where no leaf refuted the box while the interval of intervention `i` was `whole`, of which it is a part
+/// now. Tests that interval, the bands in the periods of its runs, and the exclusions that name the intervention.
+pub(crate) fn refuting_part(
+    inst: &Instance,
+    current: &CurrentBox,
+    i: u32,
+    whole: Span,
+) -> Option<Node>
+    requires current { IsCurrentBox inst.now current.now }
+    requires number { i < length inst.now.names }
+    requires end { whole.to ≤ tmax inst.now i }
+    requires part { IsPart (span_of current.now.boxes.spans i) whole }
+    requires before { IsUnrefuted inst.now (slice_set current.now.boxes.spans i whole) }
+    ensures some { IfSome result (IsRefuting inst.now current.now.boxes.spans) }
+    ensures none { IfNone result (IsUnrefuted inst.now current.now.boxes.spans) }
+{
+    others_are_kept();
+    let spans = current.boxes.spans();
+    if !has_start(inst, i, spans[i as usize]) {
+        return Some(Node::Empty { i });
+    }
+    if let Some(band) = current.boxes.holding_band_by(inst, i, whole) {
+        return Some(band_leaf(band));
+    }
+    match holding_exclusion_by(inst, &current.index, spans, i) {
+        Some(e) => Some(Node::Excl { e }),
+        None => None,
+    }
+}

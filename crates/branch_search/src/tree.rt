@@ -1,0 +1,13 @@
+//! The tree of boxes under construction: its nodes, the leaves that wait, and the certificate that it becomes.
+mod cell;
+mod finishing;
+mod growth;
+mod node_box;
+mod nodes;
+mod waiting;
+
+pub(crate) use cell::{Cell, split_cell};
+pub(crate) use finishing::finish;
+pub(crate) use growth::Growth;
+pub(crate) use node_box::box_of;
+pub(crate) use waiting::{Waiting, await_leaf};

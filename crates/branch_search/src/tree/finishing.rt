@@ -1,0 +1,63 @@
+//! The answer of a search, of what is kept.
+ghost use Rattle.std.specs.Prelude.{◌≡◌, IfOk};
+ghost use Rattle.branch_search.specs.Shapes.{Shape, IsShapeOf};
+ghost use Rattle.branch_search.specs.Valued.{plan_in};
+ghost use Rattle.branch_search.specs.States.{IsKept, bound_with, IsAnswerOf};
+
+use crate::TreeEnd;
+use crate::best::Best;
+use crate::splitting::left_worth;
+use crate::tree::growth::Growth;
+use crate::tree::nodes::nodes_of;
+use branch_tree::{Bound, Certificate, Nodes, PriceLists, Version};
+use instance_model::Starts;
+use lagrange_bound::Prices;
+use std::alloc::{AllocError, Global};
+
+/// The bound where this worth is the least that is left, or where none is.
+fn bound_of(left: Option<i128>, best: &Option<Best>) -> Bound
+    ensures { result ≡ bound_with left best.now }
+{
+    if let Some(worth) = left {
+        return Bound::Least(worth);
+    }
+    match best {
+        Some(best) => Bound::Least(best.value),
+        None => Bound::NoPlan,
+    }
+}
+
+/// The starts of the best plan, or none.
+fn starts_of(best: Option<Best>) -> Option<Starts>
+    ensures { result ≡ plan_in best }
+{
+    match best {
+        Some(Best { starts, .. }) => Some(starts),
+        None => None,
+    }
+}
+
+/// The certificate and the best plan. All that waits is given up as `cost` leaves.
+pub(crate) fn finish(
+    alloc: Global,
+    lists: Vec<Prices>,
+    growth: Growth,
+) -> Result<TreeEnd, AllocError>
+    requires kept { IsKept growth }
+    requires shape { (shape : Shape) × IsShapeOf growth.cells.items shape }
+    ensures { IfOk result (IsAnswerOf growth lists.items) }
+{
+    let left = left_worth(&growth);
+    let nodes = nodes_of(alloc, growth.cells.as_slice())?;
+    let bound = bound_of(left, &growth.best);
+    Ok(TreeEnd {
+        cert: Certificate {
+            version: Version::Two,
+            bound,
+            lists: PriceLists::from_vec(lists),
+            nodes: Nodes::from_vec(nodes),
+        },
+        best: starts_of(growth.best),
+        unfinished: left.is_some(),
+    })
+}
