@@ -1,4 +1,7 @@
 //! All ladder steps of a price list, in a fixed order: the first one that leads to a great enough worth is taken.
+//!
+//! The loops over limits and over exclusions stand apart, though they look alike: the contract of each says of its own
+//! places that no step there leads so far, and of exclusions those of their seasons alone are places.
 ghost use Rattle.std.specs.Prelude.{◌<◌, ◌≤◌, length, IfOk, OnOk};
 ghost use Rattle.instance_model.specs.Plans.{AreAllowedStarts};
 ghost use Rattle.lagrange_bound.specs.Prices.{IsPriceList};
