@@ -13,7 +13,7 @@ ghost use Rattle.instance_model.specs.Tables.{entry_place, scenarios_before, per
 ghost use Rattle.instance_model.specs.Tables.{load_of, rank_of, upper_of, lower_of, in_season_of, exclusion_of};
 
 use crate::cells::find_cell;
-use crate::offsets::{Offsets, is_allowed_in, numbers_to, start_count, sums_before};
+use crate::offsets::{Offsets, is_allowed_in, start_count};
 use crate::parts::{Exclusion, LoadCell, Parts};
 use crate::risk_numbers::RiskNumbers;
 use crate::run_risks::{RunRisks, part};
@@ -67,10 +67,8 @@ impl Instance {
         requires fits { IsFitting (tables_of parts) }
         ensures { IfOk result (λ inst. inst ≡ tables_of parts) }
     {
-        let scenarios_before = sums_before(alloc, parts.scenarios.as_slice())?;
-        let risks = Offsets::of(alloc, &parts, scenarios_before)?;
-        let periods_before = numbers_to(alloc, parts.periods)?;
-        let soft = Offsets::of(alloc, &parts, periods_before)?;
+        let risks = Offsets::of_risks(alloc, &parts)?;
+        let soft = Offsets::of_soft(alloc, &parts)?;
         Ok(Instance { parts, risks, soft })
     }
 

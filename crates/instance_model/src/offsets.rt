@@ -2,9 +2,11 @@
 ghost use Rattle.std.specs.Prelude.{◌≡◌, ℕ, ◌+◌, ◌-◌, ◌*◌, ◌<◌, ◌≤◌, ◌^◌, length, IfOk, IsTrue, slice_index};
 ghost use Rattle.std.specs.Prelude.{slice_index_or, All, []};
 ghost use Rattle.instance_model.specs.Naturals.{count_sum};
-ghost use Rattle.instance_model.specs.Tables.{allowed_of, tmax, entries_at, entries_of};
+ghost use Rattle.instance_model.specs.Tables.{allowed_of, tmax, entries_at, entries_of, scenarios_before};
+ghost use Rattle.instance_model.specs.Tables.{periods_before};
 ghost use Rattle.instance_model.specs.Fitting.{IsFitting};
-ghost use Rattle.instance_model.specs.View.{tables_of, rows_of, column_at, IsColumn, AreRowPlaces, AreOffsets, AreSums};
+ghost use Rattle.instance_model.specs.View.{tables_of, rows_of, column_at, IsColumn, IsColumnOf, AreRowPlaces, AreOffsets};
+ghost use Rattle.instance_model.specs.View.{AreSums};
 
 use crate::parts::Parts;
 use std::alloc::{AllocError, Global};
@@ -35,7 +37,7 @@ pub fn is_allowed_in(periods: u32, durations: &[u32], s: u32) -> bool
 }
 
 /// How many of the counts stand before each one, and before the end.
-pub fn sums_before(alloc: Global, counts: &[u32]) -> Result<Vec<usize>, AllocError>
+fn sums_before(alloc: Global, counts: &[u32]) -> Result<Vec<usize>, AllocError>
     requires short { length counts.now ≤ 512 }
     requires small { All (λ n. (1 ≤ n) × (n ≤ 1024)) counts.now }
     ensures { IfOk result (λ v. AreSums counts.now v.items) }
@@ -51,7 +53,7 @@ pub fn sums_before(alloc: Global, counts: &[u32]) -> Result<Vec<usize>, AllocErr
 }
 
 /// The numbers from 0 to `periods`.
-pub fn numbers_to(alloc: Global, periods: u32) -> Result<Vec<usize>, AllocError>
+fn numbers_to(alloc: Global, periods: u32) -> Result<Vec<usize>, AllocError>
     requires { periods ≤ 512 }
     ensures each { IfOk result (λ v. length v.items ≡ periods + 1) }
     ensures values { IfOk result (λ v. (k : ℕ) → k < periods + 1 → slice_index v.items k ≡ k) }
@@ -141,8 +143,29 @@ fn row_places(
 }
 
 impl Offsets {
+    /// Those of the risks, of which a period has one for each scenario.
+    pub fn of_risks(alloc: Global, parts: &Parts) -> Result<Offsets, AllocError>
+        requires { IsFitting (tables_of parts.now) }
+        ensures sound { IfOk result (AreOffsets (tables_of parts.now)) }
+        ensures column { IfOk result
+            (λ o. IsColumnOf parts.now.periods (scenarios_before (tables_of parts.now)) o.before.items) }
+    {
+        let before = sums_before(alloc, parts.scenarios.as_slice())?;
+        Offsets::of(alloc, parts, before)
+    }
+
+    /// Those of the soft flags, of which a period has one.
+    pub fn of_soft(alloc: Global, parts: &Parts) -> Result<Offsets, AllocError>
+        requires { IsFitting (tables_of parts.now) }
+        ensures sound { IfOk result (AreOffsets (tables_of parts.now)) }
+        ensures column { IfOk result (λ o. IsColumnOf parts.now.periods periods_before o.before.items) }
+    {
+        let before = numbers_to(alloc, parts.periods)?;
+        Offsets::of(alloc, parts, before)
+    }
+
     /// The offsets of entries of which so many stand before each period.
-    pub fn of(alloc: Global, parts: &Parts, before: Vec<usize>) -> Result<Offsets, AllocError>
+    fn of(alloc: Global, parts: &Parts, before: Vec<usize>) -> Result<Offsets, AllocError>
         requires fits { IsFitting (tables_of parts.now) }
         requires column { IsColumn parts.now.periods before.items }
         ensures sound { IfOk result (AreOffsets (tables_of parts.now)) }
