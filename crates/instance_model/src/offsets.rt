@@ -5,8 +5,8 @@ ghost use Rattle.instance_model.specs.Naturals.{count_sum};
 ghost use Rattle.instance_model.specs.Tables.{allowed_of, tmax, entries_at, entries_of, scenarios_before};
 ghost use Rattle.instance_model.specs.Tables.{periods_before};
 ghost use Rattle.instance_model.specs.Fitting.{IsFitting};
-ghost use Rattle.instance_model.specs.View.{tables_of, rows_of, column_at, IsColumn, IsColumnOf, AreRowPlaces, AreOffsets};
-ghost use Rattle.instance_model.specs.View.{AreSums};
+ghost use Rattle.instance_model.specs.View.{tables_of, rows_of, column_at, IsColumn, IsColumnOf, AreRowPlaces};
+ghost use Rattle.instance_model.specs.View.{AreOffsets, AreSums};
 
 use crate::parts::Parts;
 use std::alloc::{AllocError, Global};

@@ -1,8 +1,7 @@
 //! A file read as an instance, whose parts were worked out by hand.
 #![tactic(auto, unfolding(instance_model::specs::Tables::in_run))]
 
-ghost use Rattle.std.specs.Prelude.{◌≡◌, ◌<◌, ◌≤◌, length, IsTrue};
-ghost use Rattle.instance_model.specs.Tables.{in_run, is_allowed};
+ghost use Rattle.std.specs.Prelude.{◌≡◌, ◌<◌};
 
 use crate::samples::{GOOD, PIECES, REORDERED, of_file, slack};
 use fixed_num::Steps;
