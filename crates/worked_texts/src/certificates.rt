@@ -2,6 +2,7 @@
 
 use certificate_lines::{Bound, CertificateLine, Side, Version, line_of, write_line, write_tail};
 use plan_desk::{Desk, Failed, MemDesk};
+use std::alloc::{AllocError, Global};
 use std::test::Fail;
 
 /// Writes the line to a new file.
@@ -19,6 +20,18 @@ fn write_tail_to_file<D: Desk>(
 ) -> Result<(), Failed> {
     desk.put_out("lines")?;
     write_tail(t, weight, places, desk)
+}
+
+/// Whether the text of a line is read, and its line is written as the text again.
+fn is_written_back(alloc: Global, text: &[u8]) -> Result<bool, AllocError> {
+    let Some(bytes) = text.strip_suffix(b"\n") else {
+        return Ok(false);
+    };
+    let Some(line) = line_of(alloc, bytes)? else {
+        return Ok(false);
+    };
+    let mut desk = MemDesk::make(alloc);
+    Ok(write_to_file(&line, &mut desk).is_ok() && desk.file("lines") == Some(text))
 }
 
 #[test]
@@ -45,12 +58,7 @@ fn reads_and_writes_each_form(rt: HostRuntime) -> Result<(), Fail> {
         b"excl 14\n",
         b"empty 15\n",
     ] {
-        let Some(line) = line_of(rt.alloc(), &text[..text.len() - 1])? else {
-            panic!(rt; "{text:?} is refused");
-        };
-        let mut desk = MemDesk::make(rt.alloc());
-        assert_eq!(rt; write_to_file(&line, &mut desk), Ok(()));
-        assert_eq!(rt; desk.file("lines"), Some(text));
+        assert!(rt; is_written_back(rt.alloc(), text)?, "{text:?}");
     }
     Ok(())
 }
