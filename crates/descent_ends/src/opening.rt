@@ -10,7 +10,7 @@ use std::alloc::{AllocError, Global};
 /// The plan from which a descent sets out, or why there is none.
 #[derive(Drop)]
 pub enum Opening {
-    /// The least allowed start of each intervention.
+    /// An allowed start of each intervention.
     From(Starts),
     /// The first intervention without an allowed start.
     Without { i: u32 },

@@ -8,5 +8,5 @@ mod incumbent;
 mod opening;
 mod repairing;
 
-pub use opening::{Opening, opening_of};
+pub use opening::opening_of;
 pub use repairing::{Repair, make_repair};

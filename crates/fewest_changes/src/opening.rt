@@ -3,19 +3,11 @@ ghost use Rattle.std.specs.Prelude.{ℕ, ◌<◌, length, IfOk, IfSome, IfNone, 
 ghost use Rattle.instance_model.specs.Tables.{is_allowed};
 ghost use Rattle.fewest_changes.specs.Openings.{IsAllowedOld, IsOpeningStart, OpensAs};
 
+use descent_ends::Opening;
 use duration_calendar::first_allowed;
 use instance_model::{Instance, Starts};
 use plan_changes::old_start;
 use std::alloc::{AllocError, Global};
-
-/// The plan from which a repair sets out, or why there is none.
-#[derive(Drop)]
-pub enum Opening {
-    /// The old start of each intervention where that is allowed, and else its least allowed start.
-    From(Starts),
-    /// The first intervention without an allowed start.
-    Without { i: u32 },
-}
 
 /// The old start of intervention `i`, if it has one that is allowed.
 fn kept_start(inst: &Instance, i: u32, old: Option<u32>) -> Option<u32>
