@@ -1,6 +1,6 @@
 -- What was made of an instance and old starts is an answer to them.
 use Rattle.std.proofs.Common.{◌≡◌, ℕ, ◌*◌, ◌+◌, ◌≤◌, refl, sym, subst, arith, ℤ, List, [], ◌∷◌, length, map}
-use Rattle.std.proofs.Common.{Option, Some, None}
+use Rattle.std.proofs.Common.{Option, Some, None, All}
 use Rattle.std.specs.Prelude.{IfSome}
 use Rattle.std.proofs.lemmas.List.Elements.{All-nil, All-cons}
 use Rattle.instance_model.specs.Limits.{standard_limits}
