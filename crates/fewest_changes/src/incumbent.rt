@@ -31,6 +31,7 @@ pub(crate) fn incumbent_of<R: Row>(
     if !descended.feasible {
         return Ok(None);
     }
-    let given = give_back(alloc, inst, old, descended.starts.as_slice())?;
+    let end = descended.starts.as_slice();
+    let given = give_back(alloc, inst, old, end)?;
     Ok(Some(given))
 }

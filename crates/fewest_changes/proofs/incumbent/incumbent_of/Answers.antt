@@ -19,11 +19,11 @@ returns-then-not-descended g c =
 pub returns : goal.returns
 returns g c =
     end_given c.args.inst.now c.args.old.now c.args.turns c.args.opening.now c.in_ok-descended.descended
-    c.as_slice-given.result.now c.in_ok-given.given
+    c.as_slice-end.result.now c.in_ok-given.given
     (not_opens c.args.inst.now c.args.opening.now c.as_slice.result.now c.broken_rule.result
     (c.as_slice.ensures.value ∙ c.in_ok-plan.ensures) c.broken_rule.ensures
     (sym c.is_some-is_broken.ensures ∙ c.if-not-is_broken.false)) c.in_ok-descended.ensures c.if-not-descended.false
-    c.as_slice-given.ensures
+    c.as_slice-end.ensures
     (record {
       plan = record { each = c.in_ok-given.ensures.each; feasible = c.in_ok-given.ensures.feasible };
       either = c.in_ok-given.ensures.either;
