@@ -1,4 +1,5 @@
-use Rattle.std.proofs.Common.{◌∙◌, sym}
+use Rattle.std.proofs.Common.{ℕ, List, length, map, Some, ◌∙◌, sym, ap, subst}
+use Rattle.instance_model.specs.Rules.{IsFeasible}
 use Rattle.fewest_changes.proofs.IncumbentLemmas.{opens_given, not_opens, not_given, end_given}
 use Rattle.fewest_changes.proofs.incumbent.incumbent_of.Goals as goal
 
@@ -15,6 +16,15 @@ returns-then-not-descended g c =
     (c.as_slice.ensures.value ∙ c.in_ok-plan.ensures) c.broken_rule.ensures
     (sym c.is_some-is_broken.ensures ∙ c.if-not-is_broken.false)) c.in_ok-descended.ensures
     c.if-not-descended.true
+
+pub give_back-requires-clause-each : goal.give_back-requires-clause-each
+give_back-requires-clause-each g c =
+    ap (λ (xs : List ℕ). length xs) c.as_slice-end.ensures ∙ c.in_ok-descended.ensures.allowed.each
+
+pub give_back-requires-clause-feasible : goal.give_back-requires-clause-feasible
+give_back-requires-clause-feasible g c =
+    subst (λ (xs : List ℕ). IsFeasible c.args.inst.now (map Some xs)) (sym c.as_slice-end.ensures)
+    (c.in_ok-descended.ensures.feasible.0 c.if-not-descended.false)
 
 pub returns : goal.returns
 returns g c =
