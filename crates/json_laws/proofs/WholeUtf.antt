@@ -1,9 +1,7 @@
 -- A JSON text is UTF-8.
-use Rattle.std.specs.Prelude.{◌⊎◌}
-use Rattle.std.proofs.Common.{◌≡◌, ℕ, ◌<◌, List, [], ◌∷◌, ◌++◌, Bool, arith}
+use Rattle.std.proofs.Common.{ℕ, ◌<◌, List, [], ◌∷◌, ◌++◌, Bool, arith}
 use Rattle.std.proofs.lemmas.Bool.Decides.{nat_tests}
 use Rattle.std.proofs.lemmas.Str.{IsUtf8-append, IsUtf8-nil}
-use Rattle.std.specs.Char.{digit_value}
 use Rattle.std.specs.Str.{IsUtf8}
 use Rattle.json_grammar.specs.Tree.{Tree, Node, Trees, Members}
 use Rattle.json_grammar.specs.Grammar.{IsBlank, AreBlanks, IsDigit, AreDigits, IsInt, IsFrac, IsExp, IsExponentMark}
