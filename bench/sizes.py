@@ -16,6 +16,7 @@ texts; `hostile` what is costly rather than large. --only takes the cases whose 
 """
 import argparse
 import ast
+import math
 import os
 import resource
 import subprocess
@@ -402,12 +403,16 @@ def hostile_cases(size):
     for part in (size // 10, size):
         keyed(f"empty risk lists at different starts, {part // MILLION:,} MB", part)
         root_keys(f"different further keys in the root, {part // MILLION:,} MB", part)
-    for power in (12, 13, 14, 15):
-        alike(f"2^{power} further keys in the root that hash alike", power, True)
-        alike(f"2^{power} further keys in the root of that length that don't", power, False)
-    for many in (30_000, 60_000, 120_000):
-        crowded(f"{many:,} start keys that the table puts side by side", many, True)
-    crowded("120,000 start keys, one behind the other", 120_000, False)
+    for power in (15, 16, 17):
+        alike(f"2^{power} further keys in the root that one hasher takes for the same", power, True)
+        alike(f"2^{power} further keys in the root of that length that it doesn't", power, False)
+    for part in (16, 32, 64):
+        crowded(f"start keys that its table puts side by side, {part} MB", part * MILLION, True)
+        crowded(f"start keys one behind the other, {part} MB", part * MILLION, False)
+        unordered(f"start keys in no order, {part} MB", part * MILLION, b'"risk":{"1":{',
+                  b'"%d":[],', 10 ** 8, 9 * 10 ** 8)
+        unordered(f"short further keys in the root in no order, {part} MB", part * MILLION, b"{",
+                  b'"%07d":0,', 0, 10 ** 7)
 
 
 def least_cut(folder, key):
@@ -452,7 +457,8 @@ def root_keys(name, size):
         return "evaluate i p", 0, "feasible"
 
 
-# The hasher of the map of keys has a fixed seed, and multiplies 16 bytes at a time into 64 bits.
+# A hasher whose seed is fixed, which multiplies 16 bytes at a time into 64 bits, as that of std's tables and of many
+# others: keys that it takes for the same make a table of them slow.
 WORD = 2 ** 64 - 1
 MULTIPLIER, SEED = 0x9e3779b97f4a7c15, 0x243f6a8885a308d3
 
@@ -515,11 +521,11 @@ def alike(name, power, same):
         return "evaluate i p", 0, "feasible"
 
 
-def crowded(name, many, side_by_side):
+def crowded(name, size, side_by_side):
     """Start keys whose place in a table of keys, which looks on from place to place, is among a few of all."""
     @case("hostile", name)
     def make(folder):
-        groups = 1
+        many, groups = size // len(b'"100000000":[],'), 1
         while 9 * groups < many:
             groups *= 2
         state, taken, n = SEED, [], 10 ** 8
@@ -532,6 +538,21 @@ def crowded(name, many, side_by_side):
         with open(os.path.join(folder, "i"), "wb") as out:
             out.write(head)
             out.writelines(b'"%d":[],' % n for n in taken)
+            out.write(rest)
+        return "evaluate i p", 0, "feasible"
+
+
+def unordered(name, size, behind, member, first, many):
+    """Members whose keys are numbers from a first one on, each far from the one before it."""
+    @case("hostile", name)
+    def make(folder):
+        head, rest = least_cut(folder, behind)
+        step = 618_033_989 % many | 1
+        while math.gcd(step, many) > 1:
+            step += 2
+        with open(os.path.join(folder, "i"), "wb") as out:
+            out.write(head)
+            out.writelines(member % (first + k * step % many) for k in range(size // len(member % (first + many - 1))))
             out.write(rest)
         return "evaluate i p", 0, "feasible"
 

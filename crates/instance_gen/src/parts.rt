@@ -8,8 +8,8 @@ ghost use Rattle.instance_gen.specs.Drawn.{drawn_exclusions, drawn_tables, level
 ghost use Rattle.instance_gen.specs.Drawn.{numbered_names, season_from};
 
 use crate::draws::{SCENARIOS, draw_interventions, whole};
-use indexmap::IndexSet;
 use instance_model::{Exclusion, Instance, Parts, RunRisks};
+use ordered_keys::TextSet;
 use std::alloc::{AllocError, Global};
 
 /// The number of the last period.
@@ -23,13 +23,13 @@ fn numbered_name(alloc: Global, letter: &str, number: u32) -> Result<String, All
 }
 
 /// A letter and the numbers from 1 to `n`.
-fn numbered_names(alloc: Global, letter: &str, n: u32) -> Result<IndexSet<String>, AllocError>
-    ensures { IfOk result (λ names. map string_bytes names.keys ≡ numbered_names letter.now n) }
+fn numbered_names(alloc: Global, letter: &str, n: u32) -> Result<TextSet, AllocError>
+    ensures { IfOk result (λ names. map string_bytes names.texts.items ≡ numbered_names letter.now n) }
 {
-    let mut names = IndexSet::new(alloc);
+    let mut names = TextSet::new(alloc);
     for k in 0..n {
         let name = numbered_name(alloc, letter, k + 1)?;
-        names.insert(name)?;
+        names.add(name)?;
     }
     Ok(names)
 }
@@ -102,19 +102,20 @@ fn exclusions(alloc: Global, n: u32) -> Result<Vec<Exclusion>, AllocError>
 /// The names of all things.
 #[derive(Drop)]
 struct NameSets {
-    resources: IndexSet<String>,
-    seasons: IndexSet<String>,
-    interventions: IndexSet<String>,
-    exclusions: IndexSet<String>,
+    resources: TextSet,
+    seasons: TextSet,
+    interventions: TextSet,
+    exclusions: TextSet,
 }
 
 fn all_names(alloc: Global, n: u32) -> Result<NameSets, AllocError>
-    ensures resources { IfOk result (λ names. map string_bytes names.resources.keys ≡ numbered_names (codes "c") 2) }
-    ensures seasons { IfOk result (λ names. map string_bytes names.seasons.keys ≡ numbered_names (codes "s") 2) }
+    ensures resources { IfOk result
+        (λ names. map string_bytes names.resources.texts.items ≡ numbered_names (codes "c") 2) }
+    ensures seasons { IfOk result (λ names. map string_bytes names.seasons.texts.items ≡ numbered_names (codes "s") 2) }
     ensures interventions { IfOk result
-        (λ names. map string_bytes names.interventions.keys ≡ numbered_names (codes "I") n) }
+        (λ names. map string_bytes names.interventions.texts.items ≡ numbered_names (codes "I") n) }
     ensures exclusions { IfOk result
-        (λ names. map string_bytes names.exclusions.keys ≡ numbered_names (codes "E") (n / 4)) }
+        (λ names. map string_bytes names.exclusions.texts.items ≡ numbered_names (codes "E") (n / 4)) }
 {
     Ok(NameSets {
         resources: numbered_names(alloc, "c", 2)?,

@@ -153,7 +153,7 @@ impl Instance {
         ensures found { IfSome result (λ i. slice_get self.now.names i ≡ Some name.now) }
         ensures none { IfNone result (¬ Contains self.now.names name.now) }
     {
-        match self.parts.interventions.get_index_of(name) {
+        match self.parts.interventions.index_of(name) {
             Some(i) => Some(i as u32),
             None => None,
         }

@@ -4,7 +4,7 @@ ghost use Rattle.instance_model.specs.RunRisks.{SuitRuns, SuitRuns-prop};
 
 use crate::run_risks::RunRisks;
 use fixed_num::Fixed;
-use indexmap::IndexSet;
+use ordered_keys::TextSet;
 
 /// Two interventions, which may be one, that are not to be in progress together in a period of a season.
 #[derive(Clone, Copy, Debug, PartialEq, Eq)]
@@ -33,24 +33,24 @@ pub struct Parts {
     pub quantile: u32,
     /// By period.
     pub scenarios: Vec<u32>,
-    pub resources: IndexSet<String>,
+    pub resources: TextSet,
     /// Limits by resource, then period, in counts of 10^-12.
     pub upper: Vec<i128>,
     pub lower: Vec<i128>,
-    pub seasons: IndexSet<String>,
+    pub seasons: TextSet,
     /// By season, then period.
     pub in_season: Vec<bool>,
-    pub interventions: IndexSet<String>,
+    pub interventions: TextSet,
     /// Durations by intervention, then start, in periods.
     pub delta: Vec<Vec<u32>>,
-    pub exclusions: IndexSet<String>,
+    pub exclusions: TextSet,
     pub excluded: Vec<Exclusion>,
     /// By intervention, strictly ascending by start, period, resource.
     pub loads: Vec<Vec<LoadCell>>,
     pub risks: RunRisks,
     /// How many numbers of the file were changed by rounding.
     pub rounded: u64,
-    ghost suits: { SuitRuns (field_tables periods alpha quantile scenarios.items resources.keys upper.items lower.items
-        seasons.keys in_season.items interventions.keys delta.items exclusions.keys excluded.items loads.items risks
-        rounded) risks } by { SuitRuns-prop _ risks },
+    ghost suits: { SuitRuns (field_tables periods alpha quantile scenarios.items resources.texts.items upper.items
+        lower.items seasons.texts.items in_season.items interventions.texts.items delta.items exclusions.texts.items
+        excluded.items loads.items risks rounded) risks } by { SuitRuns-prop _ risks },
 }

@@ -10,11 +10,11 @@ kept_of k = record {
   alpha = k.rows.alpha;
   quantile = k.rows.quantile;
   scenarios = k.rows.scenarios.items;
-  resources = map string_bytes k.rows.resources.keys;
+  resources = map string_bytes k.rows.resources.texts.items;
   bands = record { closed = map band_view k.rows.bands.items; begun = band_view k.bands; numbers = k.numbers.items };
-  seasons = map string_bytes k.rows.seasons.keys;
+  seasons = map string_bytes k.rows.seasons.texts.items;
   season_periods = record { closed = map (λ v. v.items) k.rows.season_periods.items; begun = k.season.items };
-  interventions = map string_bytes k.rows.interventions.keys;
+  interventions = map string_bytes k.rows.interventions.texts.items;
   works = record {
     closed = map work_view k.rows.works.items;
     begun = work_view k.work;
@@ -22,7 +22,7 @@ kept_of k = record {
     period = k.period;
     start = k.start;
   };
-  exclusions = map string_bytes k.rows.exclusions.keys;
+  exclusions = map string_bytes k.rows.exclusions.texts.items;
   exclusion_words = record {
     closed = map (λ v. map string_bytes v.items) k.rows.exclusion_words.items;
     begun = map string_bytes k.words.items;

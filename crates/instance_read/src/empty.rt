@@ -5,9 +5,9 @@ ghost use Rattle.instance_rows.specs.RowFaults as none;
 ghost use Rattle.instance_rows.specs.Views.{band_view, workload_view, work_view, rows_view};
 ghost use Rattle.instance_read.specs.Keeping as spec;
 
-use indexmap::IndexSet;
 use instance_model::RiskLists;
 use instance_rows::{Bands, FileRows, Work, Workload};
+use ordered_keys::TextSet;
 use std::alloc::Global;
 
 /// A resource without limits.
@@ -51,13 +51,13 @@ pub fn no_rows(alloc: Global) -> FileRows
         alpha: 0,
         quantile: 0,
         scenarios: Vec::new(alloc),
-        resources: IndexSet::new(alloc),
+        resources: TextSet::new(alloc),
         bands: Vec::new(alloc),
-        seasons: IndexSet::new(alloc),
+        seasons: TextSet::new(alloc),
         season_periods: Vec::new(alloc),
-        interventions: IndexSet::new(alloc),
+        interventions: TextSet::new(alloc),
         works: Vec::new(alloc),
-        exclusions: IndexSet::new(alloc),
+        exclusions: TextSet::new(alloc),
         exclusion_words: Vec::new(alloc),
         rounded: 0,
     }

@@ -16,10 +16,10 @@ ghost use Rattle.instance_read.specs.Keepers.{kept_of};
 
 use crate::empty::{no_bands, no_rows, no_work, no_workload};
 use fixed_num::Fixed;
-use indexmap::IndexSet;
 use instance_rows::{Bands, FileRows, Load, Work, Workload};
 use instance_shape::Spot;
 use json_grammar::{Event, Text};
+use ordered_keys::TextSet;
 use shape_walk::Read;
 use std::alloc::{AllocError, Global};
 use std::mem;
@@ -362,11 +362,12 @@ impl Keeper {
 }
 
 /// Adds a name, if it is none of those that are there.
-fn add_name(names: &mut IndexSet<String>, name: String) -> Result<(), AllocError>
+fn add_name(names: &mut TextSet, name: String) -> Result<(), AllocError>
     ensures { OnOk result
-        (map string_bytes names.new.keys ≡ spec.with_name (string_bytes name) (map string_bytes names.old.keys)) }
+        (map string_bytes names.new.texts.items
+        ≡ spec.with_name (string_bytes name) (map string_bytes names.old.texts.items)) }
 {
-    names.insert_full(name)?;
+    names.add(name)?;
     Ok(())
 }
 

@@ -9,8 +9,8 @@ ghost use Rattle.instance_rows.specs.Sound.{AreWorkloadsApart};
 ghost use Rattle.instance_rows.specs.Views.{load_view, workload_view};
 
 use crate::rows::{Load, Workload};
-use indexmap::IndexSet;
 use instance_model::LoadCell;
+use ordered_keys::TextSet;
 use std::alloc::{AllocError, Global};
 
 /// The load cells of an intervention: its workloads of known resources in the periods of allowed runs, by start, then
@@ -19,16 +19,17 @@ pub fn load_cells(
     alloc: Global,
     periods: u32,
     durations: &[u32],
-    resources: &IndexSet<String>,
+    resources: &TextSet,
     workloads: &[Workload],
 ) -> Result<Vec<LoadCell>, AllocError>
     requires periods { periods ≤ 512 }
     requires starts { length durations.now ≤ 512 }
-    requires few { length resources.now.keys ≤ 1024 }
-    requires names { AllPairs (λ a b. a ≢ b) (map string_bytes resources.now.keys) }
+    requires few { length resources.now.texts.items ≤ 1024 }
+    requires names { AllPairs (λ a b. a ≢ b) (map string_bytes resources.now.texts.items) }
     requires apart { AreWorkloadsApart (map workload_view workloads.now) }
     ensures { IfOk result
-        (λ v. v.items ≡ table.each_run periods durations.now (table.cells_at (map string_bytes resources.now.keys)
+        (λ v. v.items
+        ≡ table.each_run periods durations.now (table.cells_at (map string_bytes resources.now.texts.items)
         (map workload_view workloads.now))) }
 {
     let mut cells = all_cells(alloc, periods, durations, resources, workloads)?;
@@ -41,19 +42,20 @@ fn all_cells(
     alloc: Global,
     periods: u32,
     durations: &[u32],
-    resources: &IndexSet<String>,
+    resources: &TextSet,
     workloads: &[Workload],
 ) -> Result<Vec<LoadCell>, AllocError>
     requires periods { periods ≤ 512 }
     requires starts { length durations.now ≤ 512 }
-    requires few { length resources.now.keys ≤ 1024 }
+    requires few { length resources.now.texts.items ≤ 1024 }
     ensures { IfOk result
         (λ v. v.items
-        ≡ all_kept periods durations.now (map string_bytes resources.now.keys) (map workload_view workloads.now)) }
+        ≡ all_kept periods durations.now (map string_bytes resources.now.texts.items)
+            (map workload_view workloads.now)) }
 {
     let mut cells = Vec::new(alloc);
     for workload in workloads {
-        if let Some(resource) = resources.get_index_of(workload.resource.as_str()) {
+        if let Some(resource) = resources.index_of(workload.resource.as_str()) {
             add_cells(
                 periods,
                 durations,

@@ -11,7 +11,7 @@ ghost use Rattle.instance_rows.specs.Views.{rows_view, band_view, work_view, wor
 use crate::fault::{CrossFault, RowsFault};
 use crate::names::number_of;
 use crate::rows::{Bands, FileRows, Work, Workload};
-use indexmap::IndexSet;
+use ordered_keys::TextSet;
 use std::alloc::Global;
 
 /// There is one number of scenarios for each period.
@@ -69,11 +69,11 @@ pub fn check_starts(alloc: Global, periods: u32, name: &str, work: &Work) -> Res
 /// Each workload names a resource.
 pub fn check_workloads(
     alloc: Global,
-    resources: &IndexSet<String>,
+    resources: &TextSet,
     workloads: &[Workload],
 ) -> Result<(), RowsFault>
-    requires { length resources.now.keys ≤ 1024 }
-    ensures { Tells (first_in (fault.workload_fault (map string_bytes resources.now.keys))
+    requires { length resources.now.texts.items ≤ 1024 }
+    ensures { Tells (first_in (fault.workload_fault (map string_bytes resources.now.texts.items))
         (map workload_view workloads.now)) result }
 {
     for workload in workloads {

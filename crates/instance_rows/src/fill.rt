@@ -9,8 +9,8 @@ ghost use Rattle.instance_rows.specs.Views.{work_view};
 
 use crate::cells::load_cells;
 use crate::rows::Work;
-use indexmap::IndexSet;
 use instance_model::{LoadCell, ReadRisks};
+use ordered_keys::TextSet;
 use std::alloc::{AllocError, Global};
 use std::mem;
 
@@ -29,16 +29,17 @@ pub struct WorkTables {
 pub fn work_tables(
     alloc: Global,
     periods: u32,
-    resources: &IndexSet<String>,
+    resources: &TextSet,
     works: Vec<Work>,
     mut orders: Vec<Vec<usize>>,
 ) -> Result<WorkTables, AllocError>
     requires few { periods ≤ 512 }
-    requires few_resources { length resources.now.keys ≤ 1024 }
-    requires names { AllPairs (λ a b. a ≢ b) (map string_bytes resources.now.keys) }
+    requires few_resources { length resources.now.texts.items ≤ 1024 }
+    requires names { AllPairs (λ a b. a ≢ b) (map string_bytes resources.now.texts.items) }
     requires ready { All (λ w. IsReady periods w) (map work_view works.items) }
     requires orders { map (λ o. o.items) orders.items ≡ map (λ w. order_of periods (work_view w)) works.items }
-    ensures { IfOk result (AreTablesOf periods (map string_bytes resources.now.keys) (map work_view works.items)) }
+    ensures { IfOk result
+        (AreTablesOf periods (map string_bytes resources.now.texts.items) (map work_view works.items)) }
 {
     let mut tables = WorkTables {
         delta: Vec::with_capacity(alloc, works.len())?,
@@ -56,19 +57,19 @@ pub fn work_tables(
 fn add_work(
     alloc: Global,
     periods: u32,
-    resources: &IndexSet<String>,
+    resources: &TextSet,
     work: Work,
     order: Vec<usize>,
     tables: &mut WorkTables,
 ) -> Result<(), AllocError>
     requires few { periods ≤ 512 }
-    requires few_resources { length resources.now.keys ≤ 1024 }
-    requires names { AllPairs (λ a b. a ≢ b) (map string_bytes resources.now.keys) }
+    requires few_resources { length resources.now.texts.items ≤ 1024 }
+    requires names { AllPairs (λ a b. a ≢ b) (map string_bytes resources.now.texts.items) }
     requires ready { IsReady periods (work_view work) }
     requires order { order.items ≡ order_of periods (work_view work) }
-    ensures { (works : List WorkRow) → AreTablesOf periods (map string_bytes resources.now.keys) works tables.old
+    ensures { (works : List WorkRow) → AreTablesOf periods (map string_bytes resources.now.texts.items) works tables.old
         → OnOk result
-        (AreTablesOf periods (map string_bytes resources.now.keys) (works ++ work_view work ∷ []) tables.new) }
+        (AreTablesOf periods (map string_bytes resources.now.texts.items) (works ++ work_view work ∷ []) tables.new) }
 {
     let mut durations = work.durations;
     durations.truncate(work.tmax as usize);

@@ -6,16 +6,17 @@ ghost use Rattle.instance_shape.specs.FileTables.{number_among};
 ghost use Rattle.instance_rows.specs.Answers.{Tells};
 
 use crate::fault::{CrossFault, RowsFault};
-use indexmap::IndexSet;
+use ordered_keys::TextSet;
 use std::alloc::Global;
 
 /// The number of a name among some names, from 0. A fault: it is none of them.
-pub fn number_of(alloc: Global, names: &IndexSet<String>, name: &str) -> Result<u32, RowsFault>
-    requires { length names.now.keys ≤ 1024 }
-    ensures told { Tells (unless (is_among (map string_bytes names.now.keys) name.now) (unknown name.now)) result }
-    ensures value { IfOk result (λ n. n ≡ number_among (map string_bytes names.now.keys) name.now) }
+pub fn number_of(alloc: Global, names: &TextSet, name: &str) -> Result<u32, RowsFault>
+    requires { length names.now.texts.items ≤ 1024 }
+    ensures told { Tells (unless (is_among (map string_bytes names.now.texts.items) name.now) (unknown name.now))
+        result }
+    ensures value { IfOk result (λ n. n ≡ number_among (map string_bytes names.now.texts.items) name.now) }
 {
-    match names.get_index_of(name) {
+    match names.index_of(name) {
         Some(number) => Ok(number as u32),
         None => Err(RowsFault::Across(CrossFault::Unknown(name.to_string(alloc)?))),
     }

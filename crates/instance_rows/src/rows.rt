@@ -1,8 +1,8 @@
 //! The rows of a file: what a reader keeps of it, in the file's own words and order.
 
 use fixed_num::Fixed;
-use indexmap::IndexSet;
 use instance_model::RiskLists;
+use ordered_keys::TextSet;
 
 /// The limits of a resource as the file has them, in counts of 10^-12.
 #[derive(Drop)]
@@ -46,13 +46,13 @@ pub struct FileRows {
     pub quantile: u32,
     /// By period.
     pub scenarios: Vec<u32>,
-    pub resources: IndexSet<String>,
+    pub resources: TextSet,
     pub bands: Vec<Bands>,
-    pub seasons: IndexSet<String>,
+    pub seasons: TextSet,
     pub season_periods: Vec<Vec<u32>>,
-    pub interventions: IndexSet<String>,
+    pub interventions: TextSet,
     pub works: Vec<Work>,
-    pub exclusions: IndexSet<String>,
+    pub exclusions: TextSet,
     /// Of each exclusion the names of its interventions and of its season.
     pub exclusion_words: Vec<Vec<String>>,
     /// How many numbers of the file were changed by rounding.

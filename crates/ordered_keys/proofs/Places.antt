@@ -1,6 +1,7 @@
 -- Where an element that passes a test first stands in a list, and where in a list with one element more.
-use Rattle.std.proofs.Common.{◌≡◌, ℕ, zero, suc, ◌+◌, ◌<◌, ◌≤◌, refl, sym, ◌∙◌, ap, arith, List, [], ◌∷◌, ◌++◌, length, Bool}
-use Rattle.std.proofs.Common.{true, false, not, cond, nat_lt, nat_eq, position, Some, None, Option, string_bytes, String}
+use Rattle.std.proofs.Common.{◌≡◌, ℕ, zero, suc, ◌+◌, ◌<◌, ◌≤◌, refl, sym, ◌∙◌, ap, arith, List, []}
+use Rattle.std.proofs.Common.{◌∷◌, ◌++◌, length, Bool}
+use Rattle.std.proofs.Common.{true, false, not, cond, nat_lt, nat_eq, position, Some, None, string_bytes, String}
 use Rattle.std.specs.List.{prefix_len, position_or_len, list_any}
 use Rattle.std.specs.Prelude.{◌||◌, is_some, bytes_eq}
 use Rattle.std.proofs.lemmas.Bool.{false≢true}
@@ -42,7 +43,8 @@ more n l m k false h e f = grind (arith, nat_tests)
 
 -- one element more is found where none before it is
 pub place_more : {X : Type 0} (p : X → Bool) (xs : List X) (y : X) → position p (xs ++ y ∷ [])
-    ≡ cond (nat_lt (position_or_len p xs) (length xs)) (Some (position_or_len p xs)) (cond (p y) (Some (length xs)) None)
+    ≡ cond (nat_lt (position_or_len p xs) (length xs)) (Some (position_or_len p xs))
+    (cond (p y) (Some (length xs)) None)
 place_more p xs y =
     more (position_or_len p xs) (length xs) (position_or_len p (xs ++ y ∷ [])) (length (xs ++ y ∷ [])) (p y)
     (place_within p xs) (position_or_len_push p xs y) (length-append xs (y ∷ []))
@@ -58,7 +60,8 @@ text_more false n l false h = refl
 -- texts are equal either way round
 turned_by : (xs ys : List ℕ) (b c : Bool) → bytes_eq xs ys ≡ b → bytes_eq ys xs ≡ c → bytes_eq xs ys ≡ bytes_eq ys xs
 turned_by xs ys true c e f = e ∙ sym ((bytes_eq-Decides ys xs).1 (sym ((bytes_eq-Decides xs ys).0 e)))
-turned_by xs ys false true e f = absurd (false≢true (sym e ∙ (bytes_eq-Decides xs ys).1 (sym ((bytes_eq-Decides ys xs).0 f))))
+turned_by xs ys false true e f =
+    absurd (false≢true (sym e ∙ (bytes_eq-Decides xs ys).1 (sym ((bytes_eq-Decides ys xs).0 f))))
 turned_by xs ys false false e f = e ∙ sym f
 
 turned : (xs ys : List ℕ) → bytes_eq xs ys ≡ bytes_eq ys xs

@@ -1,4 +1,4 @@
-//! Distinct keys in the order in which they were added. They are found by their order, so that no keys are slow to find.
+//! Distinct keys in the order in which they were added. They are found by their size, so that no choice is slow.
 #![tactic(auto)]
 
 mod numbers;

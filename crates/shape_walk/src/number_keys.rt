@@ -5,7 +5,7 @@ ghost use Rattle.instance_shape.specs.Keys.{has_key, by_number};
 ghost use Rattle.instance_shape.specs.Seen.{numbers_of};
 ghost use Rattle.shape_walk.specs.Ascending.{comes_next};
 
-use indexmap::IndexSet;
+use ordered_keys::NumberSet;
 use std::alloc::{AllocError, Global};
 use std::marker::Model;
 
@@ -13,7 +13,7 @@ use std::marker::Model;
 #[derive(Drop)]
 pub struct NumberKeys {
     run: Run,
-    others: IndexSet<u32>,
+    others: NumberSet,
 }
 
 impl Model for NumberKeys {
@@ -21,7 +21,7 @@ impl Model for NumberKeys {
 
     ghost Value = { List ℕ };
 
-    ghost view = { λ k. k.run ++ k.others.keys };
+    ghost view = { λ k. k.run ++ k.others.numbers.items };
 }
 
 impl NumberKeys {
@@ -31,7 +31,7 @@ impl NumberKeys {
     {
         NumberKeys {
             run: Run::none(),
-            others: IndexSet::new(alloc),
+            others: NumberSet::new(alloc),
         }
     }
 
@@ -41,13 +41,13 @@ impl NumberKeys {
         ensures added { IfOk result (λ new. IsTrue new → self.new ≡ self.old ++ number ∷ []) }
         ensures kept { IfOk result (λ new. new ≡ false → self.new ≡ self.old) }
     {
-        if self.others.is_empty() && self.run.lengthen(number) {
+        if self.others.len() == 0 && self.run.lengthen(number) {
             return Ok(true);
         }
         if self.run.contains(number) {
             return Ok(false);
         }
-        let (_, new) = self.others.insert_full(number)?;
+        let new = self.others.add(number)?;
         Ok(new)
     }
 }

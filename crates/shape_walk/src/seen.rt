@@ -16,16 +16,16 @@ ghost use Rattle.shape_walk.specs.Seen.{seen_of, suits, counts_by_text};
 use crate::judged::Judged;
 use crate::number_keys::NumberKeys;
 use crate::taken::{Read, Taken};
-use indexmap::IndexSet;
 use instance_model::Limits;
 use instance_shape::{Flaw, Kind, Spot, Which, add_text, is_name, kind_of, missing_key, number_of};
+use ordered_keys::TextSet;
 use std::alloc::{AllocError, Global};
 
 /// The keys by what they count as: names and required keys by their texts, periods and starts by their numbers. In
 /// other objects they don't count.
 #[derive(Drop)]
 pub enum Seen {
-    Texts(IndexSet<String>),
+    Texts(TextSet),
     Numbers(NumberKeys),
     Nothing,
 }
@@ -37,7 +37,7 @@ impl Seen {
         ensures suits { suits result (shape.kind_of spot) ≡ true }
     {
         match kind_of(spot) {
-            Kind::Record | Kind::Names => Seen::Texts(IndexSet::new(alloc)),
+            Kind::Record | Kind::Names => Seen::Texts(TextSet::new(alloc)),
             Kind::Numbers => Seen::Numbers(NumberKeys::none(alloc)),
             _ => Seen::Nothing,
         }
@@ -132,14 +132,15 @@ fn new_text_flaw(limits: &Limits, spot: Spot, before: usize, key: &str) -> Optio
 fn take_text(
     limits: &Limits,
     spot: Spot,
-    texts: &mut IndexSet<String>,
+    texts: &mut TextSet,
     key: String,
 ) -> Result<Option<Flaw>, AllocError>
     requires { counts_by_text (shape.kind_of spot) ≡ true }
     ensures flaw { IfOk result (λ r. (at : ℕ) → r
-        ≡ first_flaw (key_faults limits.now spot (texts_of texts.old.keys) at (string_bytes key))) }
+        ≡ first_flaw (key_faults limits.now spot (texts_of texts.old.texts.items) at (string_bytes key))) }
     ensures added { IfOk result (λ r. r ≡ None
-        → texts_of texts.new.keys ≡ texts_of texts.old.keys ++ key_of (shape.kind_of spot) (string_bytes key)) }
+        → texts_of texts.new.texts.items
+            ≡ texts_of texts.old.texts.items ++ key_of (shape.kind_of spot) (string_bytes key)) }
 {
     let flaw = new_text_flaw(limits, spot, texts.len(), key.as_str());
     let new = add_text(texts, key)?;

@@ -5,8 +5,8 @@ ghost use Rattle.instance_model.specs.View.{tables_of};
 ghost use Rattle.small_instances.specs.Sketches.{names_of, cell_of, is_fitting};
 
 use fixed_num::Fixed;
-use indexmap::IndexSet;
 use instance_model::{Exclusion, Instance, LoadCell, Parts, RunRisks};
+use ordered_keys::TextSet;
 use std::alloc::{AllocError, Global};
 use std::marker::Model;
 
@@ -66,22 +66,22 @@ impl<'a> Model for Sketch<'a> {
 }
 
 /// The first of three names.
-fn names(alloc: Global, count: usize) -> Result<IndexSet<String>, AllocError>
-    ensures { IfOk result (λ names. map string_bytes names.keys ≡ names_of count) }
+fn names(alloc: Global, count: usize) -> Result<TextSet, AllocError>
+    ensures { IfOk result (λ names. map string_bytes names.texts.items ≡ names_of count) }
 {
-    let mut names = IndexSet::new(alloc);
+    let mut names = TextSet::new(alloc);
     if count == 0 {
         return Ok(names);
     }
-    names.insert(String::from_str(alloc, "N1")?)?;
+    names.add(String::from_str(alloc, "N1")?)?;
     if count == 1 {
         return Ok(names);
     }
-    names.insert(String::from_str(alloc, "N2")?)?;
+    names.add(String::from_str(alloc, "N2")?)?;
     if count == 2 {
         return Ok(names);
     }
-    names.insert(String::from_str(alloc, "N3")?)?;
+    names.add(String::from_str(alloc, "N3")?)?;
     Ok(names)
 }
 
@@ -146,17 +146,19 @@ fn duration_rows(alloc: Global, rows: &[&[u32]]) -> Result<Vec<Vec<u32>>, AllocE
 /// The names of all things.
 #[derive(Drop)]
 struct NameSets {
-    resources: IndexSet<String>,
-    seasons: IndexSet<String>,
-    interventions: IndexSet<String>,
-    exclusions: IndexSet<String>,
+    resources: TextSet,
+    seasons: TextSet,
+    interventions: TextSet,
+    exclusions: TextSet,
 }
 
 fn all_names(alloc: Global, sketch: &Sketch) -> Result<NameSets, AllocError>
-    ensures resources { IfOk result (λ names. map string_bytes names.resources.keys ≡ sketch.now.resource_names) }
-    ensures seasons { IfOk result (λ names. map string_bytes names.seasons.keys ≡ sketch.now.season_names) }
-    ensures interventions { IfOk result (λ names. map string_bytes names.interventions.keys ≡ sketch.now.names) }
-    ensures exclusions { IfOk result (λ names. map string_bytes names.exclusions.keys ≡ sketch.now.exclusion_names) }
+    ensures resources { IfOk result
+        (λ names. map string_bytes names.resources.texts.items ≡ sketch.now.resource_names) }
+    ensures seasons { IfOk result (λ names. map string_bytes names.seasons.texts.items ≡ sketch.now.season_names) }
+    ensures interventions { IfOk result (λ names. map string_bytes names.interventions.texts.items ≡ sketch.now.names) }
+    ensures exclusions { IfOk result
+        (λ names. map string_bytes names.exclusions.texts.items ≡ sketch.now.exclusion_names) }
 {
     Ok(NameSets {
         resources: names(alloc, sketch.resources)?,

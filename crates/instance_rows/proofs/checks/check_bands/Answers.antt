@@ -19,19 +19,19 @@ loop-i-init c = refl
 
 -- the fault of the resource of this turn
 this_turn : (rows : FileRows) (i : ℕ) (names : List (String Global)) (name : String Global) (text : List ℕ)
-    (bands : Bands) → AreSound (rows_view rows) → i < length rows.bands.items → names ≡ rows.resources.keys
+    (bands : Bands) → AreSound (rows_view rows) → i < length rows.bands.items → names ≡ rows.resources.texts.items
     → name ≡ get_or names i name
     → text ≡ string_bytes name → bands ≡ get_or rows.bands.items i bands
     → band_fault rows.periods text (band_view bands) ≡ band_fault_at (rows_view rows) i
 this_turn rows i names name text bands sound l same at is here =
-    let n : i < length rows.resources.keys = omega (
+    let n : i < length rows.resources.texts.items = omega (
       arith,
       sound.bands,
       length-map rows.bands.items band_view,
-      length-map rows.resources.keys (string_bytes {Z = Global}),
+      length-map rows.resources.texts.items (string_bytes {Z = Global}),
     ) in
     ap (λ (t : List ℕ). band_fault rows.periods t (band_view bands))
-    (is ∙ sym (mapped_at string_bytes rows.resources.keys names i name [] n same at))
+    (is ∙ sym (mapped_at string_bytes rows.resources.texts.items names i name [] n same at))
     ∙ ap (band_fault rows.periods (slice_index_or (rows_view rows).resources i []))
     (sym (mapped_at band_view rows.bands.items rows.bands.items i bands no_band l refl here))
 
@@ -44,7 +44,7 @@ returns-in_err-check_band c =
     rw (p.1, p.2) (told_first (length (rows_view rows).bands) c.loop-i.i (band_fault_at (rows_view rows))
     _ _ m c.loop-i.invariant
     (this_turn rows c.loop-i.i c.as_slice-names.result.now c.index-names-i.result c.as_str.result.now c.index.result.now
-    c.requires l c.as_slice-names.ensures.keys c.index-names-i.is c.as_str.ensures.value c.index.ensures)
+    c.requires l c.as_slice-names.ensures.texts c.index-names-i.is c.as_str.ensures.value c.index.ensures)
     (c.in_err-check_band.ensures))
 
 pub loop-i-preserved : goal.loop-i-preserved
@@ -53,7 +53,7 @@ loop-i-preserved c =
     let l : c.loop-i.i < length rows.bands.items = omega (arith, c.loop-i-test.true, c.len-i-end.ensures) in
     first_more c.loop-i.i (band_fault_at (rows_view rows)) c.loop-i.invariant
     (sym (this_turn rows c.loop-i.i c.as_slice-names.result.now c.index-names-i.result c.as_str.result.now
-    c.index.result.now c.requires l c.as_slice-names.ensures.keys c.index-names-i.is
+    c.index.result.now c.requires l c.as_slice-names.ensures.texts c.index-names-i.is
     c.as_str.ensures.value c.index.ensures)
     ∙ c.in_ok-check_band.ensures)
 

@@ -1,4 +1,5 @@
-use Rattle.std.proofs.Common.{◌≡◌, ◌∙◌, sym, ap, ℕ, ◌<◌, List, [], ◌∷◌, ◌++◌, Option, Some, cond, string_bytes, bytes_eq, Bool, false, true}
+use Rattle.std.proofs.Common.{◌≡◌, ◌∙◌, sym, ap, ℕ, ◌<◌, List, [], ◌∷◌, ◌++◌, Option, Some, cond}
+use Rattle.std.proofs.Common.{string_bytes, bytes_eq, Bool, false, true}
 use Rattle.std.proofs.Common.{if◌then◌else◌, String, Global, position, arith, length}
 use Rattle.std.specs.Prelude.{is_ok, vec_len, vec_capacity}
 use Rattle.std.specs.List.{list_any}
@@ -11,7 +12,8 @@ pub invariant_of-self-2 : goal.invariant_of-self-2
 invariant_of-self-2 c =
     let t : String Global = c.args.text in let xs : List (String Global) = c.args.self.now.texts.items in
     let copied : string_bytes c.in_ok-copy.copy ≡ string_bytes t = grind (arith, common_steps) in
-    let room : vec_len c.reserve.new.self < vec_capacity c.reserve.new.self = omega (arith, c.in_ok-reserve.ensures.ok) in
+    let room : vec_len c.reserve.new.self < vec_capacity c.reserve.new.self =
+    omega (arith, c.in_ok-reserve.ensures.ok) in
     let pushed : is_ok c.push.result ≡ true = c.push.ensures.succeeds room in
     let items : c.push.new.self.items ≡ xs ++ t ∷ [] = c.push.ensures.items
     ∙ ap (λ (b : Bool). if b then c.reserve.new.self.items ++ t ∷ [] else c.reserve.new.self.items) pushed
