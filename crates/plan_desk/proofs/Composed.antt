@@ -1,7 +1,8 @@
 -- One call of a desk after another, as its callers compose them.
-use Rattle.std.proofs.Common.{◌≡◌, ◌≤◌, List, ℕ, ◌++◌, refl, sym, ◌∙◌, ap, subst, append_assoc, arith}
+use Rattle.std.proofs.Common.{◌≡◌, List, ℕ, ◌++◌, refl, sym, ◌∙◌, ap, subst, append_assoc}
 use Rattle.std.specs.Prelude.{Option, Some, None, option_map, IfSome, IsSomeAnd}
-use Rattle.plan_desk.specs.Desk.{Shown, Input, Output, ShowsSame, after_take_in, after_say}
+use Rattle.plan_desk.specs.Desk.{Shown, Input, Output, Fault, Faults, ShowsSame, after_take_in, after_say}
+use Rattle.plan_desk.specs.Faults.{FailsOnce, one_more}
 use Rattle.plan_desk.specs.Contents.{WhereToldHolds, TellsSuch, Says, OnlyReads, KeepsFiles}
 
 -- a piece was said
@@ -69,30 +70,38 @@ told_holds name P Q s tells holds = go s.input.unread s.output.holds tells holds
     go (Some xs) None p q = absurd p
     go (Some xs) (Some files) p q = held_such (files name) p q
 
+-- nothing failed before the call that did, nor after it
+pub fails_since : {Own : Fault → Type 0} (old mid new : Shown) → mid.faults ≡ old.faults → FailsOnce Own mid new
+    → FailsOnce Own old new
+fails_since old mid new same fails = record { one = fails.one ∙ ap (λ f. one_more f.count) same; own = fails.own }
+
+pub fails_until : {Own : Fault → Type 0} (old mid new : Shown) → new.faults ≡ mid.faults → FailsOnce Own old mid
+    → FailsOnce Own old new
+fails_until {Own = Own} old mid new same fails = record {
+  one = ap (λ f. f.count) same ∙ fails.one;
+  own = subst (λ (f : Faults). IfSome f.last Own) (sym same) fails.own;
+}
+
 -- nothing was done
 pub reads_none : (s : Shown) → OnlyReads s s
-reads_none s = record { output = refl; said = refl; later = omega arith }
+reads_none s = record { output = refl; said = refl }
 
 pub keeps_none : (s : Shown) → KeepsFiles s s
-keeps_none s = record { output = refl; later = omega arith }
+keeps_none s = refl
 
 -- one such call was made after another
 pub reads_more : (old mid new : Shown) → OnlyReads old mid → OnlyReads mid new → OnlyReads old new
 reads_more old mid new first next = record {
   output = next.output ∙ first.output;
   said = next.said ∙ first.said;
-  later = omega (arith, first.later, next.later);
 }
 
 pub keeps_more : (old mid new : Shown) → KeepsFiles old mid → KeepsFiles mid new → KeepsFiles old new
-keeps_more old mid new first next = record {
-  output = next.output ∙ first.output;
-  later = omega (arith, first.later, next.later);
-}
+keeps_more old mid new first next = next ∙ first
 
 -- a call that only reads writes no file
 pub reads_keeps : (old new : Shown) → OnlyReads old new → KeepsFiles old new
-reads_keeps old new reads = record { output = reads.output; later = reads.later }
+reads_keeps old new reads = reads.output
 
 -- what is said after a call that only reads is said since before it
 pub says_after : (text : List ℕ) (old mid new : Shown) → OnlyReads old mid → Says text mid new → Says text old new

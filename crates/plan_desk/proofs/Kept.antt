@@ -71,17 +71,25 @@ shown files taken writing spoken faults last = record {
   input = mem_input files taken;
   output = mem_output files writing;
   said = Some spoken;
-  faults = faults;
-  last = last;
+  faults = record { count = faults; last = last };
 }
 
 -- a call that succeeds counts no fault
 no_fault : (faults : ℕ) (input mid : Input) (output wrote : Output) (said spoke : Option (List ℕ)) (last kept : Option
     Fault) (Own : Fault → Type 0) {T : Type 0} (x : T) → kept ≡ last
-    → CountsFault (record { input = input; output = output; said = said; faults = faults; last = last })
-    (record { input = mid; output = wrote; said = spoke; faults = faults; last = kept }) Own (Ok x)
+    → CountsFault (record {
+      input = input;
+      output = output;
+      said = said;
+      faults = record { count = faults; last = last };
+    }) (record {
+      input = mid;
+      output = wrote;
+      said = spoke;
+      faults = record { count = faults; last = kept };
+    }) Own (Ok x)
 no_fault faults input mid output wrote said spoke last kept Own x e =
-    record { later = omega arith; rose = tt; own = tt; same = e }
+    record { same = λ j. record { count = faults; last = e j }; fails = tt }
 
 -- the first file of a name was taken in
 pub takes_in : (files : List Stored) (i : ℕ) (name : List ℕ) (taken : Option Place) (writing : Option ℕ)
@@ -146,8 +154,7 @@ put_shown files new i name bytes taken writing spoken faults last old put kept e
         written = Some (put.files (λ f. if f.put_out then Some f.bytes else None) j);
       };
       said = Some spoken;
-      faults = faults;
-      last = last_same files new put.names last kept j;
+      faults = record { count = faults; last = last_same files new put.names last kept j };
     })
 
 -- a file with a piece behind its bytes

@@ -1,6 +1,6 @@
 -- A text that is written, or said, by several calls.
-use Rattle.std.proofs.Common.{◌≡◌, ℕ, ◌+◌, ◌<◌, ◌≤◌, List, [], ◌∷◌, ◌++◌, length, take, drop, get_or, Option, Some}
-use Rattle.std.proofs.Common.{None, Result, Ok, Err, IsErr, true≢false, inl, inr, refl, sym, ◌∙◌, ap, subst, arith}
+use Rattle.std.proofs.Common.{◌≡◌, ℕ, ◌+◌, ◌<◌, List, [], ◌∷◌, ◌++◌, length, take, drop, get_or, Option, Some}
+use Rattle.std.proofs.Common.{None, Result, Ok, Err, IsErr, true≢false, refl, sym, ◌∙◌, ap, subst, arith}
 use Rattle.std.specs.List.{flat_map}
 use Rattle.std.specs.Prelude.{IfSome}
 use Rattle.std.proofs.lemmas.List.{append-nil, take-append-le, length-append, take_more, take_all, take-append-drop}
@@ -9,10 +9,11 @@ use Rattle.std.proofs.lemmas.Grind.{flat_map-append}
 use Rattle.std.proofs.Math.Seq.{take-append-add}
 use Rattle.plan_desk.specs.declared.call.Failed.{Failed}
 use Rattle.plan_desk.specs.Desk.{Shown, Fault, ShowsSame}
-use Rattle.plan_desk.specs.Faults.{Rose}
+use Rattle.plan_desk.specs.Faults.{FailsOnce}
 use Rattle.plan_desk.specs.Written.{Way, after_text, IsFaultIn, PutsText, HasPut}
 use Rattle.plan_desk.specs.Written.Way.{writing, saying}
 use Rattle.plan_desk.proofs.Appended.{write_none, write_more, say_none, say_more}
+use Rattle.plan_desk.proofs.Composed.{fails_since}
 
 none : (way : Way) (s : Shown) → ShowsSame s (after_text way [] s)
 none writing s = write_none s
@@ -33,26 +34,21 @@ told_own : (o : Option Fault) (P Q : Fault → Type 0) → ((fault : Fault) → 
 told_own None P Q weaker h = h
 told_own (Some fault) P Q weaker h = weaker fault h
 
-rose_since : (old mid new : ℕ) → old ≤ mid → Rose mid new → Rose old new
-rose_since old mid new l (inl h) = inl (omega (arith, l, h))
-rose_since old mid new l (inr h) = inr h
-
 module _ (way : Way) where
   -- nothing went out
   pub begins : (s : Shown) → HasPut way [] s s
-  begins s = record { shows = none way s; later = omega arith; same = refl }
+  begins s = record { shows = none way s; same = refl }
 
   -- a call put a text out
   pub put : {T : Type 0} {text : List ℕ} {old new : Shown} {x : T} → PutsText way text old new (Ok x)
       → HasPut way text old new
-  put puts = record { shows = puts.ok; later = puts.faults.later; same = puts.faults.same }
+  put puts = record { shows = puts.ok; same = puts.faults.same }
 
   -- one text went out, and then another
   pub joins : {a b : List ℕ} {old mid new : Shown} → HasPut way a old mid → HasPut way b mid new
       → HasPut way (a ++ b) old new
   joins {a = a} {b = b} {old = old} {mid = mid} {new = new} first next = record {
     shows = more way a b old mid new first.shows next.shows;
-    later = omega (arith, first.later, next.later);
     same = next.same ∙ first.same;
   }
 
@@ -62,7 +58,7 @@ module _ (way : Way) where
   ends x whole = record {
     ok = whole.shows;
     err = tt;
-    faults = record { later = whole.later; rose = tt; own = tt; same = whole.same };
+    faults = record { same = whole.same; fails = tt };
   }
 
   -- a last call puts out what is left of the text, or fails
@@ -78,10 +74,12 @@ module _ (way : Way) where
           (more way a (take puts.err.0 b) old mid new first.shows puts.err.2),
     );
     faults = record {
-      later = omega (arith, first.later, puts.faults.later);
-      rose = rose_since old.faults mid.faults new.faults first.later puts.faults.rose;
-      own = told_own new.last (IsFaultIn way mid) (IsFaultIn way old) (kept way a old mid first.shows) puts.faults.own;
       same = tt;
+      fails = fails_since old mid new first.same (record {
+        one = puts.faults.fails.one;
+        own = told_own new.faults.last (IsFaultIn way mid) (IsFaultIn way old) (kept way a old mid first.shows)
+            puts.faults.fails.own;
+      });
     };
   }
 
@@ -97,7 +95,7 @@ module _ (way : Way) where
       subst (λ xs. ShowsSame new (after_text way xs old))
           (sym (take-append-le puts.err.0 a b (omega (arith, puts.err.1)))) puts.err.2,
     );
-    faults = record { later = puts.faults.later; rose = puts.faults.rose; own = puts.faults.own; same = tt };
+    faults = record { same = tt; fails = puts.faults.fails };
   }
 
   -- the same after a first text

@@ -44,13 +44,11 @@ StopsAt name limit old new fault = ((fault ≡ Failed) × ShowsSame new (after_f
     × (IsCountAt limit fault count
     × (HoldsBytes old name bytes × ShowsSame new (after_take_in name (drop count bytes) old)))))
 
--- a call that only reads: what files hold and what was said is as before, and the count of faults never falls
+-- a call that only reads: what files hold and what was said is as before
 pub record OnlyReads (old new : Shown) : Type 0 where
   pub output : new.output ≡ old.output
   pub said : new.said ≡ old.said
-  pub later : old.faults ≤ new.faults
 
--- a call that writes no file: what files hold is as before, and the count of faults never falls
-pub record KeepsFiles (old new : Shown) : Type 0 where
-  pub output : new.output ≡ old.output
-  pub later : old.faults ≤ new.faults
+-- a call that writes no file: what files hold is as before
+abbrev pub KeepsFiles : (old new : Shown) → Type 0
+KeepsFiles old new = new.output ≡ old.output

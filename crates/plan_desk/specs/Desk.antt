@@ -25,18 +25,22 @@ pub record Output : Type 0 where
   pub holds : Option (List ℕ → Option (List ℕ))
   pub written : Option (List ℕ → Option (List ℕ))
 
--- What a desk shows: its files; the bytes that were said (None: it is not told); how often a call has failed, a count
--- that stops at 2 ^ 64 - 1; and the last call that failed (None: there is none, or it is not told).
+-- how often a call has failed, a count that stops at 2 ^ 64 - 1; and the last call that failed (None: there is none, or
+-- it is not told)
+pub record Faults : Type 0 where
+  pub count : ℕ
+  pub last : Option Fault
+
+-- What a desk shows: its files; the bytes that were said (None: it is not told); and what has failed.
 pub record Shown : Type 0 where
   pub input : Input
   pub output : Output
   pub said : Option (List ℕ)
-  pub faults : ℕ
-  pub last : Option Fault
+  pub faults : Faults
 
 -- what is unread, what files hold, what was written to them or the last fault is told
 abbrev pub TellsFiles : Shown → Type 0
-TellsFiles s = IsSome s.input.unread ⊎ (IsSome s.output.holds ⊎ (IsSome s.output.written ⊎ IsSome s.last))
+TellsFiles s = IsSome s.input.unread ⊎ (IsSome s.output.holds ⊎ (IsSome s.output.written ⊎ IsSome s.faults.last))
 
 -- a desk that tells any of these tells the names of the file that is taken in and of the one that is open
 abbrev pub TellsNames : Shown → Type 0

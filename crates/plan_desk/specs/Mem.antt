@@ -107,8 +107,7 @@ mem_shows d = record {
   input = mem_input d.files d.taken;
   output = mem_output d.files d.writing;
   said = Some d.spoken;
-  faults = d.faults;
-  last = d.last;
+  faults = record { count = d.faults; last = d.last };
 }
 
 -- the fault that was kept, whose name may be that of a file

@@ -14,6 +14,5 @@ real_shows d = record {
   input = record { taken = d.taken; name = None; unread = None };
   output = record { opened = d.opened; name = None; holds = None; written = None };
   said = None;
-  faults = d.faults;
-  last = None;
+  faults = record { count = d.faults; last = None };
 }

@@ -1,5 +1,5 @@
 -- What a text leaves behind that is written, or said, by one call or by several: whole, or to where a call failed.
-use Rattle.std.specs.Prelude.{◌≡◌, ℕ, ◌<◌, ◌≤◌, List, [], length, take, Some, Result, OnOk, OnErr}
+use Rattle.std.specs.Prelude.{◌≡◌, ℕ, ◌<◌, List, [], length, take, Some, Result, OnOk, OnErr}
 use Rattle.plan_desk.specs.declared.call.DeskCall.TheVariants.{Write, Say}
 use Rattle.plan_desk.specs.declared.call.Failed.{Failed}
 use Rattle.plan_desk.specs.Desk.{Shown, Fault, ShowsSame, after_write, after_say}
@@ -47,5 +47,4 @@ WritesPart text old new = PutsPart writing text old new
 -- several.
 pub record HasPut (way : Way) (text : List ℕ) (old new : Shown) : Type 0 where
   pub shows : ShowsSame new (after_text way text old)
-  pub later : old.faults ≤ new.faults
-  pub same : new.last ≡ old.last
+  pub same : new.faults ≡ old.faults

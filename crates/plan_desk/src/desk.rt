@@ -8,9 +8,9 @@ use crate::Failed;
 /// A device: one file at a time is read, one is written, and bytes are said.
 ///
 /// A desk tells what it shows or leaves parts of it untold; what is told stays told. A desk that tells its last fault,
-/// or what files hold, tells the names of its files too, so that what is written to one is told. Each call answers
-/// `Failed` only where the count of faults rose in it, and makes itself the last fault. No call changes a file but the
-/// one that is open for writing.
+/// or what files hold, tells the names of its files too, so that what is written to one is told. A call that answers
+/// `Failed` adds one to the count of faults and makes itself the last; no other call changes either. No call changes a
+/// file but the one that is open for writing.
 pub trait Desk {
     /// Its files, what was said, and its faults.
     ghost shows: { Self → Shown };

@@ -1,7 +1,7 @@
 //! How faults are counted and kept.
-ghost use Rattle.std.specs.Prelude.{◌≡◌, ◌≤◌, ◌↔◌, List, length, IfSome, IsSome, true};
+ghost use Rattle.std.specs.Prelude.{◌≡◌, ◌≤◌, ◌↔◌, List, length, IfSome, IsSome};
 ghost use Rattle.plan_desk.specs.Desk.{Fault};
-ghost use Rattle.plan_desk.specs.Faults.{Rose, count_after};
+ghost use Rattle.plan_desk.specs.Faults.{one_more};
 ghost use Rattle.plan_desk.specs.Mem.{fault_of, IsLastAt};
 ghost use Rattle.plan_desk.specs.Stored.{Stored};
 
@@ -11,9 +11,7 @@ use arrayvec::ArrayString;
 
 /// Counts a fault.
 pub fn count_fault(faults: &mut u64) -> Failed
-    ensures one { faults.new ≡ count_after true faults.old }
-    ensures rose { Rose faults.old faults.new }
-    ensures later { faults.old ≤ faults.new }
+    ensures { faults.new ≡ one_more faults.old }
 {
     *faults = faults.saturating_add(1);
     Failed
@@ -22,9 +20,7 @@ pub fn count_fault(faults: &mut u64) -> Failed
 /// Counts a fault and keeps it as the last one.
 pub fn fail(faults: &mut u64, last: &mut Option<LastFault>, fault: Option<LastFault>) -> Failed
     ensures kept { last.new ≡ fault }
-    ensures one { faults.new ≡ count_after true faults.old }
-    ensures rose { Rose faults.old faults.new }
-    ensures later { faults.old ≤ faults.new }
+    ensures one { faults.new ≡ one_more faults.old }
 {
     *last = fault;
     count_fault(faults)

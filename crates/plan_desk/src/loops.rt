@@ -32,10 +32,9 @@ pub fn read_all<D: Desk>(
     ensures err { OnErr result (StopsReading name.now (D.shows desk.old) (D.shows desk.new)) }
     ensures stops { IfErr result (StopsAt name.now limit (D.shows desk.old) (D.shows desk.new)) }
 
-    // `TooLong` comes only for a longer file, and `Failed` only where faults rose.
+    // `TooLong` comes only for a longer file, and `Failed` only of one call that failed.
     ensures too_long { IsErrOf result ReadFault.TooLong
         → WhereToldHolds (D.shows desk.old) name.now (λ held. limit < length held) }
-    ensures later { (D.shows desk.old).faults ≤ (D.shows desk.new).faults }
     ensures faults { CountsReadFault (D.shows desk.old) (D.shows desk.new) (IsReadFaultOf name.now) result }
 {
     desk.take_in(name)?;
@@ -100,7 +99,6 @@ fn read_rest<D: Desk>(desk: &mut D, bytes: &mut Vec<u8>, limit: u64) -> Result<(
     ensures end { OnOk result (ShowsSame (D.shows desk.new) (all_read (D.shows desk.old))) }
     ensures stops { IfErr result (λ fault. (n : ℕ) × IsCountAt limit fault (vec_len bytes.old + n)
         × ShowsSame (D.shows desk.new) (after_read n (D.shows desk.old))) }
-    ensures later { (D.shows desk.old).faults ≤ (D.shows desk.new).faults }
     ensures faults { CountsReadFault (D.shows desk.old) (D.shows desk.new)
         (IsFaultOf DeskCall.Read (D.shows desk.old).input.name) result }
 {

@@ -44,7 +44,6 @@ pieces-preserved g c =
           (take n c.read.new.buf)
           c.pieces.invariant.shows.input c.pieces.invariant.read c.in_ok-n.ensures.bytes
           c.in_ok-extend_from_slice.ensures.items);
-      later = search rules;
       same = search rules;
     }
 

@@ -13,8 +13,7 @@ invariant-pieces g l =
       shows : ShowsSame (d.shows l.desk) (after_read n (d.shows l.fn.desk));
       read : IfSome (d.shows l.fn.desk).input.unread
           (λ rest. (n ≤ length rest) × (l.bytes.items ≡ l.fn.bytes.items ++ take n rest));
-      later : (d.shows l.fn.desk).faults ≤ (d.shows l.desk).faults;
-      same : (d.shows l.desk).last ≡ (d.shows l.fn.desk).last;
+      same : (d.shows l.desk).faults ≡ (d.shows l.fn.desk).faults;
     }
 
 abbrev pub decreases-pieces : goal.decreases-pieces

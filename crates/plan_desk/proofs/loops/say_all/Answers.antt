@@ -9,6 +9,5 @@ loop-said-preserved g c =
       within = search rules;
       said = say_on c.args.piece.now c.loop-said.said c.in_ok-said.field-0 (d.shows c.args.desk.now)
           (d.shows c.loop-said.desk) (d.shows c.say.new.self) c.loop-said.invariant.said c.in_ok-said.ensures.ok;
-      later = search rules;
       same = search rules;
     }

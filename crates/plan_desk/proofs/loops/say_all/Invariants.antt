@@ -8,8 +8,7 @@ invariant-loop-said g l =
     record {
       within : l.said ≤ length l.piece;
       said : ShowsSame (d.shows l.desk) (after_say (take l.said l.piece) (d.shows l.fn.desk));
-      later : (d.shows l.fn.desk).faults ≤ (d.shows l.desk).faults;
-      same : (d.shows l.desk).last ≡ (d.shows l.fn.desk).last;
+      same : (d.shows l.desk).faults ≡ (d.shows l.fn.desk).faults;
     }
 
 abbrev pub decreases-loop-said : goal.decreases-loop-said

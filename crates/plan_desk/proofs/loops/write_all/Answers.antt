@@ -10,7 +10,6 @@ loop-written-preserved g c =
       written = write_on c.args.piece.now c.loop-written.written c.in_ok-written.field-0 (d.shows c.args.desk.now)
           (d.shows c.loop-written.desk) (d.shows c.write.new.self) c.loop-written.invariant.written
           c.in_ok-written.ensures.ok;
-      later = search rules;
       same = search rules;
     }
 
@@ -18,6 +17,5 @@ pub loop-written-init : goal.loop-written-init
 loop-written-init g c = record {
   within = search rules;
   written = write_none (g.D.Desk.shows c.args.desk.now);
-  later = search rules;
   same = search rules;
 }

@@ -8,8 +8,7 @@ invariant-loop-written g l =
     record {
       within : l.written ≤ length l.piece;
       written : ShowsSame (d.shows l.desk) (after_write (take l.written l.piece) (d.shows l.fn.desk));
-      later : (d.shows l.fn.desk).faults ≤ (d.shows l.desk).faults;
-      same : (d.shows l.desk).last ≡ (d.shows l.fn.desk).last;
+      same : (d.shows l.desk).faults ≡ (d.shows l.fn.desk).faults;
     }
 
 abbrev pub decreases-loop-written : goal.decreases-loop-written
