@@ -1,5 +1,5 @@
 -- What a run of `audit` promises follows from its end.
-use Rattle.std.proofs.Common.{◌≡◌, ℕ, ◌≤◌, ◌⊎◌, inl, inr, List, Option, refl, sym, subst}
+use Rattle.std.proofs.Common.{◌≡◌, ℕ, ◌⊎◌, inl, inr, List, Option, refl, sym, subst}
 use Rattle.plan_desk.specs.Desk.{Shown}
 use Rattle.plan_desk.specs.Contents.{Says, KeepsFiles}
 use Rattle.instance_model.specs.declared.limits.Limits.{Limits}
@@ -59,12 +59,11 @@ audit_other limits slack met other i p c j q d a ci cp cd =
     (Audits inst x) e cd (λ y f audits. audits)))
 
 pub audit_stays : (limits : Limits) (source : Source) (name cert_name : List ℕ) (old mid new : Shown)
-    → old.faults ≤ mid.faults
     → Stays (λ at. AnswersAudit limits (reading old at) source.slack source.instance name cert_name) mid new
-audit_stays limits source name cert_name old mid new first goes a =
+audit_stays limits source name cert_name old mid new goes a =
     audit_other limits source.slack (reading old mid) (reading old new) source.instance name cert_name source.instance
-    name cert_name a (later_reading source.instance old mid new first goes)
-    (later_reading name old mid new first goes) (later_reading cert_name old mid new first goes)
+    name cert_name a (later_reading source.instance old mid new goes)
+    (later_reading name old mid new goes) (later_reading cert_name old mid new goes)
 
 -- ---- what stands behind the status
 
@@ -225,7 +224,6 @@ audit_runs limits source name cert_name old new status ends keeps =
           (exact_reading name plan old new tells_plan calm) (exact_reading cert_name cert old new tells_cert calm))
           calm ends;
       one = audited_files_once limits;
-      output = keeps.output;
+      output = keeps;
       quiet = ends_quiet (DueAudit limits source name cert_name old) old new status ends;
-      later = keeps.later;
     }

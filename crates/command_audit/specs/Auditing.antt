@@ -130,6 +130,5 @@ pub record RunsAudit (limits : Limits) (source : Source) (plan_name cert_name : 
       → IsOneAnswer (AnswersAudit limits by_bytes slack instance plan cert)
   -- no file is changed
   pub output : new.output ≡ old.output
-  -- the last fault is what it was, but at 7 and 8, and faults never fall
+  -- no call failed, but at 7 and 8
   pub quiet : IsQuiet status old new
-  pub later : old.faults ≤ new.faults

@@ -8,7 +8,7 @@ ghost use Rattle.plan_desk.specs.Contents.{OnlyReads};
 ghost use Rattle.command_frame.specs.Sources.{source_view};
 ghost use Rattle.command_frame.specs.Ending.{reply};
 ghost use Rattle.command_frame.specs.Files.{reading};
-ghost use Rattle.command_frame.specs.Refusals.{KeepsLast, IsDueAs};
+ghost use Rattle.command_frame.specs.Refusals.{IsDueAs, CountsRefusal};
 ghost use Rattle.command_audit.specs.Auditing.{RunsAudit};
 ghost use Rattle.command_answers.specs.Audit.{Audits, AnswersAudit};
 
@@ -58,8 +58,8 @@ fn audit<D: Desk>(
         source.now.slack source.now.instance.now plan.now certificate.now (reply report.status report.text)) }
     ensures err { IfErr result (IsDueAs (AnswersAudit limits.now (reading (D.shows desk.old) (D.shows desk.new))
         source.now.slack source.now.instance.now plan.now certificate.now)) }
-    ensures last { OnOk result ((D.shows desk.new).last ≡ (D.shows desk.old).last) }
-    ensures kept { IfErr result (KeepsLast (D.shows desk.old) (D.shows desk.new)) }
+    ensures faults { OnOk result ((D.shows desk.new).faults ≡ (D.shows desk.old).faults) }
+    ensures kept { IfErr result (CountsRefusal (D.shows desk.old) (D.shows desk.new)) }
     ensures only_reads { OnlyReads (D.shows desk.old) (D.shows desk.new) }
 {
     let inst = instance_of(alloc, limits, 2, source, desk)?;

@@ -1,5 +1,5 @@
 -- What was read of the files of a check.
-use Rattle.std.proofs.Common.{ℕ, ◌≤◌, List, Option}
+use Rattle.std.proofs.Common.{ℕ, List, Option}
 use Rattle.plan_desk.specs.Desk.{Shown}
 use Rattle.instance_model.specs.declared.limits.Limits.{Limits}
 use Rattle.instance_model.specs.Tables.{Tables}
@@ -40,9 +40,9 @@ check_refuses_plan limits source name cert_name old mid new inst r reads read ca
 pub check_refuses_certificate : (limits : Limits) (source : Source) (name : Option (List ℕ)) (cert_name : List ℕ)
     (old mid last new : Shown) (inst : Tables) (given : Option (List (Option ℕ))) (r : Refusal)
     → ReadsInstance limits source old inst → IsRead old mid → ReadsGiven limits name inst mid given
-    → mid.faults ≤ last.faults → AfterGiven name mid last → IsCertificateCause limits 4 cert_name inst last new r
+    → last.faults ≡ mid.faults → AfterGiven name mid last → IsCertificateCause limits 4 cert_name inst last new r
     → IsDueAs (AnswersCheck limits (reading old new) source.slack source.instance name cert_name) r
-check_refuses_certificate limits source name cert_name old mid last new inst given r reads read reads_given later
+check_refuses_certificate limits source name cert_name old mid last new inst given r reads read reads_given same
     after cause =
     due_within (OnCertificate limits inst (reading last new) 4 cert_name (Checks inst given))
     (AnswersCheck limits (reading old new) source.slack source.instance name cert_name) r
@@ -51,19 +51,19 @@ check_refuses_certificate limits source name cert_name old mid last new inst giv
     (after_given limits 3 name old mid new inst given (OnChecked limits cert_name inst old new) a read reads_given
     (on_other (reading last new) (reading old new) 4 cert_name cert_name (RefusesCertificate limits inst)
     (SpellsOne limits inst) (Checks inst given) (Checks inst given) a
-    (before_reading cert_name old last new (read_given name old mid last read later after)) (λ x b n. n) due)))
+    (before_reading cert_name old last new (read_given name old mid last read same after)) (λ x b n. n) due)))
     (certificate_cause_due limits 4 cert_name inst last new (Checks inst given) r cause)
 
 pub check_answers : (limits : Limits) (source : Source) (name : Option (List ℕ)) (cert_name : List ℕ)
     (old mid last new : Shown) (inst : Tables) (given : Option (List (Option ℕ))) (cert : Certificate) (a : Answer)
     → ReadsInstance limits source old inst → IsRead old mid → ReadsGiven limits name inst mid given
-    → mid.faults ≤ last.faults → AfterGiven name mid last
+    → last.faults ≡ mid.faults → AfterGiven name mid last
     → ReadsCertificate limits cert_name inst last cert → Checks inst given cert a
     → AnswersCheck limits (reading old new) source.slack source.instance name cert_name a
-check_answers limits source name cert_name old mid last new inst given cert a reads read reads_given later
+check_answers limits source name cert_name old mid last new inst given cert a reads read reads_given same
     after reads_cert checks =
     let here = reads_before cert_name old last (λ bytes. SpellsOne limits inst bytes cert)
-    (read_given name old mid last read later after) reads_cert in
+    (read_given name old mid last read same after) reads_cert in
     after_instance limits source old new inst
     (λ i. OnGiven limits i (reading old new) 3 name (OnChecked limits cert_name i old new)) a reads
     (after_given limits 3 name old mid new inst given (OnChecked limits cert_name inst old new) a read reads_given

@@ -1,5 +1,5 @@
 -- What a run of `check` promises follows from its end.
-use Rattle.std.proofs.Common.{◌≡◌, ℕ, ◌≤◌, ◌⊎◌, inl, inr, refl, sym, subst, List, Option, Some, None}
+use Rattle.std.proofs.Common.{◌≡◌, ℕ, ◌⊎◌, inl, inr, refl, sym, subst, List, Option, Some, None}
 use Rattle.plan_desk.specs.Desk.{Shown}
 use Rattle.plan_desk.specs.Contents.{Says, KeepsFiles}
 use Rattle.instance_model.specs.declared.limits.Limits.{Limits}
@@ -76,13 +76,12 @@ check_other limits slack met other i p c j q d a ci cp cd =
 
 pub check_stays : (limits : Limits) (source : Source) (name : Option (List ℕ))
     (cert_name : List ℕ) (old mid new : Shown)
-    → old.faults ≤ mid.faults
     → Stays (λ at. AnswersCheck limits (reading old at) source.slack source.instance name cert_name) mid new
-check_stays limits source name cert_name old mid new first goes a =
+check_stays limits source name cert_name old mid new goes a =
     check_other limits source.slack (reading old mid)
     (reading old new) source.instance name cert_name source.instance name cert_name a
-    (later_reading source.instance old mid new first goes)
-    (later_given name old mid new first goes) (later_reading cert_name old mid new first goes)
+    (later_reading source.instance old mid new goes)
+    (later_given name old mid new goes) (later_reading cert_name old mid new goes)
 
 -- ---- what stands behind the status
 
@@ -309,7 +308,6 @@ check_runs limits source name cert_name old new status ends keeps =
           (exact_given name plan old new tells_plan calm) (exact_reading cert_name cert old new tells_cert calm)) calm
           ends;
       one = checked_files_once limits;
-      output = keeps.output;
+      output = keeps;
       quiet = ends_quiet (DueCheck limits source name cert_name old) old new status ends;
-      later = keeps.later;
     }

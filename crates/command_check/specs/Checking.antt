@@ -1,7 +1,7 @@
 -- The command `check`: what is due, what stands behind each status, and what a run promises.
 --
 -- `old` and `new` are what the desk shows before and after a run.
-use Rattle.std.specs.Prelude.{◌≡◌, ℕ, ◌≤◌, ℤ, pos, ◌-ℤ◌, List, Option, Some, None}
+use Rattle.std.specs.Prelude.{◌≡◌, ℕ, ℤ, pos, ◌-ℤ◌, List, Option, Some, None}
 use Rattle.plan_desk.specs.Desk.{Shown}
 use Rattle.plan_desk.specs.Contents.{TellsSuch, Says}
 use Rattle.instance_model.specs.declared.limits.Limits.{Limits}
@@ -158,6 +158,5 @@ pub record RunsCheck (limits : Limits) (source : Source) (name : Option (List �
       → IsOneAnswer (AnswersCheck limits by_bytes slack instance plan cert)
   -- no file is changed
   pub output : new.output ≡ old.output
-  -- the last fault is what it was, but at 7 and 8, and faults never fall
+  -- no call failed, but at 7 and 8
   pub quiet : IsQuiet status old new
-  pub later : old.faults ≤ new.faults

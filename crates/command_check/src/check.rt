@@ -11,7 +11,7 @@ ghost use Rattle.command_frame.specs.Ending.{reply};
 ghost use Rattle.command_frame.specs.Files.{reading};
 ghost use Rattle.command_check.specs.Checking.{RunsCheck};
 ghost use Rattle.command_answers.specs.Check.{Checks, AnswersCheck};
-ghost use Rattle.command_frame.specs.Refusals.{KeepsLast, IsDueAs};
+ghost use Rattle.command_frame.specs.Refusals.{IsDueAs, CountsRefusal};
 ghost use Rattle.command_check.specs.Standing.{StandsAs, ChecksFor};
 
 use branch_certificate::Certificate;
@@ -68,8 +68,8 @@ fn check_certificate<D: Desk>(
         (reply report.status report.text)) }
     ensures err { IfErr result (IsDueAs (AnswersCheck limits.now (reading (D.shows desk.old) (D.shows desk.new))
         source.now.slack source.now.instance.now (option_copied plan.entry) certificate.now)) }
-    ensures last { OnOk result ((D.shows desk.new).last ≡ (D.shows desk.old).last) }
-    ensures kept { IfErr result (KeepsLast (D.shows desk.old) (D.shows desk.new)) }
+    ensures faults { OnOk result ((D.shows desk.new).faults ≡ (D.shows desk.old).faults) }
+    ensures kept { IfErr result (CountsRefusal (D.shows desk.old) (D.shows desk.new)) }
     ensures only_reads { OnlyReads (D.shows desk.old) (D.shows desk.new) }
 {
     let inst = instance_of(alloc, limits, 2, source, desk)?;

@@ -1,5 +1,5 @@
 -- What a run of `evaluate` promises follows from its end.
-use Rattle.std.proofs.Common.{ℕ, ◌-◌, ◌^◌, ◌≤◌, inl, inr, List, Option, refl, sym, pos, subst}
+use Rattle.std.proofs.Common.{ℕ, ◌-◌, ◌^◌, inl, inr, List, Option, refl, sym, pos, subst}
 use Rattle.plan_desk.specs.Desk.{Shown}
 use Rattle.plan_desk.specs.Contents.{Says, KeepsFiles}
 use Rattle.instance_model.specs.declared.limits.Limits.{Limits}
@@ -39,12 +39,12 @@ evaluate_other limits slack met other i p j q a ci cp =
     (λ inst b. on_other met other 3 p q (RefusesPlan limits inst) (Spells limits inst) (Judges inst) (Judges inst) b cp
     (λ x c judges. judges))
 
-pub evaluate_stays : (limits : Limits) (source : Source) (name : List ℕ) (old mid new : Shown) → old.faults ≤ mid.faults
+pub evaluate_stays : (limits : Limits) (source : Source) (name : List ℕ) (old mid new : Shown)
     → Stays (λ at. AnswersEvaluate limits (reading old at) source.slack source.instance name) mid new
-evaluate_stays limits source name old mid new first goes a =
+evaluate_stays limits source name old mid new goes a =
     evaluate_other limits source.slack (reading old mid) (reading old new) source.instance name source.instance name a
-    (later_reading source.instance old mid new first goes)
-    (later_reading name old mid new first goes)
+    (later_reading source.instance old mid new goes)
+    (later_reading name old mid new goes)
 
 -- ---- what stands behind the status
 
@@ -160,7 +160,6 @@ evaluate_runs limits source name old new status ends keeps =
           (exact_reading source.instance instance old new tells calm)
           (exact_reading name plan old new tells_plan calm)) calm ends;
       one = evaluated_once limits;
-      output = keeps.output;
+      output = keeps;
       quiet = ends_quiet (DueEvaluate limits source name old) old new status ends;
-      later = keeps.later;
     }

@@ -102,6 +102,5 @@ pub record RunsEvaluate (limits : Limits) (source : Source) (name : List ℕ) (o
   pub one : (slack : ℕ) (instance plan : List ℕ) → IsOneAnswer (AnswersEvaluate limits by_bytes slack instance plan)
   -- no file is changed
   pub output : new.output ≡ old.output
-  -- the last fault is what it was, but at 7 and 8, and faults never fall
+  -- no call failed, but at 7 and 8
   pub quiet : IsQuiet status old new
-  pub later : old.faults ≤ new.faults

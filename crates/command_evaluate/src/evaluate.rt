@@ -8,7 +8,7 @@ ghost use Rattle.command_frame.specs.Ending.{reply};
 ghost use Rattle.command_frame.specs.Files.{reading};
 ghost use Rattle.command_evaluate.specs.Evaluating.{RunsEvaluate};
 ghost use Rattle.command_answers.specs.Evaluate.{Judges, AnswersEvaluate};
-ghost use Rattle.command_frame.specs.Refusals.{KeepsLast, IsDueAs};
+ghost use Rattle.command_frame.specs.Refusals.{IsDueAs, CountsRefusal};
 
 use command_frame::{
     Refusal, Report, Source, feasible_text, infeasible_text, instance_of, plan_of, say_report,
@@ -44,8 +44,8 @@ fn evaluate<D: Desk>(
         source.now.slack source.now.instance.now plan.now (reply report.status report.text)) }
     ensures err { IfErr result (IsDueAs (AnswersEvaluate limits.now (reading (D.shows desk.old) (D.shows desk.new))
         source.now.slack source.now.instance.now plan.now)) }
-    ensures last { OnOk result ((D.shows desk.new).last ≡ (D.shows desk.old).last) }
-    ensures kept { IfErr result (KeepsLast (D.shows desk.old) (D.shows desk.new)) }
+    ensures faults { OnOk result ((D.shows desk.new).faults ≡ (D.shows desk.old).faults) }
+    ensures kept { IfErr result (CountsRefusal (D.shows desk.old) (D.shows desk.new)) }
     ensures only_reads { OnlyReads (D.shows desk.old) (D.shows desk.new) }
 {
     let inst = instance_of(alloc, limits, 2, source, desk)?;

@@ -1,20 +1,20 @@
 -- Files as they are met: what carries over from one way to another, and what is answered where files are told.
-use Rattle.std.proofs.Common.{◌≡◌, ℕ, ◌≤◌, ◌⊎◌, inl, inr, List, [], Option, Some, None, refl, sym, ◌∙◌, ap, subst}
+use Rattle.std.proofs.Common.{◌≡◌, ℕ, ◌⊎◌, inl, inr, List, [], Option, Some, None, refl, sym, ◌∙◌, ap, subst}
 use Rattle.std.proofs.Common.{arith}
-use Rattle.std.specs.Prelude.{⊤, IfSome, option_map}
-use Rattle.plan_desk.specs.Desk.{Shown, Fault, ShowsSame, after_take_in}
-use Rattle.plan_desk.specs.Faults.{IsReadFaultOf}
+use Rattle.std.specs.Prelude.{⊤, option_map}
+use Rattle.plan_desk.specs.Desk.{Shown, ShowsSame, after_take_in}
+use Rattle.plan_desk.specs.Faults.{one_more}
 use Rattle.plan_desk.specs.Contents.{WhereToldHolds, TellsSuch, Says}
+use Rattle.plan_desk.proofs.Composed.{fails_since, fails_until}
 use Rattle.instance_model.specs.declared.limits.Limits.{Limits}
 use Rattle.instance_model.specs.Tables.{Tables}
 use Rattle.command_frame.specs.Ending.{Answer, IsOneAnswer, NoFault}
 use Rattle.command_frame.specs.Bytes.{Spells, RefusesPlan}
-use Rattle.command_frame.specs.Files.{Meeting, ReadFails, reading, by_bytes, OnFile, OnGiven, ReadsSuch, SaysRefusal}
+use Rattle.command_frame.specs.Files.{Meeting, reading, by_bytes, OnFile, OnGiven, ReadsSuch, SaysRefusal}
 use Rattle.command_frame.specs.Files.{TellsMissing, TellsBytes, TellsGivenBytes, ReadsBytes}
 use Rattle.command_frame.specs.Files.OnFile.{unread, refused, stands}
 use Rattle.command_frame.specs.Refusals.{AfterGiven}
 use Rattle.command_frame.proofs.ToldLemmas.{told_missing, told_before, read_such}
-use Rattle.command_frame.proofs.SayLemmas.{rose_later, rose_before}
 
 -- ---- from one way of meeting files to another
 
@@ -53,39 +53,30 @@ on_given_other limits inst met other word (Some name) (Some also) Next Then a c 
 
 -- ---- while the desk goes on
 
--- nothing failed last between these two
-pub record Goes (mid new : Shown) : Type 0 where
-  pub later : mid.faults ≤ new.faults
-  pub same : new.last ≡ mid.last
+-- no call failed between these two
+abbrev pub Goes : (mid new : Shown) → Type 0
+Goes mid new = new.faults ≡ mid.faults
 
-fails_later : (name : List ℕ) (old mid new : Shown) → old.faults ≤ mid.faults → Goes mid new → ReadFails name old mid
-    → ReadFails name old new
-fails_later name old mid new first goes fails =
-    record {
-      rose = rose_later old.faults mid.faults new.faults first goes.later fails.rose;
-      own = subst (λ (l : Option Fault). IfSome l (IsReadFaultOf name)) (sym goes.same) fails.own;
-    }
-
-pub later_reading : (name : List ℕ) (old mid new : Shown) → old.faults ≤ mid.faults → Goes mid new
+pub later_reading : (name : List ℕ) (old mid new : Shown) → Goes mid new
     → Carries (reading old mid) name (reading old new) name
-later_reading name old mid new first goes =
-    record { fails = fails_later name old mid new first goes; holds = λ bytes held. held }
+later_reading name old mid new goes =
+    record { fails = λ fails. fails_until old mid new goes fails; holds = λ bytes held. held }
 
-pub later_given : (name : Option (List ℕ)) (old mid new : Shown) → old.faults ≤ mid.faults → Goes mid new
+pub later_given : (name : Option (List ℕ)) (old mid new : Shown) → Goes mid new
     → CarriesGiven (reading old mid) name (reading old new) name
-later_given None old mid new first goes = tt
-later_given (Some name) old mid new first goes = later_reading name old mid new first goes
+later_given None old mid new goes = tt
+later_given (Some name) old mid new goes = later_reading name old mid new goes
 
 -- a file was read to its end, and no other thing was changed
 pub record IsRead (old mid : Shown) : Type 0 where
   pub unread : mid.input.unread ≡ option_map (λ _. []) old.input.unread
   pub output : mid.output ≡ old.output
-  pub later : old.faults ≤ mid.faults
+  pub same : mid.faults ≡ old.faults
 
-pub is_read : (name : List ℕ) (old mid : Shown) → ShowsSame mid (after_take_in name [] old) → old.faults ≤ mid.faults
+pub is_read : (name : List ℕ) (old mid : Shown) → ShowsSame mid (after_take_in name [] old) → mid.faults ≡ old.faults
     → IsRead old mid
-is_read name old mid shows later =
-    record { unread = ap (λ i. i.unread) shows.input; output = shows.output; later = later }
+is_read name old mid shows same =
+    record { unread = ap (λ i. i.unread) shows.input; output = shows.output; same = same }
 
 abbrev none_left : List ℕ → List ℕ
 none_left bytes = []
@@ -99,14 +90,14 @@ read_both old mid last first second =
     record {
       unread = second.unread ∙ ap (option_map none_left) first.unread ∙ left_once old.input.unread;
       output = second.output ∙ first.output;
-      later = omega (arith, first.later, second.later);
+      same = second.same ∙ first.same;
     }
 
 -- the instance was read, and then the plan, if one is given
-pub read_given : (name : Option (List ℕ)) (old mid last : Shown) → IsRead old mid → mid.faults ≤ last.faults
+pub read_given : (name : Option (List ℕ)) (old mid last : Shown) → IsRead old mid → last.faults ≡ mid.faults
     → AfterGiven name mid last → IsRead old last
-read_given None old mid last read later after = subst (IsRead old) (sym after) read
-read_given (Some name) old mid last read later after = read_both old mid last read (is_read name mid last after later)
+read_given None old mid last read same after = subst (IsRead old) (sym after) read
+read_given (Some name) old mid last read same after = read_both old mid last read (is_read name mid last after same)
 
 held_before : (old mid : Shown) (name : List ℕ) (P : List ℕ → Type 0) → IsRead old mid → WhereToldHolds mid name P
     → WhereToldHolds old name P
@@ -117,10 +108,7 @@ pub before_reading : (name : List ℕ) (old mid new : Shown) → IsRead old mid
     → Carries (reading mid new) name (reading old new) name
 before_reading name old mid new read =
     record {
-      fails = λ fails. record {
-        rose = rose_before old.faults mid.faults new.faults read.later fails.rose;
-        own = fails.own;
-      };
+      fails = λ fails. fails_since old mid new read.same fails;
       holds = λ bytes held. held_before old mid name (λ h. h ≡ bytes) read held;
     }
 
@@ -140,12 +128,16 @@ reads_before name old mid P read reads =
 
 -- ---- where files are told
 
+-- a count below its last value is not one more than itself
+pub none_failed : (old new : Shown) → NoFault old new → new.faults.count ≡ one_more old.faults.count → ⊥
+none_failed old new calm one = omega (arith, calm.same, calm.below, one)
+
 -- without a fault, a file whose bytes are told is met as these bytes
 pub exact_reading : (name bytes : List ℕ) (old new : Shown) → TellsBytes old name bytes → NoFault old new
     → Carries (reading old new) name by_bytes bytes
 exact_reading name bytes old new tells calm =
     record {
-      fails = λ fails. calm fails.rose;
+      fails = λ fails. none_failed old new calm fails.one;
       holds = λ b held. sym (read_such old name b (λ c. c ≡ bytes) held tells);
     }
 

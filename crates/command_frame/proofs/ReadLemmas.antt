@@ -1,7 +1,8 @@
 -- What was read of the files of a command.
-use Rattle.std.proofs.Common.{◌≡◌, ℕ, ◌<◌, inl, inr, List, length, Option, Some, refl, sym, ◌∙◌, subst}
+use Rattle.std.proofs.Common.{◌≡◌, ℕ, ◌<◌, inl, inr, List, length, Option, Some, refl, sym, ◌∙◌, ap, subst}
 use Rattle.std.specs.Prelude.{ℤ, pos}
 use Rattle.plan_desk.specs.Desk.{Shown}
+use Rattle.plan_desk.specs.Faults.{one_more}
 use Rattle.plan_desk.specs.Contents.{WhereToldHolds}
 use Rattle.plan_moves.specs.declared.script_line.ScriptLine.{ScriptLine}
 use Rattle.instance_model.specs.declared.limits.Limits.{Limits}
@@ -25,7 +26,7 @@ use Rattle.command_frame.specs.Files.{ReadsPlan}
 use Rattle.command_frame.specs.Files.OnFile.{unread, refused, stands}
 use Rattle.command_frame.specs.declared.refusal.Refusal.{Refusal}
 use Rattle.command_frame.specs.declared.refusal.Refusal.TheVariants as refusal
-use Rattle.command_frame.specs.Refusals.{KeepsLast, IsInstanceCause, IsPlanCause, IsScriptCause, IsDueAs}
+use Rattle.command_frame.specs.Refusals.{CountsRefusal, IsInstanceCause, IsPlanCause, IsScriptCause, IsDueAs}
 use Rattle.command_frame.specs.Refusals.{line_or_memory}
 use Rattle.command_frame.proofs.ToldLemmas.{long_held}
 use Rattle.command_frame.proofs.FileLemmas.{on_other, IsRead, before_reading, reads_before}
@@ -145,9 +146,9 @@ pub due_within : (Inner Outer : Answer → Type 0) (r : Refusal) → ((a : Answe
 due_within Inner Outer r f (inl memory) = inl memory
 due_within Inner Outer r f (inr due) = inr (f _ due)
 
--- the last fault is what it was before earlier files, too
-pub kept_before : (old mid new : Shown) (r : Refusal) → mid.last ≡ old.last → KeepsLast mid new r → KeepsLast old new r
-kept_before old mid new (refusal.Unread w) same kept = kept
+-- what failed since earlier files were read failed since before them
+pub kept_before : (old mid new : Shown) (r : Refusal) → mid.faults ≡ old.faults → CountsRefusal mid new r → CountsRefusal old new r
+kept_before old mid new (refusal.Unread w) same kept = kept ∙ ap (λ f. one_more f.count) same
 kept_before old mid new refusal.LongInstance same kept = kept ∙ same
 kept_before old mid new (refusal.Instance fault) same kept = kept ∙ same
 kept_before old mid new refusal.LongPlan same kept = kept ∙ same

@@ -1,21 +1,15 @@
 -- What was said, piece by piece.
-use Rattle.std.proofs.Common.{◌≡◌, ◌≢◌, ℕ, ◌+◌, ◌≤◌, inl, inr, List, ◌++◌, length, take, Option, Some, None, refl, sym}
+use Rattle.std.proofs.Common.{◌≡◌, ◌≢◌, ℕ, ◌+◌, inl, inr, List, ◌++◌, length, take, Option, Some, None, refl, sym}
 use Rattle.std.proofs.Common.{◌∙◌, ap, subst, arith, length-append, append_assoc}
 use Rattle.std.specs.Prelude.{option_map}
 use Rattle.std.proofs.Math.Seq.{take-append-add}
 use Rattle.std.proofs.lemmas.List.{take-append-le}
 use Rattle.plan_desk.specs.Desk.{Shown}
-use Rattle.plan_desk.specs.Faults.{Rose}
 use Rattle.plan_desk.specs.Contents.{Says}
+use Rattle.plan_desk.proofs.Composed.{fails_since}
 use Rattle.command_frame.specs.declared.refusal.Refusal.{Refusal}
 use Rattle.command_frame.specs.declared.refusal.Refusal.TheVariants as refusal
 use Rattle.command_frame.specs.Refusals.{SaysSome, SaysOrFails, status_of}
-
-pub rose_later : (a b c : ℕ) → a ≤ b → b ≤ c → Rose a b → Rose a c
-rose_later a b c ab bc rose = grind (arith, rose)
-
-pub rose_before : (a b c : ℕ) → a ≤ b → Rose b c → Rose a c
-rose_before a b c ab rose = grind (arith, rose)
 
 -- what was said after something else
 pub says_more : (a b : List ℕ) (old mid new : Shown) → Says a old mid → Says b mid new → Says (a ++ b) old new
@@ -45,26 +39,23 @@ some_first a b old new status some =
     }
 
 -- a first part was said, and the rest was said or failed
-pub some_more : (a b : List ℕ) (old mid new : Shown) (status : ℕ) → Says a old mid → old.faults ≤ mid.faults
+pub some_more : (a b : List ℕ) (old mid new : Shown) (status : ℕ) → Says a old mid → mid.faults ≡ old.faults
     → SaysSome b mid new status → SaysSome (a ++ b) old new status
-some_more a b old mid new status first later some =
+some_more a b old mid new status first same some =
     record {
       status_is = some.status_is;
       part = length a + some.part;
       within = omega (arith, some.within, length-append a b);
       says = subst (λ (t : List ℕ). Says t old new) (sym (take-append-add a b some.part))
           (says_more a (take some.part b) old mid new first some.says);
-      fails = record {
-        rose = rose_before old.faults mid.faults new.faults later some.fails.rose;
-        own = some.fails.own;
-      };
+      fails = fails_since old mid new same some.fails;
     }
 
-pub or_more : (a b : List ℕ) (old mid new : Shown) (due status : ℕ) → Says a old mid → old.faults ≤ mid.faults
-    → mid.last ≡ old.last → SaysOrFails due b mid new status → SaysOrFails due (a ++ b) old new status
-or_more a b old mid new due status first later same (inl all) =
+pub or_more : (a b : List ℕ) (old mid new : Shown) (due status : ℕ) → Says a old mid → mid.faults ≡ old.faults
+    → SaysOrFails due b mid new status → SaysOrFails due (a ++ b) old new status
+or_more a b old mid new due status first same (inl all) =
     inl (record { status_is = all.status_is; says = says_more a b old mid new first all.says; same = all.same ∙ same })
-or_more a b old mid new due status first later same (inr some) = inr (some_more a b old mid new status first later some)
+or_more a b old mid new due status first same (inr some) = inr (some_more a b old mid new status first same some)
 
 -- of all refusals only that of a file that could not be read has status 7
 pub other_status : (r : Refusal) → ((word : ℕ) → r ≡ refusal.Unread word → ⊥) → status_of r ≢ 7

@@ -1,9 +1,9 @@
 -- Files that an answer writes, from the calls that write them to the end of a run.
-use Rattle.std.proofs.Common.{◌≡◌, ◌≢◌, ℕ, zero, suc, ◌+◌, ◌<◌, ◌≤◌, inl, inr, refl, sym, ◌∙◌, ap, subst, arith, List}
+use Rattle.std.proofs.Common.{◌≡◌, ◌≢◌, ℕ, zero, suc, inl, inr, refl, sym, ◌∙◌, ap, subst, arith, List}
 use Rattle.std.proofs.Common.{[], ◌∷◌, length, take, get_or, Option, Some, None, true≢false}
 use Rattle.std.specs.Prelude.{Result, Ok, Err, IsErr, IfSome, option_map}
 use Rattle.plan_desk.specs.Desk.{Shown, Fault, Output, ShowsSame, none_open, file_open, output_after_write}
-use Rattle.plan_desk.specs.Faults.{Rose, IsFaultOf}
+use Rattle.plan_desk.specs.Faults.{IsFaultOf}
 use Rattle.plan_desk.specs.Contents.{Says, OnlyReads, KeepsFiles}
 use Rattle.plan_desk.specs.Calls.{PutsOut, FinishesOut}
 use Rattle.plan_desk.specs.Written.{WritesText}
@@ -11,12 +11,14 @@ use Rattle.plan_desk.specs.FileWrites.{FileWrite, after_file, after_writes, Stop
 use Rattle.plan_desk.specs.declared.call.DeskCall.{DeskCall}
 use Rattle.plan_desk.specs.declared.call.DeskCall.TheVariants.{FinishOut}
 use Rattle.plan_desk.specs.declared.call.Failed.{Failed}
+use Rattle.plan_desk.proofs.Composed.{fails_since}
 use Rattle.plan_desk.proofs.FileWrites.{same_again, file_alike, file_written, not_ended, stops_alike}
 use Rattle.command_frame.specs.declared.report.Report.{Report}
 use Rattle.command_frame.specs.Lines.{write_line}
 use Rattle.command_frame.specs.Ending.{Writing, Answer, files_of, writing_at, OrMemory, WriteFails, SaysUnwritten, Ends}
 use Rattle.command_frame.specs.Ending.{Behind}
 use Rattle.command_frame.specs.Ending.OrMemory.{answers, no_memory}
+use Rattle.command_frame.specs.Ending.CountsRead.{none as counts_none}
 use Rattle.command_frame.specs.Ending.SaysUnwritten.{said as line_said, unsaid as line_unsaid}
 use Rattle.command_frame.specs.Ending.Ends.{done, unsaid, unwritten}
 use Rattle.command_frame.specs.Ending.Behind.{of_command, unsaid as behind_unsaid, unwritten as behind_unwritten}
@@ -25,9 +27,8 @@ use Rattle.command_frame.specs.Refusals.{SaysOrFails}
 use Rattle.command_frame.specs.Writing.{StopsPut, PutsFile, HasWritten, StopsWriting, PutsFiles, SaysWritten}
 use Rattle.command_frame.specs.Writing.{TellsAnswer}
 use Rattle.command_frame.specs.Writing.TellsAnswer.{written as told_written, unwritten as told_unwritten}
-use Rattle.command_frame.proofs.SayLemmas.{rose_before, says_before}
-use Rattle.command_frame.proofs.FileLemmas.{Goes}
-use Rattle.command_frame.proofs.EndLemmas.{Stays, unsaid_fails}
+use Rattle.command_frame.proofs.SayLemmas.{says_before}
+use Rattle.command_frame.proofs.EndLemmas.{Stays}
 
 -- ---- one file, from its calls
 
@@ -55,23 +56,20 @@ puts_written file {old = old} {opened = opened} {written = written} {new = new} 
   ok = file_written file puts writes finishes;
   err = tt;
   same = finishes.faults.same ∙ writes.faults.same ∙ puts.faults.same;
-  later = omega (arith, puts.faults.later, writes.faults.later, finishes.faults.later);
 }
 puts_written file {old = old} {opened = opened} {written = written} {new = new} (Err e) puts writes finishes = record {
   ok = tt;
   err = record {
     call = FinishOut;
     stops = not_ended file puts writes finishes;
-    fails = record {
-      rose = rose_before old.faults written.faults new.faults
-          (omega (arith, puts.faults.later, writes.faults.later)) finishes.faults.rose;
-      own = renamed new.last FinishOut written.output.name old.output.name file.name
+    fails = fails_since old written new (writes.faults.same ∙ puts.faults.same) (record {
+      one = finishes.faults.fails.one;
+      own = renamed new.faults.last FinishOut written.output.name old.output.name file.name
           (ap (λ (o : Output). o.name) writes.ok.output ∙ ap (λ (o : Output). o.name) puts.ok.output)
-          finishes.faults.own;
-    };
+          finishes.faults.fails.own;
+    });
   };
   same = tt;
-  later = omega (arith, puts.faults.later, writes.faults.later, finishes.faults.later);
 }
 
 -- ---- several files
@@ -87,7 +85,6 @@ pub puts_none : {T : Type 0} (x : T) (s : Shown) → PutsFiles [] s s (Ok x)
 puts_none x s = record {
   shows = record { input = refl; output = refl; said = refl };
   same = refl;
-  later = omega arith;
 }
 
 -- the first one stopped
@@ -99,7 +96,6 @@ puts_first U w rest old new puts = record {
   stops = record { within = omega arith; stops = puts.err.stops };
   fails = puts.err.fails;
   word_is = refl;
-  later = puts.later;
 }
 
 -- the first one was written, and then the rest was, or stopped
@@ -108,7 +104,6 @@ pub puts_more : {T U E : Type 0} {x : T} (w : Writing) (rest : List Writing) (ol
 puts_more w rest old mid new (Ok y) first next = record {
   shows = same_again next.shows (writes_alike (files_of rest) mid (after_file w.file old) first.ok);
   same = next.same ∙ first.same;
-  later = omega (arith, first.later, next.later);
 }
 puts_more w rest old mid new (Err word) first next = record {
   n = suc next.n;
@@ -118,12 +113,8 @@ puts_more w rest old mid new (Err word) first next = record {
     stops = stops_alike (get_or (files_of rest) next.n (record { name = []; bytes = [] })) next.call new
         (writes_alike (take next.n (files_of rest)) mid (after_file w.file old) first.ok) next.stops.stops;
   };
-  fails = record {
-    rose = rose_before old.faults mid.faults new.faults first.later next.fails.rose;
-    own = next.fails.own;
-  };
+  fails = fails_since old mid new first.same next.fails;
   word_is = next.word_is;
-  later = omega (arith, first.later, next.later);
 }
 
 -- ---- the end of a run
@@ -140,9 +131,9 @@ nothing_said [] s = refl
 nothing_said (file ∷ files) s = nothing_said files (after_file file s)
 
 module _ (Answers : Shown → Answer → Type 0) (old mid : Shown) (a : Answer) (reads : OnlyReads old mid)
-    (kept : mid.last ≡ old.last) (is : Answers mid a) where
+    (kept : mid.faults ≡ old.faults) (is : Answers mid a) where
   stay : (s : Shown) → Stays Answers mid s → HasWritten a.writes mid s → OrMemory (Answers s) a
-  stay s stays wrote = answers a (stays (record { later = wrote.later; same = wrote.same }) a is)
+  stay s stays wrote = answers a (stays wrote.same a is)
 
   -- the files were written, and then the text was said, or saying it failed
   written_ends : (wrote new : Shown) (status : ℕ) → Stays Answers mid wrote → Stays Answers mid new
@@ -151,15 +142,12 @@ module _ (Answers : Shown → Answer → Type 0) (old mid : Shown) (a : Answer) 
   written_ends wrote new status stays_wrote stays files keeps (inl all) =
       done status (record {
         answer = a;
-        due = answers a (stays (record {
-          later = omega (arith, files.later, keeps.later);
-          same = all.same ∙ files.same;
-        }) a is);
+        due = answers a (stays (all.same ∙ files.same) a is);
         status_is = all.status_is;
-        writes = keeps.output ∙ files.shows.output ∙ outputs_alike (files_of a.writes) mid old reads.output;
+        writes = keeps ∙ files.shows.output ∙ outputs_alike (files_of a.writes) mid old reads.output;
         says = says_before old wrote new a.text
             (files.shows.said ∙ nothing_said (files_of a.writes) mid ∙ reads.said) all.says;
-        quiet = λ x y. all.same ∙ files.same ∙ kept;
+        counts = counts_none (all.same ∙ files.same ∙ kept);
       })
   written_ends wrote new status stays_wrote stays files keeps (inr some) =
       subst (λ (n : ℕ). Ends (λ at. OrMemory (Answers at)) old new n) (sym some.status_is)
@@ -168,9 +156,8 @@ module _ (Answers : Shown → Answer → Type 0) (old mid : Shown) (a : Answer) 
         answer = a;
         due = stay wrote stays_wrote files;
         silent = files.shows.said ∙ nothing_said (files_of a.writes) mid ∙ reads.said;
-        later = omega (arith, reads.later, files.later);
-        quiet = λ x y. files.same ∙ kept;
-        writes = keeps.output ∙ files.shows.output ∙ outputs_alike (files_of a.writes) mid old reads.output;
+        counts = counts_none (files.same ∙ kept);
+        writes = keeps ∙ files.shows.output ∙ outputs_alike (files_of a.writes) mid old reads.output;
         part = some.part;
         within = some.within;
         says = says_before old wrote new (take some.part a.text)
@@ -200,17 +187,14 @@ module _ (Answers : Shown → Answer → Type 0) (old mid : Shown) (a : Answer) 
         due = answers a is;
         silent = reads.said;
         output = reads.output;
-        later = reads.later;
-        quiet = λ x y. kept;
+        quiet = kept;
         n = stops.n;
         call = stops.call;
         stopped = stopped;
         stops = stops.stops;
         fails = stops.fails;
-        stopped_later = stops.later;
         says = subst (λ (k : ℕ). SaysUnwritten k stopped new) stops.word_is (line_says stopped new word status says);
-        said_later = keeps.later;
-        output_is = keeps.output;
+        output_is = keeps;
       }))
 
   -- an answer was told
@@ -220,10 +204,6 @@ module _ (Answers : Shown → Answer → Type 0) (old mid : Shown) (a : Answer) 
       written_ends wrote new status (stays wrote) (stays new) files keeps says
   told_ends new status stays (told_unwritten at word stops keeps says) = unwritten_ends at new word status stops keeps
       says
-
-pub told_later : (a : Answer) (old new : Shown) (status : ℕ) → TellsAnswer a old new status → old.faults ≤ new.faults
-told_later a old new status (told_written wrote files keeps says) = omega (arith, files.later, keeps.later)
-told_later a old new status (told_unwritten at word stops keeps says) = omega (arith, stops.later, keeps.later)
 
 -- what stands behind a status, where files are written
 pub wrote_behind : (Answers : Shown → Answer → Type 0) (OfCommand : ℕ → Type 0) (old new : Shown) (status : ℕ)
@@ -240,7 +220,7 @@ wrote_behind Answers OfCommand old new status f (done n d) =
     at a (answers b is) writes says = of_command b.status (f b is writes says)
     at a no_memory writes says = behind_memory says
 wrote_behind Answers OfCommand old new status f (unsaid u) =
-    behind_unsaid (unsaid_fails (λ at. OrMemory (Answers at)) old new u) u
+    behind_unsaid u
 wrote_behind Answers OfCommand old new status f (unwritten u) = behind_unwritten u
 
 -- ---- a report behind files that were written

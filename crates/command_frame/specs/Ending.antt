@@ -1,10 +1,9 @@
 -- How a run ends: what is due is written and said, or writing or saying it fails.
 --
 -- `old` and `new` are what the desk shows before and after a run.
-use Rattle.std.specs.Prelude.{◌≡◌, ◌≢◌, ◌⊎◌, ℕ, ◌<◌, ◌≤◌, List, [], ◌∷◌, length, take, map, slice_index_or, Some}
-use Rattle.std.specs.Prelude.{IfSome}
+use Rattle.std.specs.Prelude.{◌≡◌, ◌≢◌, ◌⊎◌, ℕ, ◌-◌, ◌^◌, ◌<◌, List, [], ◌∷◌, length, take, map, slice_index_or, Some}
 use Rattle.plan_desk.specs.Desk.{Shown}
-use Rattle.plan_desk.specs.Faults.{Rose, IsFaultOf}
+use Rattle.plan_desk.specs.Faults.{FailsOnce, IsFaultOf, one_more}
 use Rattle.plan_desk.specs.Contents.{Says}
 use Rattle.plan_desk.specs.FileWrites.{FileWrite, after_writes, StopsWrites}
 use Rattle.plan_desk.specs.declared.call.DeskCall.{DeskCall}
@@ -47,15 +46,19 @@ pub data OrMemory (Answers : Answer → Type 0) : Answer → Type 0 where
 
 -- ---- the end of a run
 
--- The last fault is what it was, but where a file could not be read (7), or where one could not be written or what was
--- due could not be said (8). So want of memory (11) is never told in the place of a call that failed.
+-- No call failed, but where a file could not be read (7), or where one could not be written or what was due could not
+-- be said (8). So want of memory (11) is never told in the place of a call that failed.
 abbrev pub IsQuiet : ℕ → (old new : Shown) → Type 0
-IsQuiet status old new = status ≢ 7 → status ≢ 8 → new.last ≡ old.last
+IsQuiet status old new = status ≢ 7 → status ≢ 8 → new.faults ≡ old.faults
 
--- faults rose, and the last fault, where told, is a `say`
-pub record SayFails (old new : Shown) : Type 0 where
-  pub rose : Rose old.faults new.faults
-  pub own : IfSome new.last (IsFaultOf Say (Some []))
+-- no call failed before an answer of this status is told; or it is that a file could not be read (7), and one failed
+pub data CountsRead (status : ℕ) (old new : Shown) : Type 0 where
+  none : new.faults ≡ old.faults → CountsRead status old new
+  one : status ≡ 7 → new.faults.count ≡ one_more old.faults.count → CountsRead status old new
+
+-- one call failed, a `say`
+abbrev pub SayFails : (old new : Shown) → Type 0
+SayFails = FailsOnce (IsFaultOf Say (Some []))
 
 -- An answer was due, its files were written, and its text was said. `Due` says what is due after what the desk shows.
 pub record IsDone (Due : Shown → Answer → Type 0) (old new : Shown) (status : ℕ) : Type 0 where
@@ -64,37 +67,38 @@ pub record IsDone (Due : Shown → Answer → Type 0) (old new : Shown) (status 
   pub status_is : status ≡ answer.status
   pub writes : new.output ≡ (after_writes (files_of answer.writes) old).output
   pub says : Says answer.text old new
-  pub quiet : IsQuiet status old new
+  pub counts : CountsRead status old new
 
 -- An answer was due, its files were written, and saying its text failed after a first part of it was said but not all.
--- Nothing was said before or after that. `before` is what the desk may have shown as the saying began.
+-- Nothing was said before or after that. `before` is what the desk may have shown as the saying began. From then on one
+-- call failed, so no other was made after it.
 pub record IsUnsaid (Due : Shown → Answer → Type 0) (old new : Shown) : Type 0 where
   pub before : Shown
   pub answer : Answer
   pub due : Due before answer
   pub silent : before.said ≡ old.said
-  pub later : old.faults ≤ before.faults
-  pub quiet : IsQuiet answer.status old before
+  pub counts : CountsRead answer.status old before
   pub writes : new.output ≡ (after_writes (files_of answer.writes) old).output
   pub part : ℕ
   pub within : part < length answer.text
   pub says : Says (take part answer.text) old new
   pub fails : SayFails before new
 
--- faults rose, and the last fault, where told, is of this call at the file of this name
-pub record WriteFails (call : DeskCall) (name : List ℕ) (old new : Shown) : Type 0 where
-  pub rose : Rose old.faults new.faults
-  pub own : IfSome new.last (IsFaultOf call (Some name))
+-- one call failed, which was this one at the file of this name
+abbrev pub WriteFails : DeskCall → List ℕ → (old new : Shown) → Type 0
+WriteFails call name = FailsOnce (IsFaultOf call (Some name))
 
--- the line of a file that could not be written was said, or saying it failed after a first part of it
+-- The line of a file that could not be written was said, and no other call failed; or saying it failed after a first
+-- part of it, which is a second failed call
 pub data SaysUnwritten (word : ℕ) (stopped new : Shown) : Type 0 where
-  said : Says (write_line word) stopped new → new.last ≡ stopped.last → SaysUnwritten word stopped new
+  said : Says (write_line word) stopped new → new.faults ≡ stopped.faults → SaysUnwritten word stopped new
   unsaid : (part : ℕ) → part < length (write_line word) → Says (take part (write_line word)) stopped new
       → SayFails stopped new → SaysUnwritten word stopped new
 
 -- An answer was due, its first n files were written whole, and the writing of the next one stopped at a call that
 -- failed; the files behind it are untouched. Nothing was said but the line of that file, or a first part of it. The
--- desk may have shown `before` as the writing began, and `stopped` as it stopped.
+-- desk may have shown `before` as the writing began, by when no call had failed, and `stopped` as it stopped, by when one
+-- had.
 --
 -- No answer that writes no file is such: there is no file to stop at, as `StopsWrites [] n` holds of no n. So a command
 -- whose answers write none ends in one of the other two ways.
@@ -104,16 +108,13 @@ pub record IsUnwritten (Due : Shown → Answer → Type 0) (old new : Shown) : T
   pub due : Due before answer
   pub silent : before.said ≡ old.said
   pub output : before.output ≡ old.output
-  pub later : old.faults ≤ before.faults
-  pub quiet : IsQuiet answer.status old before
+  pub quiet : before.faults ≡ old.faults
   pub n : ℕ
   pub call : DeskCall
   pub stopped : Shown
   pub stops : StopsWrites (files_of answer.writes) n call before stopped
   pub fails : WriteFails call (writing_at answer.writes n).file.name before stopped
-  pub stopped_later : before.faults ≤ stopped.faults
   pub says : SaysUnwritten (writing_at answer.writes n).word stopped new
-  pub said_later : stopped.faults ≤ new.faults
   pub output_is : new.output ≡ stopped.output
 
 -- how a run ends
@@ -127,7 +128,7 @@ pub data Ends (Due : Shown → Answer → Type 0) (old new : Shown) : ℕ → Ty
 -- what stands behind a status: what the command says of it, and behind 8 and 11 the same for all commands
 pub data Behind (OfCommand : ℕ → Type 0) (Due : Shown → Answer → Type 0) (old new : Shown) : ℕ → Type 0 where
   of_command : (status : ℕ) → OfCommand status → Behind OfCommand Due old new status
-  unsaid : SayFails old new → IsUnsaid Due old new → Behind OfCommand Due old new 8
+  unsaid : IsUnsaid Due old new → Behind OfCommand Due old new 8
   unwritten : IsUnwritten Due old new → Behind OfCommand Due old new 8
   no_memory : Says memory_line old new → Behind OfCommand Due old new 11
 
@@ -148,6 +149,7 @@ pub record IsAnswered (Answers : Answer → Type 0) (old new : Shown) (status : 
   pub writes : new.output ≡ (after_writes (files_of answer.writes) old).output
   pub says : Says answer.text old new
 
--- no fault rose, and the count does not stand at its last value
-abbrev pub NoFault : (old new : Shown) → Type 0
-NoFault old new = Rose old.faults new.faults → ⊥
+-- no call failed: the count is what it was, and not its last value, at which it would stay
+pub record NoFault (old new : Shown) : Type 0 where
+  pub same : new.faults.count ≡ old.faults.count
+  pub below : old.faults.count < 2 ^ 64 - 1

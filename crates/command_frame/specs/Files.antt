@@ -3,9 +3,9 @@
 -- The files are read, and refused, in the order of the words: the answer to a later file stands beside what was read of
 -- the ones before. Of a desk that leaves its contents untold, a file still was read as some bytes for which the rest is
 -- right. `old` and `new` are what the desk shows before and after.
-use Rattle.std.specs.Prelude.{◌≡◌, ℕ, ⊤, List, Option, Some, None, IfSome, IsSomeAnd}
+use Rattle.std.specs.Prelude.{◌≡◌, ℕ, ⊤, List, Option, Some, None, IsSomeAnd}
 use Rattle.plan_desk.specs.Desk.{Shown}
-use Rattle.plan_desk.specs.Faults.{Rose, IsReadFaultOf}
+use Rattle.plan_desk.specs.Faults.{FailsOnce, IsReadFaultOf}
 use Rattle.plan_desk.specs.Contents.{WhereToldHolds, TellsSuch, Says}
 use Rattle.plan_moves.specs.declared.script_line.ScriptLine.{ScriptLine}
 use Rattle.instance_model.specs.declared.limits.Limits.{Limits}
@@ -24,10 +24,9 @@ pub record Meeting : Type 1 where
   pub fails : List ℕ → Type 0
   pub holds : List ℕ → List ℕ → Type 0
 
--- faults rose, and the last fault, where told, is a `take_in` or a `read` of the file of this name
-pub record ReadFails (name : List ℕ) (old new : Shown) : Type 0 where
-  pub rose : Rose old.faults new.faults
-  pub own : IfSome new.last (IsReadFaultOf name)
+-- one call failed, a `take_in` or a `read` of the file of this name
+abbrev pub ReadFails : List ℕ → (old new : Shown) → Type 0
+ReadFails name = FailsOnce (IsReadFaultOf name)
 
 -- these are the bytes that the file of this name holds, where that is told
 abbrev pub ReadsBytes : List ℕ → Shown → List ℕ → Type 0

@@ -1,6 +1,7 @@
 -- The status and the line of a refusal, and how what is due is said. No part of any promise.
 use Rattle.std.specs.Prelude.{◌≡◌, ◌≢◌, ◌⊎◌, ℕ, ◌<◌, ⊤, List, [], length, take, Option, Some, None, Result, Ok, Err}
 use Rattle.plan_desk.specs.Desk.{Shown, ShowsSame, after_take_in}
+use Rattle.plan_desk.specs.Faults.{one_more}
 use Rattle.plan_desk.specs.Contents.{WhereToldHolds, Says}
 use Rattle.instance_model.specs.declared.limits.Limits.{Limits}
 use Rattle.instance_model.specs.Tables.{Tables}
@@ -50,10 +51,10 @@ line_of (Certificate fault) = certificate_fault_line fault
 line_of (Unread word) = read_line word
 line_of Memory = memory_line
 
--- the last fault is what it was, but where a file could not be read
-abbrev pub KeepsLast : (old new : Shown) → Refusal → Type 0
-KeepsLast old new (Unread word) = ⊤
-KeepsLast old new _ = new.last ≡ old.last
+-- no call failed, but one where a file could not be read
+abbrev pub CountsRefusal : (old new : Shown) → Refusal → Type 0
+CountsRefusal old new (Unread word) = new.faults.count ≡ one_more old.faults.count
+CountsRefusal old new _ = new.faults ≡ old.faults
 
 -- why the bytes of the file of this name, which is this word of the command line, are not read: a desk failed, there
 -- are more than `most`, or memory ran out
@@ -122,7 +123,7 @@ pub record IsReport (status : ℕ) (text : List ℕ) (report : Report) : Type 0 
 pub record SaysAll (due : ℕ) (text : List ℕ) (old new : Shown) (status : ℕ) : Type 0 where
   pub status_is : status ≡ due
   pub says : Says text old new
-  pub same : new.last ≡ old.last
+  pub same : new.faults ≡ old.faults
 
 -- saying the text failed after a first part of it, which is not all
 pub record SaysSome (text : List ℕ) (old new : Shown) (status : ℕ) : Type 0 where

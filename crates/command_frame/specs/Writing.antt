@@ -1,5 +1,5 @@
 -- How the files of an answer are written, one after another. No part of any promise.
-use Rattle.std.specs.Prelude.{◌≡◌, ℕ, ◌<◌, ◌≤◌, ◌^◌, List, length, All, Result, Ok, Err, OnOk, OnErr}
+use Rattle.std.specs.Prelude.{◌≡◌, ℕ, ◌<◌, ◌^◌, List, length, All, Result, Ok, Err, OnOk, OnErr}
 use Rattle.plan_desk.specs.Desk.{Shown, ShowsSame}
 use Rattle.plan_desk.specs.Contents.{KeepsFiles}
 use Rattle.plan_desk.specs.FileWrites.{FileWrite, after_file, after_writes, StopsFile, StopsWrites}
@@ -15,7 +15,7 @@ pub record IsWritablePlan (inst : Tables) (plan : List ℕ) : Type 0 where
   pub each : length plan ≡ length inst.names
   pub small : All (λ start. start < 10 ^ 9) plan
 
--- what the writing of a file left that stopped at a call, which is the last fault, where told
+-- what the writing of a file left that stopped at a call, which alone failed
 pub record StopsPut (file : FileWrite) (old new : Shown) : Type 0 where
   pub call : DeskCall
   pub stops : StopsFile file call old new
@@ -25,14 +25,12 @@ pub record StopsPut (file : FileWrite) (old new : Shown) : Type 0 where
 pub record PutsFile {T E : Type 0} (file : FileWrite) (old new : Shown) (result : Result T E) : Type 0 where
   pub ok : OnOk result (ShowsSame new (after_file file old))
   pub err : OnErr result (StopsPut file old new)
-  pub same : OnOk result (new.last ≡ old.last)
-  pub later : old.faults ≤ new.faults
+  pub same : OnOk result (new.faults ≡ old.faults)
 
 -- the files of some writings were written, one after another
 pub record HasWritten (writes : List Writing) (old new : Shown) : Type 0 where
   pub shows : ShowsSame new (after_writes (files_of writes) old)
-  pub same : new.last ≡ old.last
-  pub later : old.faults ≤ new.faults
+  pub same : new.faults ≡ old.faults
 
 -- the first n were, and the writing of the next one, which this word names, stopped at a call
 pub record StopsWriting (writes : List Writing) (old new : Shown) (word : ℕ) : Type 0 where
@@ -41,7 +39,6 @@ pub record StopsWriting (writes : List Writing) (old new : Shown) (word : ℕ) :
   pub stops : StopsWrites (files_of writes) n call old new
   pub fails : WriteFails call (writing_at writes n).file.name old new
   pub word_is : word ≡ (writing_at writes n).word
-  pub later : old.faults ≤ new.faults
 
 -- all were written, or the writing of one stopped, whose word is the error
 abbrev pub PutsFiles : {T : Type 0} → List Writing → (old new : Shown) → Result T ℕ → Type 0

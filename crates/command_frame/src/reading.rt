@@ -8,7 +8,7 @@ ghost use Rattle.plan_desk.specs.Contents.{OnlyReads};
 ghost use Rattle.command_frame.specs.Sources.{source_view};
 ghost use Rattle.command_frame.specs.Files.{ReadsBytes, ReadsInstance, ReadsPlan, ReadsScript, ReadsGiven};
 ghost use Rattle.command_frame.specs.Files.{ReadsCertificate};
-ghost use Rattle.command_frame.specs.Refusals.{KeepsLast, IsReadCause, IsInstanceCause, IsPlanCause, IsScriptCause};
+ghost use Rattle.command_frame.specs.Refusals.{CountsRefusal, IsReadCause, IsInstanceCause, IsPlanCause, IsScriptCause};
 ghost use Rattle.command_frame.specs.Refusals.{IsGivenCause, IsCertificateCause, AfterGiven};
 
 use crate::refusal::Refusal;
@@ -37,8 +37,8 @@ pub fn instance_of<D: Desk>(
         (IsInstanceCause limits.now word source.now.instance.now (D.shows desk.old) (D.shows desk.new)) }
     ensures read { OnOk result
         (ShowsSame (D.shows desk.new) (after_take_in source.now.instance.now [] (D.shows desk.old))) }
-    ensures last { OnOk result ((D.shows desk.new).last ≡ (D.shows desk.old).last) }
-    ensures kept { IfErr result (KeepsLast (D.shows desk.old) (D.shows desk.new)) }
+    ensures faults { OnOk result ((D.shows desk.new).faults ≡ (D.shows desk.old).faults) }
+    ensures kept { IfErr result (CountsRefusal (D.shows desk.old) (D.shows desk.new)) }
     ensures only_reads { OnlyReads (D.shows desk.old) (D.shows desk.new) }
 {
     let slack = Fixed::from(u64::from(source.slack));
@@ -65,8 +65,8 @@ fn bytes_of<D: Desk>(
     ensures within { IfOk result (λ bytes. length bytes ≤ most) }
     ensures err { IfErr result (IsReadCause name.now word most long (D.shows desk.old) (D.shows desk.new)) }
     ensures read { OnOk result (ShowsSame (D.shows desk.new) (after_take_in name.now [] (D.shows desk.old))) }
-    ensures last { OnOk result ((D.shows desk.new).last ≡ (D.shows desk.old).last) }
-    ensures kept { IfErr result (KeepsLast (D.shows desk.old) (D.shows desk.new)) }
+    ensures faults { OnOk result ((D.shows desk.new).faults ≡ (D.shows desk.old).faults) }
+    ensures kept { IfErr result (CountsRefusal (D.shows desk.old) (D.shows desk.new)) }
     ensures only_reads { OnlyReads (D.shows desk.old) (D.shows desk.new) }
 {
     match read_all(alloc, desk, name, most) {
@@ -90,8 +90,8 @@ pub fn plan_of<D: Desk>(
     ensures each { IfOk result (λ plan. length plan ≡ length inst.now.names) }
     ensures err { IfErr result (IsPlanCause limits.now word name.now inst.now (D.shows desk.old) (D.shows desk.new)) }
     ensures read { OnOk result (ShowsSame (D.shows desk.new) (after_take_in name.now [] (D.shows desk.old))) }
-    ensures last { OnOk result ((D.shows desk.new).last ≡ (D.shows desk.old).last) }
-    ensures kept { IfErr result (KeepsLast (D.shows desk.old) (D.shows desk.new)) }
+    ensures faults { OnOk result ((D.shows desk.new).faults ≡ (D.shows desk.old).faults) }
+    ensures kept { IfErr result (CountsRefusal (D.shows desk.old) (D.shows desk.new)) }
     ensures only_reads { OnlyReads (D.shows desk.old) (D.shows desk.new) }
 {
     let most = limits.plan_bytes;
@@ -115,8 +115,8 @@ pub fn script_of<D: Desk>(
     ensures ok { IfOk result (ReadsScript limits.now name.now inst.now (D.shows desk.old)) }
     ensures known { IfOk result (All (NamesKnown inst.now)) }
     ensures err { IfErr result (IsScriptCause limits.now word name.now inst.now (D.shows desk.old) (D.shows desk.new)) }
-    ensures last { OnOk result ((D.shows desk.new).last ≡ (D.shows desk.old).last) }
-    ensures kept { IfErr result (KeepsLast (D.shows desk.old) (D.shows desk.new)) }
+    ensures faults { OnOk result ((D.shows desk.new).faults ≡ (D.shows desk.old).faults) }
+    ensures kept { IfErr result (CountsRefusal (D.shows desk.old) (D.shows desk.new)) }
     ensures only_reads { OnlyReads (D.shows desk.old) (D.shows desk.new) }
 {
     let most = limits.script_bytes;
@@ -142,8 +142,8 @@ pub fn given_plan_of<D: Desk>(
     ensures err { IfErr result
         (IsGivenCause limits.now word (option_copied name.entry) inst.now (D.shows desk.old) (D.shows desk.new)) }
     ensures read { OnOk result (AfterGiven (option_copied name.entry) (D.shows desk.old) (D.shows desk.new)) }
-    ensures last { OnOk result ((D.shows desk.new).last ≡ (D.shows desk.old).last) }
-    ensures kept { IfErr result (KeepsLast (D.shows desk.old) (D.shows desk.new)) }
+    ensures faults { OnOk result ((D.shows desk.new).faults ≡ (D.shows desk.old).faults) }
+    ensures kept { IfErr result (CountsRefusal (D.shows desk.old) (D.shows desk.new)) }
     ensures only_reads { OnlyReads (D.shows desk.old) (D.shows desk.new) }
 {
     match name {
@@ -165,8 +165,8 @@ pub fn certificate_of<D: Desk>(
     ensures in_range { IfOk result (IsInRange inst.now) }
     ensures err { IfErr result
         (IsCertificateCause limits.now word name.now inst.now (D.shows desk.old) (D.shows desk.new)) }
-    ensures last { OnOk result ((D.shows desk.new).last ≡ (D.shows desk.old).last) }
-    ensures kept { IfErr result (KeepsLast (D.shows desk.old) (D.shows desk.new)) }
+    ensures faults { OnOk result ((D.shows desk.new).faults ≡ (D.shows desk.old).faults) }
+    ensures kept { IfErr result (CountsRefusal (D.shows desk.old) (D.shows desk.new)) }
     ensures only_reads { OnlyReads (D.shows desk.old) (D.shows desk.new) }
 {
     let most = limits.certificate_bytes;

@@ -20,7 +20,7 @@ use Rattle.command_frame.specs.Refusals.{SaysOrFails}
 use Rattle.command_frame.specs.Writing.{PutsFile, HasWritten, TellsAnswer}
 use Rattle.command_frame.specs.Writing.TellsAnswer.{written, unwritten}
 use Rattle.command_frame.proofs.EndLemmas.{memory_ends}
-use Rattle.command_frame.proofs.WriteLemmas.{puts_none, puts_first, puts_more, told_ends, told_later}
+use Rattle.command_frame.proofs.WriteLemmas.{puts_none, puts_first, puts_more, told_ends}
 use Rattle.command_frame.specs.Outputs.{long_output_line}
 use Rattle.command_rebound.specs.declared.making.Made.{Made}
 use Rattle.command_rebound.specs.Rebinding.{rebound_report, out_write, Rebinds, AnswersRebound, DueRebound}
@@ -98,15 +98,10 @@ module _ (limits : Limits) (source : Source) (cert_name out : List ℕ) (old mid
   abbrev Answering : Shown → Answer → Type 0
   Answering at = AnswersRebound limits (reading old at) source.slack source.instance cert_name out
 
-  pub read_ends : (status : ℕ) → mid.last ≡ old.last → TellsRebound limits inst cert out mid new status
+  pub read_ends : (status : ℕ) → mid.faults ≡ old.faults → TellsRebound limits inst cert out mid new status
       → Ends (DueRebound limits source cert_name out old) old new status
   read_ends status last (told a rebinds tells) =
       told_ends Answering old mid a reads last
       (read_answers limits source cert_name out old mid inst cert a read rebinds) new status
-      (λ at. rebound_stays limits source cert_name out old mid at reads.later) tells
+      (λ at. rebound_stays limits source cert_name out old mid at) tells
   read_ends status last (no_memory keeps says) = memory_ends Answering old mid new status reads keeps last says
-
-  pub read_later : (status : ℕ) → TellsRebound limits inst cert out mid new status → old.faults ≤ new.faults
-  read_later status (told a rebinds tells) =
-      let later = told_later a mid new status tells in omega (arith, reads.later)
-  read_later status (no_memory keeps says) = omega (arith, reads.later, keeps.later)

@@ -1,6 +1,5 @@
 -- What a run of `rebound` promises follows from its end.
 use Rattle.std.proofs.Common.{◌≡◌, ◌≢◌, inl, inr, ◌⊎◌, ℕ, ◌<◌, ◌≤◌, List, [], ◌∷◌, length, None, refl, sym, ◌∙◌, subst}
-use Rattle.std.proofs.Common.{arith}
 use Rattle.plan_desk.specs.Desk.{Shown, TellsNames}
 use Rattle.plan_desk.specs.Contents.{Says}
 use Rattle.plan_desk.specs.FileWrites.{after_writes}
@@ -58,12 +57,11 @@ rebound_other limits slack met other i c j d out a ci cd =
     (Rebinds limits inst out) (Rebinds limits inst out) b cd (λ x e rebinds. rebinds))
 
 pub rebound_stays : (limits : Limits) (source : Source) (cert_name out : List ℕ) (old mid new : Shown)
-    → old.faults ≤ mid.faults
     → Stays (λ at. AnswersRebound limits (reading old at) source.slack source.instance cert_name out) mid new
-rebound_stays limits source cert_name out old mid new first goes a =
+rebound_stays limits source cert_name out old mid new goes a =
     rebound_other limits source.slack (reading old mid) (reading old new) source.instance cert_name source.instance
-    cert_name out a (later_reading source.instance old mid new first goes)
-    (later_reading cert_name old mid new first goes)
+    cert_name out a (later_reading source.instance old mid new goes)
+    (later_reading cert_name old mid new goes)
 
 -- ---- which files are written
 
@@ -234,8 +232,8 @@ module _ (limits : Limits) (source : Source) (cert_name out : List ℕ) (old new
   -- ---- a run
 
   pub rebound_runs : (status : ℕ) → Ends (DueRebound limits source cert_name out old) old new status
-      → old.faults ≤ new.faults → RunsRebound limits source cert_name out old new status
-  rebound_runs status ends later =
+      → RunsRebound limits source cert_name out old new status
+  rebound_runs status ends =
       record {
         ends = ends;
         behind = wrote_behind Answering (BehindRebound limits source cert_name out old new) old new status answer_behind
@@ -253,5 +251,4 @@ module _ (limits : Limits) (source : Source) (cert_name out : List ℕ) (old new
         unopened = unopened_kept (DueRebound limits source cert_name out old) old new
             (due_unopened limits source cert_name out old new) status ends;
         quiet = ends_quiet (DueRebound limits source cert_name out old) old new status ends;
-        later = later;
       }

@@ -167,6 +167,5 @@ pub record RunsRebound (limits : Limits) (source : Source) (cert_name out : List
   -- no file is changed but that of the new certificate, and that only with these statuses
   pub others : KeepsAllBut out old new
   pub unopened : (Opens status → ⊥) → new.output ≡ old.output
-  -- the last fault is what it was, but at 7 and 8, and faults never fall
+  -- no call failed, but at 7 and 8
   pub quiet : IsQuiet status old new
-  pub later : old.faults ≤ new.faults

@@ -6,7 +6,7 @@ ghost use Rattle.branch_tree.specs.Ranges.{IsInRange};
 ghost use Rattle.plan_desk.specs.Contents.{OnlyReads};
 ghost use Rattle.command_frame.specs.Sources.{source_view};
 ghost use Rattle.command_frame.specs.Files.{reading};
-ghost use Rattle.command_frame.specs.Refusals.{KeepsLast, IsDueAs};
+ghost use Rattle.command_frame.specs.Refusals.{CountsRefusal, IsDueAs};
 ghost use Rattle.command_rebound.specs.Rebinding.{AnswersRebound, RunsRebound};
 ghost use Rattle.command_rebound.specs.Made.{AreRead, IsMade, TellsRebound};
 
@@ -67,8 +67,8 @@ fn read_files<D: Desk>(
     ensures err { IfErr result (λ refusal. (out : List ℕ) → IsDueAs
         (AnswersRebound limits.now (reading (D.shows desk.old) (D.shows desk.new)) source.now.slack
         source.now.instance.now certificate.now out) refusal) }
-    ensures last { OnOk result ((D.shows desk.new).last ≡ (D.shows desk.old).last) }
-    ensures kept { IfErr result (KeepsLast (D.shows desk.old) (D.shows desk.new)) }
+    ensures faults { OnOk result ((D.shows desk.new).faults ≡ (D.shows desk.old).faults) }
+    ensures kept { IfErr result (CountsRefusal (D.shows desk.old) (D.shows desk.new)) }
     ensures only_reads { OnlyReads (D.shows desk.old) (D.shows desk.new) }
 {
     let inst = instance_of(alloc, limits, 2, source, desk)?;

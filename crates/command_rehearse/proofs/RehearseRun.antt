@@ -4,6 +4,7 @@ use Rattle.plan_desk.specs.Desk.{Shown}
 use Rattle.plan_desk.specs.Contents.{Says, KeepsFiles}
 use Rattle.command_frame.specs.Lines.{memory_line}
 use Rattle.command_frame.specs.Ending.{Answer, reply, OrMemory, Ends, IsOneOf}
+use Rattle.command_frame.specs.Ending.CountsRead.{none as counts_none}
 use Rattle.command_frame.specs.Ending.OrMemory.{answers, no_memory}
 use Rattle.command_frame.specs.Ending.Ends.{done, unsaid, unwritten}
 use Rattle.command_frame.specs.Refusals.{SaysOrFails}
@@ -41,9 +42,8 @@ module _ (seed count : ℕ) (old new : Shown) where
         allowed = status_is status ends;
         exact = λ calm.
             ends_exact Answers (Rehearses (drawn_tables seed count)) old new status (λ a is. is) calm ends;
-        output = keeps.output;
+        output = keeps;
         quiet = ends_quiet (DueRehearse seed count) old new status ends;
-        later = keeps.later;
       }
 
   -- the summary was said, or saying it failed
@@ -52,7 +52,7 @@ module _ (seed count : ℕ) (old new : Shown) where
       → RunsRehearse seed count old new status
   summary_runs text status keeps is says =
       runs status keeps
-      (command_ends Answers old old new 0 text status (λ goes a due. due) (reads_none old) keeps (λ a. refl) is says)
+      (command_ends Answers old old new 0 text status (λ goes a due. due) (reads_none old) keeps (counts_none refl) is says)
 
   -- memory ran out
   pub memory_runs : (status : ℕ) → KeepsFiles old new → SaysOrFails 11 memory_line old new status

@@ -1,7 +1,7 @@
 -- The command `rehearse`: the summary of an instance that is drawn from a number, and what a run promises.
 --
 -- `old` and `new` are what the desk shows before and after a run.
-use Rattle.std.specs.Prelude.{◌≡◌, ℕ, ◌≤◌, List, [], ◌∷◌, ◌++◌, codes}
+use Rattle.std.specs.Prelude.{◌≡◌, ℕ, List, [], ◌∷◌, ◌++◌, codes}
 use Rattle.std.specs.Fmt.{signed_decimal}
 use Rattle.plan_desk.specs.Desk.{Shown}
 use Rattle.plan_desk.specs.Contents.{Says}
@@ -80,6 +80,5 @@ pub record RunsRehearse (seed count : ℕ) (old new : Shown) (status : ℕ) : Ty
   pub exact : NoFault old new → IsAnswered (Rehearses (drawn_tables seed count)) old new status
   -- no file is changed
   pub output : new.output ≡ old.output
-  -- the last fault is what it was, but at 8, and faults never fall
+  -- no call failed, but at 8
   pub quiet : IsQuiet status old new
-  pub later : old.faults ≤ new.faults

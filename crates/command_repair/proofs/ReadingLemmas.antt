@@ -23,7 +23,7 @@ read_cause_due source name files turns old new r (inl cause) =
 read_cause_due source name files turns old new r (inr plan) =
     refuses_plan standard_limits source name old plan.at new plan.inst (λ i p. Repairs standard_limits i p files
     turns) r
-    plan.reads (is_read source.instance old plan.at plan.read plan.later) plan.cause
+    plan.reads (is_read source.instance old plan.at plan.read plan.same) plan.cause
 
 pub both_read : (limits : Limits) (source : Source) (name : List ℕ) (old mid : Shown) (inst : Tables)
     (plan : List (Option ℕ))

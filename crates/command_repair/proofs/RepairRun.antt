@@ -1,5 +1,5 @@
 -- What a run of `repair` promises follows from its end.
-use Rattle.std.proofs.Common.{◌≡◌, ◌≢◌, ◌⊎◌, inl, inr, ℕ, ◌≤◌, refl, sym, ◌∙◌, ap, subst, arith, List, [], ◌∷◌}
+use Rattle.std.proofs.Common.{◌≡◌, ◌≢◌, ◌⊎◌, inl, inr, ℕ, refl, sym, ◌∙◌, ap, subst, arith, List, [], ◌∷◌}
 use Rattle.std.proofs.Common.{map, Option, Some, None}
 use Rattle.std.proofs.lemmas.List.Elements.{All-nil, All-cons}
 use Rattle.plan_desk.specs.Desk.{Shown, TellsNames}
@@ -22,17 +22,17 @@ use Rattle.command_frame.specs.Bytes.RefusesPlan.{long_plan, faulty_plan}
 use Rattle.command_frame.specs.Files.{Meeting, reading, by_bytes, OnPlan, ReadsInstance}
 use Rattle.command_frame.specs.Files.OnFile.{unread, refused, stands}
 use Rattle.command_frame.specs.declared.refusal.Refusal.{Refusal}
-use Rattle.command_frame.specs.Refusals.{KeepsLast, IsDueAs, SaysRefused}
+use Rattle.command_frame.specs.Refusals.{CountsRefusal, IsDueAs, SaysRefused}
 use Rattle.command_frame.proofs.ReadLemmas.{after_instance}
 use Rattle.command_frame.proofs.FileLemmas.{Carries, on_other, later_reading, exact_reading, OrUnread}
 use Rattle.command_frame.proofs.FileLemmas.{missing_file, then_next, then_more, say_refusal}
 use Rattle.command_frame.proofs.AnswerLemmas.{instance_status, plan_status}
 use Rattle.command_frame.proofs.TakenLemmas.{on_taken, bad_instance, on_spelled, bad_plan}
 use Rattle.command_frame.proofs.EndLemmas.{Stays, memory_ends, refusal_ends, ends_quiet, ends_allowed, ends_exact}
-use Rattle.command_frame.proofs.WriteLemmas.{told_ends, told_later, wrote_behind}
+use Rattle.command_frame.proofs.WriteLemmas.{told_ends, wrote_behind}
 use Rattle.command_frame.specs.Outputs.{holding, OpensSearched}
-use Rattle.command_frame.proofs.HoldLemmas.{IsNoneOf, named_output, named_after, others_after, held_after}
-use Rattle.command_frame.proofs.HoldLemmas.{held_alike, others_stopped}
+use Rattle.command_frame.proofs.HoldLemmas.{IsNoneOf, named_output, named_after, others_after, held_after, held_alike}
+use Rattle.command_frame.proofs.HoldLemmas.{others_stopped}
 use Rattle.command_frame.proofs.OutputLemmas.{same_holding}
 use Rattle.command_answers.specs.Audit.{AreKeptStarts, BoundsEveryRepair, audited_report, AnswersAudit}
 use Rattle.descent_ends.specs.Turns.{AreEnough}
@@ -71,11 +71,10 @@ repair_other limits slack met other i p j q files turns a ci cp =
 
 pub repair_stays : (limits : Limits) (source : Source) (name : List ℕ) (files : RepairFiles) (turns : ℕ)
     (old mid new : Shown)
-    → old.faults ≤ mid.faults
     → Stays (λ at. AnswersRepair limits (reading old at) source.slack source.instance name files turns) mid new
-repair_stays limits source name files turns old mid new first goes a =
+repair_stays limits source name files turns old mid new goes a =
     repair_other limits source.slack (reading old mid) (reading old new) source.instance name source.instance name files
-    turns a (later_reading source.instance old mid new first goes) (later_reading name old mid new first goes)
+    turns a (later_reading source.instance old mid new goes) (later_reading name old mid new goes)
 
 -- ---- what the files hold
 
@@ -426,9 +425,9 @@ module _ (limits : Limits) (source : Source) (name : List ℕ) (files : RepairFi
 
   -- ---- a run
 
-  pub repair_runs : (status : ℕ) → Ends Due old new status → old.faults ≤ new.faults
+  pub repair_runs : (status : ℕ) → Ends Due old new status
       → RunsRepair limits source name files turns old new status
-  repair_runs status ends later =
+  repair_runs status ends =
       record {
         ends = ends;
         behind = wrote_behind
@@ -447,7 +446,6 @@ module _ (limits : Limits) (source : Source) (name : List ℕ) (files : RepairFi
         unopened = repair_unopened status ends;
         no_out = repair_no_out status ends;
         quiet = ends_quiet Due old new status ends;
-        later = later;
       }
 
 -- ---- the end of a run
@@ -458,12 +456,12 @@ module _ (source : Source) (name : List ℕ) (files : RepairFiles) (turns : ℕ)
   Answers at = AnswersRepair standard_limits (reading old at) source.slack source.instance name files turns
 
   stays : (at : Shown) → Stays Answers mid at
-  stays at = repair_stays standard_limits source name files turns old mid at reads.later
+  stays at = repair_stays standard_limits source name files turns old mid at
 
   -- the files were read, and their solution was told, or memory ran out
   pub solution_ends : (inst : Tables) (plan : List (Option ℕ)) (status : ℕ) → AreRead standard_limits source name old
       inst plan
-      → mid.last ≡ old.last → TellsSolution inst plan files turns mid new status
+      → mid.faults ≡ old.faults → TellsSolution inst plan files turns mid new status
       → Ends (DueRepair standard_limits source name files turns old) old new status
   solution_ends inst plan status read last (told a repairs tells) =
       told_ends Answers old mid a reads last
@@ -473,15 +471,8 @@ module _ (source : Source) (name : List ℕ) (files : RepairFiles) (turns : ℕ)
   solution_ends inst plan status read last (no_memory_left keeps says) =
       memory_ends Answers old mid new status reads keeps last says
 
-  pub solution_later : (inst : Tables) (plan : List (Option ℕ)) (status : ℕ)
-      → TellsSolution inst plan files turns mid new status
-      → old.faults ≤ new.faults
-  solution_later inst plan status (told a repairs tells) =
-      let later = told_later a mid new status tells in omega (arith, reads.later)
-  solution_later inst plan status (no_memory_left keeps says) = omega (arith, reads.later, keeps.later)
-
   -- a file was refused
-  pub refused_ends : (refusal : Refusal) (status : ℕ) → KeepsFiles mid new → KeepsLast old mid refusal
+  pub refused_ends : (refusal : Refusal) (status : ℕ) → KeepsFiles mid new → CountsRefusal old mid refusal
       → IsDueAs (Answers mid) refusal → SaysRefused refusal mid new status
       → Ends (DueRepair standard_limits source name files turns old) old new status
   refused_ends refusal status keeps kept due says =

@@ -88,7 +88,7 @@ pub record IsPlanRefused (limits : Limits) (source : Source) (name : List ℕ) (
   pub reads : ReadsInstance limits source old inst
   pub at : Shown
   pub read : ShowsSame at (after_take_in source.instance [] old)
-  pub later : old.faults ≤ at.faults
+  pub same : at.faults ≡ old.faults
   pub cause : IsPlanCause limits 3 name inst at new refusal
 
 -- why they were not

@@ -2,7 +2,7 @@
 --
 -- `old` and `new` are what the desk shows before and after a run. Values, worths and bounds are 10^18 for each change
 -- from the plan that was read, and worths are by the list of zeros.
-use Rattle.std.specs.Prelude.{◌≡◌, ◌≢◌, ◌⊎◌, ℕ, ◌≤◌, ℤ, List, [], ◌∷◌, ◌++◌, length, map, Option, Some, None, codes}
+use Rattle.std.specs.Prelude.{◌≡◌, ◌≢◌, ◌⊎◌, ℕ, ℤ, List, [], ◌∷◌, ◌++◌, length, map, Option, Some, None, codes}
 use Rattle.plan_desk.specs.Desk.{Shown}
 use Rattle.plan_desk.specs.Contents.{TellsSuch, HoldsBytes, Says}
 use Rattle.instance_model.specs.declared.limits.Limits.{Limits}
@@ -251,6 +251,5 @@ pub record RunsRepair (limits : Limits) (source : Source) (plan_name : List ℕ)
   pub others : KeepsOthers files old new
   pub unopened : (OpensSearched status → ⊥) → new.output ≡ old.output
   pub no_out : (status ≡ 9) ⊎ (status ≡ 10) → holding new files.out ≡ holding old files.out
-  -- the last fault is what it was, but at 7 and 8, and faults never fall
+  -- no call failed, but at 7 and 8
   pub quiet : IsQuiet status old new
-  pub later : old.faults ≤ new.faults

@@ -5,8 +5,8 @@ ghost use Rattle.instance_model.specs.Limits.{standard_limits};
 ghost use Rattle.instance_shape.specs.Ranges.{AreStandard};
 ghost use Rattle.plan_desk.specs.Contents.{OnlyReads};
 ghost use Rattle.command_frame.specs.Sources.{source_view};
-ghost use Rattle.command_frame.specs.Refusals.{KeepsLast};
 ghost use Rattle.command_frame.specs.Writing.{IsWritablePlan, PutsFiles, TellsAnswer};
+ghost use Rattle.command_frame.specs.Refusals.{CountsRefusal};
 ghost use Rattle.command_repair.specs.Repairing.{AreDistinct, RunsRepair};
 ghost use Rattle.command_repair.specs.Made.{AreRead, IsReadCause, out_writes, solution_writes, answer_of};
 ghost use Rattle.command_repair.specs.Made.{IsWritable, files_view, TellsSolution};
@@ -76,8 +76,8 @@ fn read_files<D: Desk>(
         AreRead limits.now (source_view source.now) plan.now (D.shows desk.old) files.inst files.plan) }
     ensures err { IfErr result
         (IsReadCause limits.now (source_view source.now) plan.now (D.shows desk.old) (D.shows desk.new)) }
-    ensures last { OnOk result ((D.shows desk.new).last ≡ (D.shows desk.old).last) }
-    ensures kept { IfErr result (KeepsLast (D.shows desk.old) (D.shows desk.new)) }
+    ensures faults { OnOk result ((D.shows desk.new).faults ≡ (D.shows desk.old).faults) }
+    ensures kept { IfErr result (CountsRefusal (D.shows desk.old) (D.shows desk.new)) }
     ensures only_reads { OnlyReads (D.shows desk.old) (D.shows desk.new) }
 {
     let inst = instance_of(alloc, limits, 2, source, desk)?;

@@ -28,7 +28,8 @@ use Rattle.command_frame.specs.declared.opening.Opening.TheVariants.{Broken}
 use Rattle.command_replay.specs.Opened.{AreRead}
 use Rattle.command_frame.specs.Refusals.{SaysOrFails, SaysAnswer}
 use Rattle.command_frame.proofs.OpeningLemmas.{own_opening, broken_opening}
-use Rattle.command_frame.proofs.SayLemmas.{rose_before, says_before, or_more, some_first}
+use Rattle.plan_desk.proofs.Composed.{fails_since}
+use Rattle.command_frame.proofs.SayLemmas.{says_before, or_more, some_first}
 
 -- ---- the lists along a script
 
@@ -90,8 +91,7 @@ memory_not_failed r e f = let h : Err fault.Memory ≡ Err fault.Failed = sym e 
 -- the keys were said, and nothing failed
 pub record KeysSaid (text : List ℕ) (old mid : Shown) : Type 0 where
   pub says : Says text old mid
-  pub later : old.faults ≤ mid.faults
-  pub same : mid.last ≡ old.last
+  pub same : mid.faults ≡ old.faults
 
 pub ended_answer : (inst : Tables) (opening : List ℕ) (script : List ScriptLine) (old mid new : Shown) (n status : ℕ)
     → AreAllowedStarts inst opening → KeysSaid (replay_text inst opening script) old mid
@@ -103,7 +103,7 @@ ended_answer inst opening script old mid new n status allowed keys done count sa
       replay_text inst opening script ++ end_line (length script),
       ended opening (own_opening inst opening allowed) done,
       or_more (replay_text inst opening script)
-          (end_line (length script)) old mid new 0 status keys.says keys.later keys.same
+          (end_line (length script)) old mid new 0 status keys.says keys.same
           (subst (λ (m : ℕ). SaysOrFails 0 (end_line m) mid new status) count says),
     )
 
@@ -118,7 +118,7 @@ not_allowed_answer inst opening script old mid new n status allowed keys fails s
       replay_text inst opening script ++ not_allowed_line n,
       not_allowed opening n (own_opening inst opening allowed) fails,
       or_more (replay_text inst opening script)
-          (not_allowed_line n) old mid new 6 status keys.says keys.later keys.same says,
+          (not_allowed_line n) old mid new 6 status keys.says keys.same says,
     )
 
 pub nothing_to_undo_answer : (inst : Tables) (opening : List ℕ) (script : List ScriptLine)
@@ -132,7 +132,7 @@ nothing_to_undo_answer inst opening script old mid new n status allowed keys fai
       replay_text inst opening script ++ nothing_to_undo_line n,
       nothing_to_undo opening n (own_opening inst opening allowed) fails,
       or_more (replay_text inst opening script)
-          (nothing_to_undo_line n) old mid new 6 status keys.says keys.later keys.same says,
+          (nothing_to_undo_line n) old mid new 6 status keys.says keys.same says,
     )
 
 -- saying the keys failed
@@ -153,24 +153,21 @@ failed_answer inst opening script old new allowed (n, within, shows) fails =
 
 -- memory ran out before anything was said
 pub memory_answer : (Due : Answer → Type 0) (old mid new : Shown) (status : ℕ) → ShowsSame mid old
-    → old.faults ≤ mid.faults → mid.last ≡ old.last
+    → mid.faults ≡ old.faults
     → SaysOrFails 11 memory_line mid new status → SaysAnswer Due old new status
-memory_answer Due old mid new status shows later same (inl all) =
+memory_answer Due old mid new status shows same (inl all) =
     inr (inl (record {
       status_is = all.status_is;
       says = says_before old mid new memory_line shows.said all.says;
       same = all.same ∙ same;
     }))
-memory_answer Due old mid new status shows later same (inr some) =
+memory_answer Due old mid new status shows same (inr some) =
     inr (inr (record {
       status_is = some.status_is;
       part = some.part;
       within = some.within;
       says = says_before old mid new (take some.part memory_line) shows.said some.says;
-      fails = record {
-        rose = rose_before old.faults mid.faults new.faults later some.fails.rose;
-        own = some.fails.own;
-      };
+      fails = fails_since old mid new same some.fails;
     }))
 
 -- ---- what is due for the files that were read

@@ -1,5 +1,5 @@
 -- What a run of `replay` promises follows from its end.
-use Rattle.std.proofs.Common.{◌≡◌, ℕ, ◌≤◌, ◌⊎◌, inl, inr, List, Option, Some, None, refl, sym, subst}
+use Rattle.std.proofs.Common.{◌≡◌, ℕ, ◌⊎◌, inl, inr, List, Option, Some, None, refl, sym, subst}
 use Rattle.std.specs.Prelude.{IsSome}
 use Rattle.plan_desk.specs.Desk.{Shown}
 use Rattle.plan_desk.specs.Contents.{Says, KeepsFiles}
@@ -60,13 +60,12 @@ replay_other limits slack met other i p s j q t a ci cp cs =
     (Replays inst x) c cs (λ y d replays. replays)))
 
 pub replay_stays : (limits : Limits) (source : Source) (name script_name : List ℕ) (old mid new : Shown)
-    → old.faults ≤ mid.faults
     → Stays (λ at. AnswersReplay limits (reading old at) source.slack source.instance name script_name) mid new
-replay_stays limits source name script_name old mid new first goes a =
+replay_stays limits source name script_name old mid new goes a =
     replay_other limits source.slack (reading old mid)
     (reading old new) source.instance name script_name source.instance name script_name a
-    (later_reading source.instance old mid new first goes) (later_reading name old mid new first goes)
-    (later_reading script_name old mid new first goes)
+    (later_reading source.instance old mid new goes) (later_reading name old mid new goes)
+    (later_reading script_name old mid new goes)
 
 -- ---- what stands behind the status
 
@@ -272,7 +271,6 @@ replay_runs limits source name script_name old new status ends keeps =
           (exact_reading name plan old new tells_plan calm)
           (exact_reading script_name script old new tells_script calm)) calm ends;
       one = replayed_files_once limits;
-      output = keeps.output;
+      output = keeps;
       quiet = ends_quiet (DueReplay limits source name script_name old) old new status ends;
-      later = keeps.later;
     }

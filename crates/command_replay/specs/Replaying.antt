@@ -1,7 +1,7 @@
 -- The command `replay`: the answer to an instance, a plan and a script, and what a run promises.
 --
 -- `old` and `new` are what the desk shows before and after a run.
-use Rattle.std.specs.Prelude.{◌≡◌, ℕ, ◌≤◌, List, ◌++◌, length, Option, Some, IsSome}
+use Rattle.std.specs.Prelude.{◌≡◌, ℕ, List, ◌++◌, length, Option, Some, IsSome}
 use Rattle.plan_desk.specs.Desk.{Shown}
 use Rattle.plan_desk.specs.Contents.{TellsSuch, Says}
 use Rattle.plan_moves.specs.declared.script_line.ScriptLine.{ScriptLine}
@@ -170,6 +170,5 @@ pub record RunsReplay (limits : Limits) (source : Source) (name script_name : Li
       → IsOneAnswer (AnswersReplay limits by_bytes slack instance plan script)
   -- no file is changed
   pub output : new.output ≡ old.output
-  -- the last fault is what it was, but at 7 and 8, and faults never fall
+  -- no call failed, but at 7 and 8
   pub quiet : IsQuiet status old new
-  pub later : old.faults ≤ new.faults

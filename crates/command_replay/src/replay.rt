@@ -8,7 +8,7 @@ ghost use Rattle.plan_desk.specs.Contents.{OnlyReads, KeepsFiles};
 ghost use Rattle.command_frame.specs.Sources.{source_view};
 ghost use Rattle.command_frame.specs.Files.{reading};
 ghost use Rattle.command_replay.specs.Replaying.{Replays, AnswersReplay, RunsReplay};
-ghost use Rattle.command_frame.specs.Refusals.{KeepsLast, IsDueAs, SaysAnswer};
+ghost use Rattle.command_frame.specs.Refusals.{CountsRefusal, IsDueAs, SaysAnswer};
 ghost use Rattle.command_replay.specs.Opened.{AreRead};
 
 use command_frame::{
@@ -65,8 +65,8 @@ fn read_files<D: Desk>(
         files.script) }
     ensures err { IfErr result (IsDueAs (AnswersReplay limits.now (reading (D.shows desk.old) (D.shows desk.new))
         source.now.slack source.now.instance.now plan.now script.now)) }
-    ensures last { OnOk result ((D.shows desk.new).last ≡ (D.shows desk.old).last) }
-    ensures kept { IfErr result (KeepsLast (D.shows desk.old) (D.shows desk.new)) }
+    ensures faults { OnOk result ((D.shows desk.new).faults ≡ (D.shows desk.old).faults) }
+    ensures kept { IfErr result (CountsRefusal (D.shows desk.old) (D.shows desk.new)) }
     ensures only_reads { OnlyReads (D.shows desk.old) (D.shows desk.new) }
 {
     let inst = instance_of(alloc, limits, 2, source, desk)?;

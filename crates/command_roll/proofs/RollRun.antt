@@ -20,17 +20,16 @@ use Rattle.command_frame.specs.Bytes.RefusesPlan.{long_plan, faulty_plan}
 use Rattle.command_frame.specs.Files.{Meeting, reading, by_bytes, OnPlan, ReadsInstance, ReadsPlan}
 use Rattle.command_frame.specs.Files.OnFile.{unread, refused, stands}
 use Rattle.command_frame.specs.declared.refusal.Refusal.{Refusal}
-use Rattle.command_frame.specs.Refusals.{KeepsLast, IsDueAs, SaysRefused}
+use Rattle.command_frame.specs.Refusals.{CountsRefusal, IsDueAs, SaysRefused}
 use Rattle.command_frame.specs.Writing.{TellsAnswer}
 use Rattle.command_frame.proofs.FileLemmas.{Carries, on_other, later_reading, exact_reading, OrUnread, missing_file}
 use Rattle.command_frame.proofs.FileLemmas.{then_next, then_more, say_refusal}
 use Rattle.command_frame.proofs.AnswerLemmas.{instance_status, plan_status}
 use Rattle.command_frame.proofs.TakenLemmas.{on_taken, bad_instance, on_spelled, bad_plan}
 use Rattle.command_frame.proofs.EndLemmas.{Stays, refusal_ends, ends_quiet, ends_allowed, ends_exact}
-use Rattle.command_frame.proofs.WriteLemmas.{told_ends, told_later, wrote_behind}
+use Rattle.command_frame.proofs.WriteLemmas.{told_ends, wrote_behind}
 use Rattle.command_frame.specs.Outputs.{Opens}
-use Rattle.command_frame.proofs.OutputLemmas.{WritesOnly, writes_none, writes_one, others_kept, unopened_kept}
-use Rattle.command_frame.proofs.OutputLemmas.{one_held}
+use Rattle.command_frame.proofs.OutputLemmas.{WritesOnly, writes_none, writes_one, others_kept, unopened_kept, one_held}
 use Rattle.command_roll.specs.Rolling.{RollFiles, source_of, out_write, Rolls, AnswersRoll, DueRoll, IsReadAsRolled}
 use Rattle.command_roll.specs.Rolling.{BehindRoll, ExpectsRoll, RunsRoll}
 use Rattle.command_roll.specs.Rolling.Rolls.{broken, too_long, written}
@@ -56,11 +55,11 @@ roll_other limits met other i p j q period files a ci cp =
     (λ inst b. on_other met other 3 p q (RefusesPlan limits inst) (Spells limits inst)
     (λ x. Rolls limits inst x period files) (λ x. Rolls limits inst x period files) b cp (λ x c rolls. rolls))
 
-pub roll_stays : (limits : Limits) (files : RollFiles) (period : ℕ) (old mid new : Shown) → old.faults ≤ mid.faults
+pub roll_stays : (limits : Limits) (files : RollFiles) (period : ℕ) (old mid new : Shown)
     → Stays (λ at. AnswersRoll limits (reading old at) files.instance files.plan period files) mid new
-roll_stays limits files period old mid new first goes a =
+roll_stays limits files period old mid new goes a =
     roll_other limits (reading old mid) (reading old new) files.instance files.plan files.instance files.plan period
-    files a (later_reading files.instance old mid new first goes) (later_reading files.plan old mid new first goes)
+    files a (later_reading files.instance old mid new goes) (later_reading files.plan old mid new goes)
 
 -- ---- which file an answer writes
 
@@ -267,9 +266,9 @@ module _ (text_law : RolledTextIsRead) (plans_law : PlansRoll) (limits : Limits)
 
   -- ---- a run
 
-  pub roll_runs : (status : ℕ) → Ends Due old new status → old.faults ≤ new.faults
+  pub roll_runs : (status : ℕ) → Ends Due old new status
       → RunsRoll limits files period old new status
-  roll_runs status ends later = record {
+  roll_runs status ends = record {
     ends = ends;
     behind = wrote_behind Answers (BehindRoll limits files period old new) old new status roll_behind ends;
     allowed = λ expected expects. ends_allowed Answers old new status expected (roll_expects expected expects) ends;
@@ -282,7 +281,6 @@ module _ (text_law : RolledTextIsRead) (plans_law : PlansRoll) (limits : Limits)
     others = others_kept Due old new files.out (due_only limits files period old) status ends;
     unopened = unopened_kept Due old new (unopened_due limits files period old new) status ends;
     quiet = ends_quiet Due old new status ends;
-    later = later;
   }
 
 -- ---- the end of a run
@@ -292,18 +290,15 @@ module _ (limits : Limits) (files : RollFiles) (period : ℕ) (old mid new : Sho
   AnswersAt at = AnswersRoll limits (reading old at) files.instance files.plan period files
 
   stays : (at : Shown) → Stays AnswersAt mid at
-  stays at = roll_stays limits files period old mid at reads.later
+  stays at = roll_stays limits files period old mid at
 
   -- both files were read, and what is due was told
-  pub rolled_ends : (a : Answer) (status : ℕ) → AnswersAt mid a → mid.last ≡ old.last → TellsAnswer a mid new status
+  pub rolled_ends : (a : Answer) (status : ℕ) → AnswersAt mid a → mid.faults ≡ old.faults → TellsAnswer a mid new status
       → Ends (DueRoll limits files period old) old new status
   rolled_ends a status due last tells = told_ends AnswersAt old mid a reads last due new status stays tells
 
-  pub rolled_later : (a : Answer) (status : ℕ) → TellsAnswer a mid new status → old.faults ≤ new.faults
-  rolled_later a status tells = let later = told_later a mid new status tells in omega (arith, reads.later)
-
   -- a file was refused
-  pub refused_ends : (refusal : Refusal) (status : ℕ) → KeepsFiles mid new → KeepsLast old mid refusal
+  pub refused_ends : (refusal : Refusal) (status : ℕ) → KeepsFiles mid new → CountsRefusal old mid refusal
       → IsDueAs (AnswersAt mid) refusal → SaysRefused refusal mid new status
       → Ends (DueRoll limits files period old) old new status
   refused_ends refusal status keeps kept due says =

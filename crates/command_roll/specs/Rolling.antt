@@ -168,6 +168,5 @@ pub record RunsRoll (limits : Limits) (files : RollFiles) (period : ℕ) (old ne
   -- no file is changed but the one that is written, and that one with these statuses alone
   pub others : KeepsAllBut files.out old new
   pub unopened : (Opens status → ⊥) → new.output ≡ old.output
-  -- the last fault is what it was, but at 7 and 8, and faults never fall
+  -- no call failed, but at 7 and 8
   pub quiet : IsQuiet status old new
-  pub later : old.faults ≤ new.faults

@@ -4,7 +4,7 @@ ghost use Rattle.instance_shape.specs.Ranges.{AreStandard};
 ghost use Rattle.plan_desk.specs.Contents.{OnlyReads};
 ghost use Rattle.plan_roll.specs.Texts.{rolled_text as text_of};
 ghost use Rattle.command_frame.specs.Files.{reading};
-ghost use Rattle.command_frame.specs.Refusals.{KeepsLast, IsDueAs};
+ghost use Rattle.command_frame.specs.Refusals.{CountsRefusal, IsDueAs};
 ghost use Rattle.command_frame.specs.Writing.{PutsFile, TellsAnswer};
 ghost use Rattle.command_roll.specs.Rolling.{RollFiles as RollNames, Rolls, AnswersRoll, RunsRoll};
 ghost use Rattle.command_roll.specs.Made.{files_view, rolled_answer, answer_of};
@@ -89,8 +89,8 @@ fn roll<D: Desk>(
     ensures each { IfOk result (λ r. length r.plan ≡ length r.inst.names) }
     ensures err { IfErr result (IsDueAs (AnswersRoll limits.now (reading (D.shows desk.old) (D.shows desk.new))
         files.now.instance.now files.now.plan.now period (files_view files.now))) }
-    ensures last { OnOk result ((D.shows desk.new).last ≡ (D.shows desk.old).last) }
-    ensures kept { IfErr result (KeepsLast (D.shows desk.old) (D.shows desk.new)) }
+    ensures faults { OnOk result ((D.shows desk.new).faults ≡ (D.shows desk.old).faults) }
+    ensures kept { IfErr result (CountsRefusal (D.shows desk.old) (D.shows desk.new)) }
     ensures only_reads { OnlyReads (D.shows desk.old) (D.shows desk.new) }
 {
     let source = Source {

@@ -1,5 +1,5 @@
 -- What a run of `solve` promises follows from its end.
-use Rattle.std.proofs.Common.{◌≡◌, ◌≢◌, ◌⊎◌, inl, inr, ℕ, ◌≤◌, refl, sym, ◌∙◌, ap, subst, arith, List, [], ◌∷◌}
+use Rattle.std.proofs.Common.{◌≡◌, ◌≢◌, ◌⊎◌, inl, inr, ℕ, refl, sym, ◌∙◌, ap, subst, arith, List, [], ◌∷◌}
 use Rattle.std.proofs.Common.{map, Option, Some, None}
 use Rattle.std.proofs.lemmas.List.{length-map}
 use Rattle.std.proofs.lemmas.List.Elements.{All-nil, All-cons}
@@ -25,17 +25,17 @@ use Rattle.command_frame.specs.Files.{Meeting, reading, by_bytes}
 use Rattle.command_frame.specs.Files.{ReadsInstance}
 use Rattle.command_frame.specs.Files.OnFile.{unread, refused, stands}
 use Rattle.command_frame.specs.declared.refusal.Refusal.{Refusal}
-use Rattle.command_frame.specs.Refusals.{KeepsLast, IsInstanceCause, SaysRefused}
+use Rattle.command_frame.specs.Refusals.{CountsRefusal, IsInstanceCause, SaysRefused}
 use Rattle.command_frame.proofs.ReadLemmas.{refuses_instance, after_instance}
 use Rattle.command_frame.proofs.FileLemmas.{Carries, on_other, later_reading, exact_reading, OrUnread}
 use Rattle.command_frame.proofs.FileLemmas.{missing_file, then_next, say_refusal}
 use Rattle.command_frame.proofs.AnswerLemmas.{instance_status}
 use Rattle.command_frame.proofs.TakenLemmas.{on_taken, bad_instance}
 use Rattle.command_frame.proofs.EndLemmas.{Stays, memory_ends, refusal_ends, ends_quiet, ends_allowed, ends_exact}
-use Rattle.command_frame.proofs.WriteLemmas.{told_ends, told_later, wrote_behind}
+use Rattle.command_frame.proofs.WriteLemmas.{told_ends, wrote_behind}
 use Rattle.command_frame.specs.Outputs.{holding, OpensSearched}
-use Rattle.command_frame.proofs.HoldLemmas.{IsNoneOf, named_output, named_after, others_after, held_after}
-use Rattle.command_frame.proofs.HoldLemmas.{held_alike, others_stopped}
+use Rattle.command_frame.proofs.HoldLemmas.{IsNoneOf, named_output, named_after, others_after, held_after, held_alike}
+use Rattle.command_frame.proofs.HoldLemmas.{others_stopped}
 use Rattle.command_frame.proofs.OutputLemmas.{same_holding}
 use Rattle.command_answers.specs.Check.{IsKeptPlan, BoundsEveryPlan, AnswersCheck}
 use Rattle.command_answers.specs.Accepting.{IsCheckable}
@@ -64,11 +64,10 @@ solve_other limits slack met other i j files turns a carries =
     (λ inst. Solves limits inst files turns) a carries (λ inst b solves. solves)
 
 pub solve_stays : (limits : Limits) (source : Source) (files : SolveFiles) (turns : ℕ) (old mid new : Shown)
-    → old.faults ≤ mid.faults
     → Stays (λ at. AnswersSolve limits (reading old at) source.slack source.instance files turns) mid new
-solve_stays limits source files turns old mid new first goes a =
+solve_stays limits source files turns old mid new goes a =
     solve_other limits source.slack (reading old mid) (reading old new) source.instance source.instance files turns a
-    (later_reading source.instance old mid new first goes)
+    (later_reading source.instance old mid new goes)
 
 -- ---- what the files hold
 
@@ -401,9 +400,9 @@ module _ (limits : Limits) (source : Source) (files : SolveFiles) (turns : ℕ) 
 
   -- ---- a run
 
-  pub solve_runs : (status : ℕ) → Ends Due old new status → old.faults ≤ new.faults
+  pub solve_runs : (status : ℕ) → Ends Due old new status
       → RunsSolve limits source files turns old new status
-  solve_runs status ends later =
+  solve_runs status ends =
       record {
         ends = ends;
         behind = wrote_behind
@@ -421,7 +420,6 @@ module _ (limits : Limits) (source : Source) (files : SolveFiles) (turns : ℕ) 
         unopened = solve_unopened status ends;
         no_plan_file = solve_no_plan status ends;
         quiet = ends_quiet Due old new status ends;
-        later = later;
       }
 
 -- ---- the end of a run
@@ -431,11 +429,11 @@ module _ (source : Source) (files : SolveFiles) (turns : ℕ) (old mid new : Sho
   Answers at = AnswersSolve standard_limits (reading old at) source.slack source.instance files turns
 
   stays : (at : Shown) → Stays Answers mid at
-  stays at = solve_stays standard_limits source files turns old mid at reads.later
+  stays at = solve_stays standard_limits source files turns old mid at
 
   -- the instance was read, and its solution was told, or memory ran out
   pub solution_ends : (inst : Tables) (status : ℕ) → ReadsInstance standard_limits source old inst
-      → mid.last ≡ old.last → TellsSolution inst files turns mid new status
+      → mid.faults ≡ old.faults → TellsSolution inst files turns mid new status
       → Ends (DueSolve standard_limits source files turns old) old new status
   solution_ends inst status read last (told a solves tells) =
       told_ends Answers old mid a reads last
@@ -444,14 +442,8 @@ module _ (source : Source) (files : SolveFiles) (turns : ℕ) (old mid new : Sho
   solution_ends inst status read last (no_memory_left keeps says) =
       memory_ends Answers old mid new status reads keeps last says
 
-  pub solution_later : (inst : Tables) (status : ℕ) → TellsSolution inst files turns mid new status
-      → old.faults ≤ new.faults
-  solution_later inst status (told a solves tells) =
-      let later = told_later a mid new status tells in omega (arith, reads.later)
-  solution_later inst status (no_memory_left keeps says) = omega (arith, reads.later, keeps.later)
-
   -- the instance was refused
-  pub refused_ends : (refusal : Refusal) (status : ℕ) → KeepsFiles mid new → KeepsLast old mid refusal
+  pub refused_ends : (refusal : Refusal) (status : ℕ) → KeepsFiles mid new → CountsRefusal old mid refusal
       → IsInstanceCause standard_limits 2 source.instance old mid refusal → SaysRefused refusal mid new status
       → Ends (DueSolve standard_limits source files turns old) old new status
   refused_ends refusal status keeps kept cause says =

@@ -1,8 +1,8 @@
 -- The command `solve`: the answers to an instance, what stands behind each, and what a run promises.
 --
 -- `old` and `new` are what the desk shows before and after a run. Worths, scores and bounds are in parts of 10^-18.
-use Rattle.std.specs.Prelude.{◌≡◌, ◌≢◌, ◌⊎◌, ℕ, ◌≤◌, ℤ, ◌-ℤ◌, ◌<ℤ◌, List, [], ◌∷◌, ◌++◌, length, map}
-use Rattle.std.specs.Prelude.{Option, Some, None, codes}
+use Rattle.std.specs.Prelude.{◌≡◌, ◌≢◌, ◌⊎◌, ℕ, ℤ, ◌-ℤ◌, ◌<ℤ◌, List, [], ◌∷◌, ◌++◌, length, map, Option, Some, None}
+use Rattle.std.specs.Prelude.{codes}
 use Rattle.plan_desk.specs.Desk.{Shown}
 use Rattle.plan_desk.specs.Contents.{TellsSuch, HoldsBytes, Says}
 use Rattle.instance_model.specs.declared.limits.Limits.{Limits}
@@ -266,6 +266,5 @@ pub record RunsSolve (limits : Limits) (source : Source) (files : SolveFiles) (t
   pub others : KeepsOthers files old new
   pub unopened : (OpensSearched status → ⊥) → new.output ≡ old.output
   pub no_plan_file : (status ≡ 9) ⊎ (status ≡ 10) → holding new files.plan ≡ holding old files.plan
-  -- the last fault is what it was, but at 7 and 8, and faults never fall
+  -- no call failed, but at 7 and 8
   pub quiet : IsQuiet status old new
-  pub later : old.faults ≤ new.faults

@@ -1,5 +1,5 @@
 -- What a run of `table` promises follows from its end.
-use Rattle.std.proofs.Common.{ℕ, ◌≤◌, inl, inr, List, Option, refl, sym, subst}
+use Rattle.std.proofs.Common.{ℕ, inl, inr, List, Option, refl, sym, subst}
 use Rattle.std.specs.Prelude.{IsSome}
 use Rattle.plan_desk.specs.Desk.{Shown}
 use Rattle.plan_desk.specs.Contents.{Says, KeepsFiles}
@@ -45,11 +45,10 @@ table_other limits slack from to met other i p j q a ci cp =
     (λ x. Tabulates inst x from to) b cp (λ x c is. is))
 
 pub table_stays : (limits : Limits) (source : Source) (name : List ℕ) (from to : ℕ) (old mid new : Shown)
-    → old.faults ≤ mid.faults
     → Stays (λ at. AnswersTable limits (reading old at) source.slack source.instance name from to) mid new
-table_stays limits source name from to old mid new first goes a =
+table_stays limits source name from to old mid new goes a =
     table_other limits source.slack from to (reading old mid) (reading old new) source.instance name source.instance
-    name a (later_reading source.instance old mid new first goes) (later_reading name old mid new first goes)
+    name a (later_reading source.instance old mid new goes) (later_reading name old mid new goes)
 
 -- ---- what stands behind the status
 
@@ -164,7 +163,6 @@ table_runs limits source name from to old new status ends keeps =
           (exact_reading source.instance instance old new tells calm)
           (exact_reading name plan old new tells_plan calm)) calm ends;
       one = table_once limits from to;
-      output = keeps.output;
+      output = keeps;
       quiet = ends_quiet (DueTable limits source name from to old) old new status ends;
-      later = keeps.later;
     }

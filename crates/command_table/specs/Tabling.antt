@@ -160,6 +160,5 @@ pub record RunsTable (limits : Limits) (source : Source) (name : List ℕ) (from
       → IsOneAnswer (AnswersTable limits by_bytes slack instance plan from to)
   -- no file is changed
   pub output : new.output ≡ old.output
-  -- the last fault is what it was, but at 7 and 8, and faults never fall
+  -- no call failed, but at 7 and 8
   pub quiet : IsQuiet status old new
-  pub later : old.faults ≤ new.faults

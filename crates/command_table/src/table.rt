@@ -11,7 +11,7 @@ ghost use Rattle.command_frame.specs.Sources.{source_view};
 ghost use Rattle.command_frame.specs.Files.{reading};
 ghost use Rattle.command_frame.specs.Lines.{end_line};
 ghost use Rattle.command_frame.specs.Reports.{rounded_line};
-ghost use Rattle.command_frame.specs.Refusals.{KeepsLast, IsDueAs, SaysAnswer, SaysOrFails};
+ghost use Rattle.command_frame.specs.Refusals.{CountsRefusal, IsDueAs, SaysAnswer, SaysOrFails};
 ghost use Rattle.command_table.specs.Tabling.{reports_of, table_text, Tabulates, AnswersTable, RunsTable};
 ghost use Rattle.command_table.specs.Read.{AreRead};
 
@@ -68,8 +68,8 @@ fn read_files<D: Desk>(
     ensures err { IfErr result (λ refusal. (from to : ℕ)
         → IsDueAs (AnswersTable limits.now (reading (D.shows desk.old) (D.shows desk.new))
         source.now.slack source.now.instance.now plan.now from to) refusal) }
-    ensures last { OnOk result ((D.shows desk.new).last ≡ (D.shows desk.old).last) }
-    ensures kept { IfErr result (KeepsLast (D.shows desk.old) (D.shows desk.new)) }
+    ensures faults { OnOk result ((D.shows desk.new).faults ≡ (D.shows desk.old).faults) }
+    ensures kept { IfErr result (CountsRefusal (D.shows desk.old) (D.shows desk.new)) }
     ensures only_reads { OnlyReads (D.shows desk.old) (D.shows desk.new) }
 {
     let inst = instance_of(alloc, limits, 2, source, desk)?;

@@ -1,11 +1,12 @@
 -- What was read of a file that was taken in.
-use Rattle.std.proofs.Common.{◌≡◌, ℕ, ◌≤◌, inl, inr, List, [], Option, Some, None, option_map, refl, sym, ◌∙◌, ap}
-use Rattle.std.proofs.Common.{subst, arith}
+use Rattle.std.proofs.Common.{◌≡◌, ℕ, inr, List, [], Option, Some, None, option_map, refl, sym, ◌∙◌, ap}
+use Rattle.std.proofs.Common.{subst}
 use Rattle.std.specs.Prelude.{IfSome, IsSomeAnd, Result, Ok, Err}
 use Rattle.plan_desk.specs.Desk.{Shown, Input, Fault, ShowsSame, after_take_in, all_read, file_taken}
 use Rattle.plan_desk.specs.Contents.{HoldsBytes}
-use Rattle.plan_desk.specs.Faults.{Rose, IsFaultOf, IsReadFaultOf}
+use Rattle.plan_desk.specs.Faults.{IsFaultOf, IsReadFaultOf}
 use Rattle.plan_desk.specs.declared.call.DeskCall.TheVariants.{Read}
+use Rattle.plan_desk.proofs.Composed.{fails_since}
 use Rattle.instance_read.specs.Fed.{HasRest}
 use Rattle.instance_read.specs.Reading.{ReadsFile, CountsStreamFault}
 use Rattle.instance_read.specs.declared.fault.StreamFault.{StreamFault}
@@ -55,10 +56,6 @@ all_of_taken name held old mid new t e = record {
 
 -- ---- faults
 
-still_rose : (a b c : ℕ) → a ≤ b → Rose b c → Rose a c
-still_rose a b c h (inl l) = inl (omega arith)
-still_rose a b c h (inr e) = inr e
-
 own_fault : (name : List ℕ) (of_file : Option (List ℕ)) (fault : Fault)
     → option_map (λ _. name) of_file ≡ Some fault.name → fault.name ≡ name
 own_fault name None fault e = cc
@@ -72,11 +69,11 @@ own_read name held old mid (Some fault) t h =
     (inr h.0, own_fault name old.input.name fault (sym (ap (λ (i : Input). i.name) t.shows.input) ∙ h.1))
 
 pub counts_read : {T : Type 0} (name held : List ℕ) (old mid new : Shown) (r : Result T StreamFault)
-    → IsTaken name held old mid → old.faults ≤ mid.faults → mid.last ≡ old.last
+    → IsTaken name held old mid → mid.faults ≡ old.faults
     → CountsStreamFault mid new (IsFaultOf Read mid.input.name) r → CountsStreamFault old new (IsReadFaultOf name) r
-counts_read name held old mid new (Err stream.Failed) t later same h =
-    (still_rose old.faults mid.faults new.faults later h.0, own_read name held old mid new.last t h.1)
-counts_read name held old mid new (Err stream.TooLong) t later same h = h ∙ same
-counts_read name held old mid new (Err (stream.Text fault)) t later same h = h ∙ same
-counts_read name held old mid new (Err stream.Memory) t later same h = h ∙ same
-counts_read name held old mid new (Ok x) t later same h = h ∙ same
+counts_read name held old mid new (Err stream.Failed) t same h =
+    fails_since old mid new same (record { one = h.one; own = own_read name held old mid new.faults.last t h.own })
+counts_read name held old mid new (Err stream.TooLong) t same h = h ∙ same
+counts_read name held old mid new (Err (stream.Text fault)) t same h = h ∙ same
+counts_read name held old mid new (Err stream.Memory) t same h = h ∙ same
+counts_read name held old mid new (Ok x) t same h = h ∙ same

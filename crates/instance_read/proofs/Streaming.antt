@@ -78,7 +78,7 @@ pub not_too_long : (fault : InstanceFault) (x : StreamFault) → IsOfBytes fault
 not_too_long fault x h e = subst (IsOfBytes fault) e h
 
 pub counts_told : (T : Type 0) (fault : InstanceFault) (x : StreamFault) (old new : Shown) (Own : Fault → Type 0)
-    → IsOfBytes fault x → new.last ≡ old.last → CountsStreamFault {T = T} old new Own (Err x)
+    → IsOfBytes fault x → new.faults ≡ old.faults → CountsStreamFault {T = T} old new Own (Err x)
 counts_told T fault (stream.Text told) old new Own h e = e
 counts_told T fault stream.Memory old new Own h e = e
 counts_told T fault stream.Failed old new Own h e = absurd h

@@ -1,7 +1,7 @@
 -- What a reading of an instance answers.
 use Rattle.std.specs.Prelude.{◌≡◌, ◌⊎◌, ℕ, ◌+◌, ◌^◌, ◌<◌, ◌≤◌, List, [], drop, length, Result, Ok, Err, IfSome}
 use Rattle.plan_desk.specs.Desk.{Shown, Fault, ShowsSame, after_take_in, after_failed_take_in}
-use Rattle.plan_desk.specs.Faults.{Rose}
+use Rattle.plan_desk.specs.Faults.{FailsOnce}
 use Rattle.plan_desk.specs.Contents.{WhereToldHolds, HoldsBytes}
 use Rattle.instance_model.specs.declared.limits.Limits.{Limits}
 use Rattle.instance_shape.specs.FileFaults.{HasFileFault}
@@ -47,10 +47,10 @@ StopsAt name limit old new fault = ((fault ≡ stream.Failed) × ShowsSame new (
     × (IsCountAt limit fault count
     × (HoldsBytes old name bytes × ShowsSame new (after_take_in name (drop count bytes) old)))))
 
--- `Failed` comes only where faults rose, and the last fault, where told, is then such a one; no other answer changes it
+-- `Failed` comes only of one call that failed, and the last fault, where told, is such a one; no other answer of any
 abbrev pub CountsStreamFault : {T : Type 0} → (old new : Shown) (Own : Fault → Type 0) → Result T StreamFault → Type 0
-CountsStreamFault old new Own (Err stream.Failed) = Rose old.faults new.faults × IfSome new.last Own
-CountsStreamFault old new Own (Err stream.TooLong) = new.last ≡ old.last
-CountsStreamFault old new Own (Err (stream.Text fault)) = new.last ≡ old.last
-CountsStreamFault old new Own (Err stream.Memory) = new.last ≡ old.last
-CountsStreamFault old new Own (Ok x) = new.last ≡ old.last
+CountsStreamFault old new Own (Err stream.Failed) = FailsOnce Own old new
+CountsStreamFault old new Own (Err stream.TooLong) = new.faults ≡ old.faults
+CountsStreamFault old new Own (Err (stream.Text fault)) = new.faults ≡ old.faults
+CountsStreamFault old new Own (Err stream.Memory) = new.faults ≡ old.faults
+CountsStreamFault old new Own (Ok x) = new.faults ≡ old.faults

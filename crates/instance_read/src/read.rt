@@ -102,8 +102,7 @@ pub fn read_instance_from<D: Desk>(
     // no more than the limit was read, unless the file is too long
     ensures stops { IfErr result (StopsAt name.now limits.now.instance_bytes (D.shows desk.old) (D.shows desk.new)) }
 
-    // `Failed` comes only where faults rose.
-    ensures later { (D.shows desk.old).faults ≤ (D.shows desk.new).faults }
+    // `Failed` comes only of one call that failed, and no other answer of any.
     ensures faults { CountsStreamFault (D.shows desk.old) (D.shows desk.new) (IsReadFaultOf name.now) result }
 {
     desk.take_in(name)?;

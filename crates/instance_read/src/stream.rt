@@ -36,7 +36,6 @@ fn feed_rest<D: Desk>(desk: &mut D, reader: &mut Reader, limit: u64) -> Result<(
     ensures end { OnOk result (ShowsSame (D.shows desk.new) (all_read (D.shows desk.old))) }
     ensures some_read { (n : ℕ) × MatchResult result (λ _. n ≤ limit) (λ fault. IsCountAt limit fault n)
         × ShowsSame (D.shows desk.new) (after_read n (D.shows desk.old)) }
-    ensures later { (D.shows desk.old).faults ≤ (D.shows desk.new).faults }
     ensures faults { CountsReadFault (D.shows desk.old) (D.shows desk.new)
         (IsFaultOf DeskCall.Read (D.shows desk.old).input.name) result }
 {
@@ -81,7 +80,6 @@ pub fn read_rest<D: Desk>(
         → ShowsSame (D.shows desk.new) (all_read (D.shows desk.old)) }
     ensures some_read { (n : ℕ) × MatchResult result (λ _. n ≤ limit) (λ fault. IsStreamCountAt limit fault n)
         × ShowsSame (D.shows desk.new) (after_read n (D.shows desk.old)) }
-    ensures later { (D.shows desk.old).faults ≤ (D.shows desk.new).faults }
     ensures faults { CountsStreamFault (D.shows desk.old) (D.shows desk.new)
         (IsFaultOf DeskCall.Read (D.shows desk.old).input.name) result }
 {

@@ -56,7 +56,7 @@ module _ (text : List ℕ) (p q : Progress) where
       (record {
         ok = tt;
         err = puts.err;
-        faults = record { later = puts.faults.later; rose = puts.faults.rose; own = puts.faults.own; same = tt };
+        faults = record { same = tt; fails = puts.faults.fails };
       }))
 
 -- the rest was written after a text was taken
@@ -74,7 +74,7 @@ ends_as {T = T} false true text a p new (Err e) good kept takes ends =
     (record {
       ok = tt;
       err = puts.err;
-      faults = record { later = puts.faults.later; rose = puts.faults.rose; own = puts.faults.own; same = tt };
+      faults = record { same = tt; fails = puts.faults.fails };
     }))
 
 pub whole_written : {T : Type 0} (text : List ℕ) (a p : Progress) (new : Shown) (r : Result T Failed)

@@ -1,7 +1,7 @@
 //! A script is replayed from an opening plan.
 ghost use Rattle.std.specs.Prelude.{◌≡◌, ◌≢◌, ◌+◌, ◌<◌, ◌≤◌, ◌&&◌, ℕ, [], ◌∷◌, length, slice_index, All, Some, None};
-ghost use Rattle.std.specs.Prelude.{IfSome, IfOk, IfErr, Err, OnOk, OnErr, IsErrOf};
-ghost use Rattle.plan_desk.specs.Faults.{Rose, IsFaultOf};
+ghost use Rattle.std.specs.Prelude.{IfOk, IfErr, Err, OnOk, OnErr, IsErrOf};
+ghost use Rattle.plan_desk.specs.Faults.{FailsOnce, IsFaultOf};
 ghost use Rattle.plan_desk.specs.declared.call.DeskCall.{DeskCall};
 ghost use Rattle.instance_model.specs.Tables.{is_allowed};
 ghost use Rattle.instance_model.specs.Plans.{AreAllowedStarts};
@@ -38,10 +38,9 @@ pub fn replay<R: Row, D: Desk>(
     ensures nothing_to_undo { (n : ℕ) → result ≡ Err (ReplayFault.NothingToUndo n)
         → FailsByUndo inst.now starts.now script.now n }
     ensures said { SaysKeys result (replay_text inst.now starts.now script.now) (D.shows desk.old) (D.shows desk.new) }
-    ensures later { (D.shows desk.old).faults ≤ (D.shows desk.new).faults }
-    ensures failed { IsErrOf result ReplayFault.Failed → Rose (D.shows desk.old).faults (D.shows desk.new).faults
-        × IfSome (D.shows desk.new).last (IsFaultOf DeskCall.Say (Some [])) }
-    ensures same { (result ≢ Err ReplayFault.Failed) → (D.shows desk.new).last ≡ (D.shows desk.old).last }
+    ensures failed { IsErrOf result ReplayFault.Failed
+        → FailsOnce (IsFaultOf DeskCall.Say (Some [])) (D.shows desk.old) (D.shows desk.new) }
+    ensures same { (result ≢ Err ReplayFault.Failed) → (D.shows desk.new).faults ≡ (D.shows desk.old).faults }
 {
     let lines = script.as_slice();
     let mut kept = kept_for::<R>(alloc, inst, starts, lines.len())?;
@@ -83,10 +82,9 @@ fn replay_lines<R: Row, L: Ledger, D: Desk>(
         → FailsByUndo kept.old.instance (present kept.old.plans) script.now n }
     ensures said { SaysKeys result (replay_text kept.old.instance (present kept.old.plans) script.now)
         (D.shows desk.old) (D.shows desk.new) }
-    ensures later { (D.shows desk.old).faults ≤ (D.shows desk.new).faults }
-    ensures failed { IsErrOf result ReplayFault.Failed → Rose (D.shows desk.old).faults (D.shows desk.new).faults
-        × IfSome (D.shows desk.new).last (IsFaultOf DeskCall.Say (Some [])) }
-    ensures same { (result ≢ Err ReplayFault.Failed) → (D.shows desk.new).last ≡ (D.shows desk.old).last }
+    ensures failed { IsErrOf result ReplayFault.Failed
+        → FailsOnce (IsFaultOf DeskCall.Say (Some [])) (D.shows desk.old) (D.shows desk.new) }
+    ensures same { (result ≢ Err ReplayFault.Failed) → (D.shows desk.new).faults ≡ (D.shows desk.old).faults }
 {
     let mut steps = Steps::<L>::zero(blank);
     say_key(desk, 0, kept.key())?;

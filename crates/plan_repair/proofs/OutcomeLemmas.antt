@@ -6,9 +6,10 @@ use Rattle.instance_model.specs.Limits.{standard_limits}
 use Rattle.command_frame.specs.Sources.{Source}
 use Rattle.command_frame.specs.Lines.{words_line}
 use Rattle.command_frame.specs.Ending.{Answer, reply, Ends}
+use Rattle.command_frame.specs.Ending.CountsRead.{none as counts_none}
 use Rattle.command_frame.specs.Ending.Ends.{done, unsaid, unwritten}
 use Rattle.command_frame.specs.Refusals.{SaysOrFails}
-use Rattle.command_frame.proofs.EndLemmas.{reads_none, said_ends, ends_quiet, unsaid_fails, nothing_unwritten}
+use Rattle.command_frame.proofs.EndLemmas.{reads_none, said_ends, ends_quiet, nothing_unwritten}
 use Rattle.command_audit.specs.Auditing.{RunsAudit}
 use Rattle.command_repair.specs.Repairing.{RepairFiles, RunsRepair}
 use Rattle.plan_repair.specs.Words.{Command, audit, repair, command_of}
@@ -27,7 +28,7 @@ refusal_behind old new status (done n d) =
 
     said : (a : Answer) → a ≡ reply 2 words_line → Says a.text old new → Says words_line old new
     said a is says = subst (λ (x : Answer). Says x.text old new) is says
-refusal_behind old new status (unsaid u) = behind_unsaid (unsaid_fails DueRefusal old new u) u
+refusal_behind old new status (unsaid u) = behind_unsaid u
 refusal_behind old new status (unwritten u) =
     absurd (nothing_unwritten DueRefusal old new (λ at a is. ap (λ (x : Answer). x.writes) is) u)
 
@@ -35,13 +36,12 @@ refuses : (old new : Shown) (status : ℕ) → KeepsFiles old new → SaysOrFail
     → RefusesWords old new status
 refuses old new status keeps says =
     let ends : Ends DueRefusal old new status = said_ends DueRefusal old old new 2 words_line status (λ goes due. due)
-    (reads_none old) keeps (λ a. refl) refl says in
+    (reads_none old) keeps (counts_none refl) refl says in
     record {
       ends = ends;
       behind = refusal_behind old new status ends;
-      output = keeps.output;
+      output = keeps;
       quiet = ends_quiet DueRefusal old new status ends;
-      later = keeps.later;
     }
 
 -- ---- one command
@@ -70,7 +70,6 @@ outcome_refused words old new status none keeps says =
       audits = λ source plan cert asks. absurd (apart words (audit source plan cert) none asks);
       repairs = λ source plan files turns asks. absurd (apart words (repair source plan files turns) none asks);
       quiet = run.quiet;
-      later = run.later;
     }
 
 pub outcome_audit : (words : List (List ℕ)) (source : Source) (name cert_name : List ℕ) (old new : Shown) (status : ℕ)
@@ -85,7 +84,6 @@ outcome_audit words source name cert_name old new status asked run =
       audits = λ source plan cert asks. one (audit source plan cert) asks;
       repairs = λ source plan files turns asks. one (repair source plan files turns) asks;
       quiet = run.quiet;
-      later = run.later;
     }
 
 pub outcome_repair : (words : List (List ℕ)) (source : Source) (name : List ℕ) (files : RepairFiles) (turns : ℕ)
@@ -100,5 +98,4 @@ outcome_repair words source name files turns old new status asked run =
       audits = λ source plan cert asks. one (audit source plan cert) asks;
       repairs = λ source plan files turns asks. one (repair source plan files turns) asks;
       quiet = run.quiet;
-      later = run.later;
     }

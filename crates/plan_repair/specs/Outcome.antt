@@ -1,13 +1,13 @@
 -- What a run of the words promises: that of the command that they ask for, or that they are refused.
 --
 -- `old` and `new` are what the desk shows before and after a run.
-use Rattle.std.specs.Prelude.{◌≡◌, ℕ, ◌≤◌, List, Option, Some, None}
+use Rattle.std.specs.Prelude.{◌≡◌, ℕ, List, Option, Some, None}
 use Rattle.plan_desk.specs.Desk.{Shown}
 use Rattle.plan_desk.specs.Contents.{Says}
 use Rattle.instance_model.specs.Limits.{standard_limits}
 use Rattle.command_frame.specs.Sources.{Source}
 use Rattle.command_frame.specs.Lines.{words_line}
-use Rattle.command_frame.specs.Ending.{Answer, reply, IsQuiet, SayFails, IsUnsaid, Ends}
+use Rattle.command_frame.specs.Ending.{Answer, reply, IsQuiet, IsUnsaid, Ends}
 use Rattle.command_audit.specs.Auditing.{RunsAudit}
 use Rattle.command_repair.specs.Repairing.{RepairFiles, RunsRepair}
 use Rattle.plan_repair.specs.Words.{Command, audit, repair, command_of}
@@ -23,7 +23,7 @@ DueRefusal at a = a ≡ reply 2 words_line
 -- what stands behind each status of such words
 pub data BehindRefusal (old new : Shown) : ℕ → Type 0 where
   refused : Says words_line old new → BehindRefusal old new 2
-  unsaid : SayFails old new → IsUnsaid DueRefusal old new → BehindRefusal old new 8
+  unsaid : IsUnsaid DueRefusal old new → BehindRefusal old new 8
 
 -- what a run of such words promises
 pub record RefusesWords (old new : Shown) (status : ℕ) : Type 0 where
@@ -31,9 +31,8 @@ pub record RefusesWords (old new : Shown) (status : ℕ) : Type 0 where
   pub behind : BehindRefusal old new status
   -- no file is changed
   pub output : new.output ≡ old.output
-  -- the last fault is what it was, but at 7 and 8, and faults never fall
+  -- no call failed, but at 7 and 8
   pub quiet : IsQuiet status old new
-  pub later : old.faults ≤ new.faults
 
 -- what a run of any words promises
 pub record Outcome (words : List (List ℕ)) (old new : Shown) (status : ℕ) : Type 0 where
@@ -43,6 +42,5 @@ pub record Outcome (words : List (List ℕ)) (old new : Shown) (status : ℕ) : 
   pub repairs : (source : Source) (plan : List ℕ) (files : RepairFiles) (turns : ℕ)
       → Asks words (repair source plan files turns)
       → RunsRepair standard_limits source plan files turns old new status
-  -- the last fault is what it was, but at 7 and 8, and faults never fall
+  -- no call failed, but at 7 and 8
   pub quiet : IsQuiet status old new
-  pub later : old.faults ≤ new.faults

@@ -7,6 +7,7 @@ use Rattle.planner_cli.specs.Words.{Command, evaluate, replay, check, solve, tab
 use Rattle.planner_cli.specs.Words.{command_of}
 use Rattle.command_frame.specs.Lines.{words_line}
 use Rattle.command_frame.specs.Ending.{Answer, reply, Ends}
+use Rattle.command_frame.specs.Ending.CountsRead.{none as counts_none}
 use Rattle.command_frame.specs.Ending.Ends.{done, unsaid, unwritten}
 use Rattle.planner_cli.specs.Outcome.{Asks, AskToRebound, AskToRoll, DueRefusal, BehindRefusal, RefusesWords, Outcome}
 use Rattle.planner_cli.specs.Outcome.BehindRefusal.{refused as behind_refused, unsaid as behind_unsaid}
@@ -14,7 +15,7 @@ use Rattle.command_frame.specs.Refusals.{SaysOrFails}
 use Rattle.command_frame.specs.Sources.{Source}
 use Rattle.command_rebound.specs.Rebinding.{RunsRebound}
 use Rattle.command_roll.specs.Rolling.{RollFiles, RunsRoll}
-use Rattle.command_frame.proofs.EndLemmas.{reads_none, said_ends, ends_quiet, unsaid_fails, nothing_unwritten}
+use Rattle.command_frame.proofs.EndLemmas.{reads_none, said_ends, ends_quiet, nothing_unwritten}
 
 -- ---- words that are refused
 
@@ -28,7 +29,7 @@ refusal_behind old new status (done n d) =
 
     said : (a : Answer) → a ≡ reply 2 words_line → Says a.text old new → Says words_line old new
     said a is says = subst (λ (x : Answer). Says x.text old new) is says
-refusal_behind old new status (unsaid u) = behind_unsaid (unsaid_fails DueRefusal old new u) u
+refusal_behind old new status (unsaid u) = behind_unsaid u
 refusal_behind old new status (unwritten u) =
     absurd (nothing_unwritten DueRefusal old new (λ at a is. ap (λ (x : Answer). x.writes) is) u)
 
@@ -36,13 +37,12 @@ refuses : (old new : Shown) (status : ℕ) → KeepsFiles old new → SaysOrFail
     → RefusesWords old new status
 refuses old new status keeps says =
     let ends : Ends DueRefusal old new status = said_ends DueRefusal old old new 2 words_line status (λ goes due. due)
-    (reads_none old) keeps (λ a. refl) refl says in
+    (reads_none old) keeps (counts_none refl) refl says in
     record {
       ends = ends;
       behind = refusal_behind old new status ends;
-      output = keeps.output;
+      output = keeps;
       quiet = ends_quiet DueRefusal old new status ends;
-      later = keeps.later;
     }
 
 -- ---- one command
@@ -68,7 +68,6 @@ outcome_refused words old new status none keeps says =
       rolls = λ files period asks. absurd (apart words (roll files period) none asks);
       rehearses = λ seed count asks. absurd (apart words (rehearse seed count) none asks);
       quiet = run.quiet;
-      later = run.later;
     }
 
 -- words ask for one command at most
@@ -91,7 +90,6 @@ outcome_rebounds words old new status (source, (cert, (out, asks))) run =
       rolls = λ f p a. absurd (other words (rebound source cert out) (roll f p) asks a (λ e. cc));
       rehearses = λ s n a. absurd (other words (rebound source cert out) (rehearse s n) asks a (λ e. cc));
       quiet = (run source cert out asks).quiet;
-      later = (run source cert out asks).later;
     }
 
 pub outcome_rolls : (words : List (List ℕ)) (old new : Shown) (status : ℕ) → AskToRoll words
@@ -110,5 +108,4 @@ outcome_rolls words old new status (files, (period, asks)) run =
       rolls = run;
       rehearses = λ s n a. absurd (other words (roll files period) (rehearse s n) asks a (λ e. cc));
       quiet = (run files period asks).quiet;
-      later = (run files period asks).later;
     }

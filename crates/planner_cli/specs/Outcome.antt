@@ -1,7 +1,7 @@
 -- What a run of the words promises: that of the command that they ask for, or that they are refused.
 --
 -- `old` and `new` are what the desk shows before and after a run.
-use Rattle.std.specs.Prelude.{◌≡◌, ℕ, ◌≤◌, List, Option, Some, None}
+use Rattle.std.specs.Prelude.{◌≡◌, ℕ, List, Option, Some, None}
 use Rattle.plan_desk.specs.Desk.{Shown}
 use Rattle.plan_desk.specs.Contents.{Says}
 use Rattle.instance_model.specs.Limits.{standard_limits}
@@ -9,7 +9,7 @@ use Rattle.command_frame.specs.Sources.{Source}
 use Rattle.planner_cli.specs.Words.{Command, evaluate, replay, check, solve, table, rebound, roll, rehearse}
 use Rattle.planner_cli.specs.Words.{command_of}
 use Rattle.command_frame.specs.Lines.{words_line}
-use Rattle.command_frame.specs.Ending.{Answer, reply, IsQuiet, SayFails, IsUnsaid, Ends}
+use Rattle.command_frame.specs.Ending.{Answer, reply, IsQuiet, IsUnsaid, Ends}
 use Rattle.command_evaluate.specs.Evaluating.{RunsEvaluate}
 use Rattle.command_replay.specs.Replaying.{RunsReplay}
 use Rattle.command_check.specs.Checking.{RunsCheck}
@@ -37,7 +37,7 @@ DueRefusal at a = a ≡ reply 2 words_line
 -- what stands behind each status of such words
 pub data BehindRefusal (old new : Shown) : ℕ → Type 0 where
   refused : Says words_line old new → BehindRefusal old new 2
-  unsaid : SayFails old new → IsUnsaid DueRefusal old new → BehindRefusal old new 8
+  unsaid : IsUnsaid DueRefusal old new → BehindRefusal old new 8
 
 -- what a run of such words promises
 pub record RefusesWords (old new : Shown) (status : ℕ) : Type 0 where
@@ -45,9 +45,8 @@ pub record RefusesWords (old new : Shown) (status : ℕ) : Type 0 where
   pub behind : BehindRefusal old new status
   -- no file is changed
   pub output : new.output ≡ old.output
-  -- the last fault is what it was, but at 7 and 8, and faults never fall
+  -- no call failed, but at 7 and 8
   pub quiet : IsQuiet status old new
-  pub later : old.faults ≤ new.faults
 
 -- what a run of any words promises
 pub record Outcome (words : List (List ℕ)) (old new : Shown) (status : ℕ) : Type 0 where
@@ -67,6 +66,5 @@ pub record Outcome (words : List (List ℕ)) (old new : Shown) (status : ℕ) : 
   pub rolls : (files : RollFiles) (period : ℕ) → Asks words (roll files period)
       → RunsRoll standard_limits files period old new status
   pub rehearses : (seed count : ℕ) → Asks words (rehearse seed count) → RunsRehearse seed count old new status
-  -- the last fault is what it was, but at 7 and 8, and faults never fall
+  -- no call failed, but at 7 and 8
   pub quiet : IsQuiet status old new
-  pub later : old.faults ≤ new.faults

@@ -29,7 +29,7 @@ returns-in_err-plan-clause-err g c =
     (refuses_plan c.args.limits.now (source_view c.args.source.now)
     c.args.plan.now old mid new c.in_ok-inst.inst
     (λ i. OnAudited c.args.limits.now c.args.certificate.now old new i) _ c.in_ok-inst.ensures.ok
-    (is_read c.args.source.now.instance.now old mid c.in_ok-inst.ensures.read c.in_ok-inst.ensures.only_reads.later)
+    (is_read c.args.source.now.instance.now old mid c.in_ok-inst.ensures.read c.in_ok-inst.ensures.faults)
     c.in_err-plan.ensures.err)
 
 pub returns-in_err-certificate-clause-err : goal.returns-in_err-certificate-clause-err
@@ -43,9 +43,9 @@ returns-in_err-certificate-clause-err g c =
     (audit_refuses_certificate c.args.limits.now (source_view c.args.source.now)
     c.args.plan.now c.args.certificate.now old mid last
     (g.D.Desk.shows c.certificate_of.new.desk) c.in_ok-inst.inst c.in_ok-plan.plan _ c.in_ok-inst.ensures.ok
-    (is_read c.args.source.now.instance.now old mid c.in_ok-inst.ensures.read c.in_ok-inst.ensures.only_reads.later)
+    (is_read c.args.source.now.instance.now old mid c.in_ok-inst.ensures.read c.in_ok-inst.ensures.faults)
     c.in_ok-plan.ensures.ok
-    (is_read c.args.plan.now mid last c.in_ok-plan.ensures.read c.in_ok-plan.ensures.only_reads.later)
+    (is_read c.args.plan.now mid last c.in_ok-plan.ensures.read c.in_ok-plan.ensures.faults)
     c.in_err-certificate.ensures.err)
 
 pub returns-in_err-plan-clause-kept : goal.returns-in_err-plan-clause-kept
@@ -53,7 +53,7 @@ returns-in_err-plan-clause-kept g c =
     let p = err_from_is_err_and c.from_residual-in_err-plan.result c.from_residual-in_err-plan.ensures.1 in
     rw (p.1, p.2)
     (kept_before (g.D.Desk.shows c.args.desk.now) (g.D.Desk.shows c.instance_of.new.desk)
-    (g.D.Desk.shows c.plan_of.new.desk) _ c.in_ok-inst.ensures.last c.in_err-plan.ensures.kept)
+    (g.D.Desk.shows c.plan_of.new.desk) _ c.in_ok-inst.ensures.faults c.in_err-plan.ensures.kept)
 
 pub returns-in_err-certificate-clause-kept : goal.returns-in_err-certificate-clause-kept
 returns-in_err-certificate-clause-kept g c =
@@ -61,7 +61,7 @@ returns-in_err-certificate-clause-kept g c =
     c.from_residual-in_err-certificate.ensures.1 in
     rw (p.1, p.2)
     (kept_before (g.D.Desk.shows c.args.desk.now) (g.D.Desk.shows c.plan_of.new.desk)
-    (g.D.Desk.shows c.certificate_of.new.desk) _ (c.in_ok-plan.ensures.last ∙ c.in_ok-inst.ensures.last)
+    (g.D.Desk.shows c.certificate_of.new.desk) _ (c.in_ok-plan.ensures.faults ∙ c.in_ok-inst.ensures.faults)
     c.in_err-certificate.ensures.kept)
 
 pub returns-in-Ok-clause-ok : goal.returns-in-Ok-clause-ok
@@ -73,7 +73,7 @@ returns-in-Ok-clause-ok g c =
     c.args.plan.now c.args.certificate.now old mid last
     (g.D.Desk.shows c.certificate_of.new.desk) c.in_ok-inst.inst c.in_ok-plan.plan c.in_ok-certificate.certificate
     (reply c.in-Ok.report.status c.in-Ok.report.text) c.in_ok-inst.ensures.ok
-    (is_read c.args.source.now.instance.now old mid c.in_ok-inst.ensures.read c.in_ok-inst.ensures.only_reads.later)
+    (is_read c.args.source.now.instance.now old mid c.in_ok-inst.ensures.read c.in_ok-inst.ensures.faults)
     c.in_ok-plan.ensures.ok
-    (is_read c.args.plan.now mid last c.in_ok-plan.ensures.read c.in_ok-plan.ensures.only_reads.later)
+    (is_read c.args.plan.now mid last c.in_ok-plan.ensures.read c.in_ok-plan.ensures.faults)
     c.in_ok-certificate.ensures.ok c.in-Ok.ensures

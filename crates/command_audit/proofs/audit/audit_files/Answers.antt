@@ -23,6 +23,6 @@ returns g c =
     (report_ends (λ at. AnswersAudit limits
     (reading old at) source.slack source.instance c.args.plan.now c.args.certificate.now) old mid new
     c.audit-report.result c.say_report.result
-    (audit_stays limits source c.args.plan.now c.args.certificate.now old mid new e.only_reads.later)
-    e.only_reads c.say_report.ensures.keeps e.last e.kept e.ok e.err c.say_report.ensures.ends)
+    (audit_stays limits source c.args.plan.now c.args.certificate.now old mid new)
+    e.only_reads c.say_report.ensures.keeps e.faults e.kept e.ok e.err c.say_report.ensures.ends)
     (reads_keep old mid new e.only_reads c.say_report.ensures.keeps))

@@ -26,6 +26,6 @@ returns g c =
     (reading old at) source.slack source.instance plan c.args.certificate.now) old mid new
     c.check_certificate-report.result
     c.say_report.result
-    (check_stays limits source plan c.args.certificate.now old mid new e.only_reads.later) e.only_reads
-    c.say_report.ensures.keeps e.last e.kept e.ok e.err c.say_report.ensures.ends)
+    (check_stays limits source plan c.args.certificate.now old mid new) e.only_reads
+    c.say_report.ensures.keeps e.faults e.kept e.ok e.err c.say_report.ensures.ends)
     (reads_keep old mid new e.only_reads c.say_report.ensures.keeps))

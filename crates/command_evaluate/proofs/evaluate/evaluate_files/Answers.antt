@@ -21,6 +21,6 @@ returns g c =
     (evaluate_runs limits source c.args.plan.now old new c.say_report.result
     (report_ends (λ at. AnswersEvaluate limits (reading old at) source.slack source.instance c.args.plan.now)
     old mid new c.evaluate-report.result c.say_report.result
-    (evaluate_stays limits source c.args.plan.now old mid new e.only_reads.later) e.only_reads
-    c.say_report.ensures.keeps e.last e.kept e.ok e.err c.say_report.ensures.ends)
+    (evaluate_stays limits source c.args.plan.now old mid new) e.only_reads
+    c.say_report.ensures.keeps e.faults e.kept e.ok e.err c.say_report.ensures.ends)
     (reads_keep old mid new e.only_reads c.say_report.ensures.keeps))

@@ -3,7 +3,7 @@ use Rattle.command_frame.specs.Refusals.IsReadCause.{unread, too_long, no_memory
 use Rattle.command_frame.proofs.reading.bytes_of.Goals as goal
 
 pub returns-in-Err-Failed-clause-err : goal.returns-in-Err-Failed-clause-err
-returns-in-Err-Failed-clause-err g c = unread (record { rose = search rules; own = search rules })
+returns-in-Err-Failed-clause-err g c = unread (search rules)
 
 pub returns-in-Err-TooLong-clause-err : goal.returns-in-Err-TooLong-clause-err
 returns-in-Err-TooLong-clause-err g c = too_long (search rules)

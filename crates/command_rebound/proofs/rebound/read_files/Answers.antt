@@ -26,7 +26,7 @@ returns-in_err-cert-clause-err g c =
     rw (p.1, p.2)
     (λ out. refuses_certificate c.args.limits.now (source_view c.args.source.now) c.args.certificate.now out old mid
     (g.D.Desk.shows c.certificate_of.new.desk) c.in_ok-inst.inst _ c.in_ok-inst.ensures.ok
-    (is_read c.args.source.now.instance.now old mid c.in_ok-inst.ensures.read c.in_ok-inst.ensures.only_reads.later)
+    (is_read c.args.source.now.instance.now old mid c.in_ok-inst.ensures.read c.in_ok-inst.ensures.faults)
     c.in_err-cert.ensures.err)
 
 pub returns-in_err-cert-clause-kept : goal.returns-in_err-cert-clause-kept
@@ -34,7 +34,7 @@ returns-in_err-cert-clause-kept g c =
     let p = err_from_is_err_and c.from_residual-in_err-cert.result c.from_residual-in_err-cert.ensures.1 in
     rw (p.1, p.2)
     (kept_before (g.D.Desk.shows c.args.desk.now) (g.D.Desk.shows c.instance_of.new.desk)
-    (g.D.Desk.shows c.certificate_of.new.desk) _ c.in_ok-inst.ensures.last c.in_err-cert.ensures.kept)
+    (g.D.Desk.shows c.certificate_of.new.desk) _ c.in_ok-inst.ensures.faults c.in_err-cert.ensures.kept)
 
 pub returns-clause-ok : goal.returns-clause-ok
 returns-clause-ok g c =
@@ -42,5 +42,5 @@ returns-clause-ok g c =
     let mid = g.D.Desk.shows c.instance_of.new.desk in
     are_read c.args.limits.now (source_view c.args.source.now) c.args.certificate.now old mid c.in_ok-inst.inst
     c.in_ok-cert.cert c.in_ok-inst.ensures.ok
-    (is_read c.args.source.now.instance.now old mid c.in_ok-inst.ensures.read c.in_ok-inst.ensures.only_reads.later)
+    (is_read c.args.source.now.instance.now old mid c.in_ok-inst.ensures.read c.in_ok-inst.ensures.faults)
     c.in_ok-cert.ensures.ok c.in_ok-cert.ensures.in_range

@@ -1,11 +1,10 @@
 -- A run of `rebound` from what it read, wrote and said.
-use Rattle.std.proofs.Common.{arith}
 use Rattle.command_frame.specs.Sources.{source_view}
 use Rattle.command_frame.specs.Files.{reading}
 use Rattle.command_frame.proofs.EndLemmas.{refusal_ends}
 use Rattle.command_rebound.specs.Rebinding.{AnswersRebound}
 use Rattle.command_rebound.proofs.ReboundRun.{rebound_stays, rebound_runs}
-use Rattle.command_rebound.proofs.MakingLemmas.{read_ends, read_later}
+use Rattle.command_rebound.proofs.MakingLemmas.{read_ends}
 use Rattle.command_rebound.proofs.rebound.rebound_files.Goals as goal
 
 pub returns-in-Ok : goal.returns-in-Ok
@@ -21,9 +20,7 @@ returns-in-Ok g c =
     let files = c.in-Ok.files in
     let status = c.rebound_read.result in
     rebound_runs limits source name out old new (g.met.D.Desk.names c.args.desk.now) status
-    (read_ends limits source name out old mid new read.only_reads files.inst files.cert read.ok status read.last
-    c.rebound_read.ensures)
-    (read_later limits source name out old mid new read.only_reads files.inst files.cert read.ok status
+    (read_ends limits source name out old mid new read.only_reads files.inst files.cert read.ok status read.faults
     c.rebound_read.ensures)
 
 pub returns-in-Err : goal.returns-in-Err
@@ -39,6 +36,5 @@ returns-in-Err g c =
     rebound_runs limits source name out old new (g.met.D.Desk.names c.args.desk.now) c.refuse.result
     (refusal_ends (λ at. AnswersRebound limits (reading old at) source.slack source.instance name out) old mid new
     c.in-Err.refusal c.refuse.result
-    (rebound_stays limits source name out old mid new read.only_reads.later) read.only_reads
+    (rebound_stays limits source name out old mid new) read.only_reads
     c.refuse.ensures.keeps read.kept (read.err out) c.refuse.ensures.ends)
-    (omega (arith, read.only_reads.later, c.refuse.ensures.keeps.later))

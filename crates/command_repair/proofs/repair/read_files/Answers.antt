@@ -21,7 +21,7 @@ returns-in_err-plan-clause-err g c =
       reads = c.in_ok-inst.ensures.ok;
       at = g.D.Desk.shows c.instance_of.new.desk;
       read = c.in_ok-inst.ensures.read;
-      later = c.in_ok-inst.ensures.only_reads.later;
+      same = c.in_ok-inst.ensures.faults;
       cause = c.in_err-plan.ensures.err;
     }))
 
@@ -30,7 +30,7 @@ returns-in_err-plan-clause-kept g c =
     let p = err_from_is_err_and c.from_residual-in_err-plan.result c.from_residual-in_err-plan.ensures.1 in
     rw (p.1, p.2)
     (kept_before (g.D.Desk.shows c.args.desk.now) (g.D.Desk.shows c.instance_of.new.desk)
-    (g.D.Desk.shows c.plan_of.new.desk) _ c.in_ok-inst.ensures.last c.in_err-plan.ensures.kept)
+    (g.D.Desk.shows c.plan_of.new.desk) _ c.in_ok-inst.ensures.faults c.in_err-plan.ensures.kept)
 
 pub returns-clause-ok : goal.returns-clause-ok
 returns-clause-ok g c =
@@ -38,5 +38,5 @@ returns-clause-ok g c =
     let mid = g.D.Desk.shows c.instance_of.new.desk in
     both_read c.args.limits.now (source_view c.args.source.now) c.args.plan.now old mid c.in_ok-inst.inst
     c.in_ok-plan.plan c.in_ok-inst.ensures.ok
-    (is_read c.args.source.now.instance.now old mid c.in_ok-inst.ensures.read c.in_ok-inst.ensures.only_reads.later)
+    (is_read c.args.source.now.instance.now old mid c.in_ok-inst.ensures.read c.in_ok-inst.ensures.faults)
     c.in_ok-plan.ensures.ok

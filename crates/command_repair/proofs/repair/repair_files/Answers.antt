@@ -1,11 +1,11 @@
 -- A run of `repair` from what it read, wrote and said.
-use Rattle.std.proofs.Common.{arith, subst}
+use Rattle.std.proofs.Common.{subst}
 use Rattle.instance_model.specs.declared.limits.Limits.{Limits}
 use Rattle.instance_model.specs.Limits.{standard_limits}
 use Rattle.command_frame.specs.Sources.{source_view}
 use Rattle.command_repair.specs.Made.{files_view, AreRead, IsReadCause}
 use Rattle.command_repair.proofs.ReadingLemmas.{read_cause_due}
-use Rattle.command_repair.proofs.RepairRun.{repair_runs, solution_ends, solution_later, refused_ends}
+use Rattle.command_repair.proofs.RepairRun.{repair_runs, solution_ends, refused_ends}
 use Rattle.command_repair.proofs.repair.repair_files.Goals as goal
 
 pub returns-in-Ok : goal.returns-in-Ok
@@ -22,9 +22,7 @@ returns-in-Ok g c =
     (g.met.D.Desk.names c.args.desk.now) status
     (solution_ends source plan files c.args.turns old mid new read.only_reads c.in-Ok.read.inst c.in-Ok.read.plan status
     (subst (λ (l : Limits). AreRead l source plan old c.in-Ok.read.inst c.in-Ok.read.plan) c.standard-limits.ensures
-    read.ok) read.last c.repair_read.ensures)
-    (solution_later source plan files c.args.turns old mid new read.only_reads c.in-Ok.read.inst c.in-Ok.read.plan
-    status c.repair_read.ensures)
+    read.ok) read.faults c.repair_read.ensures)
 
 pub returns-in-Err : goal.returns-in-Err
 returns-in-Err g c =
@@ -42,4 +40,3 @@ returns-in-Err g c =
     (read_cause_due source plan files c.args.turns old mid c.in-Err.refusal
     (subst (λ (l : Limits). IsReadCause l source plan old mid c.in-Err.refusal) c.standard-limits.ensures read.err))
     c.refuse.ensures.ends)
-    (omega (arith, read.only_reads.later, c.refuse.ensures.keeps.later))

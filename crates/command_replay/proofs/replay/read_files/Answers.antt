@@ -29,7 +29,7 @@ returns-in_err-plan-clause-err g c =
     rw (p.1, p.2)
     (refuses_plan c.args.limits.now (source_view c.args.source.now) c.args.plan.now old mid new c.in_ok-inst.inst
     (λ i q. OnScript c.args.limits.now i (reading old new) 4 c.args.script.now (Replays i q)) _ c.in_ok-inst.ensures.ok
-    (is_read c.args.source.now.instance.now old mid c.in_ok-inst.ensures.read c.in_ok-inst.ensures.only_reads.later)
+    (is_read c.args.source.now.instance.now old mid c.in_ok-inst.ensures.read c.in_ok-inst.ensures.faults)
     c.in_err-plan.ensures.err)
 
 pub returns-in_err-script-clause-err : goal.returns-in_err-script-clause-err
@@ -42,9 +42,9 @@ returns-in_err-script-clause-err g c =
     (replay_refuses_script c.args.limits.now (source_view c.args.source.now) c.args.plan.now c.args.script.now old mid
     last
     (g.D.Desk.shows c.script_of.new.desk) c.in_ok-inst.inst c.in_ok-plan.plan _ c.in_ok-inst.ensures.ok
-    (is_read c.args.source.now.instance.now old mid c.in_ok-inst.ensures.read c.in_ok-inst.ensures.only_reads.later)
+    (is_read c.args.source.now.instance.now old mid c.in_ok-inst.ensures.read c.in_ok-inst.ensures.faults)
     c.in_ok-plan.ensures.ok
-    (is_read c.args.plan.now mid last c.in_ok-plan.ensures.read c.in_ok-plan.ensures.only_reads.later)
+    (is_read c.args.plan.now mid last c.in_ok-plan.ensures.read c.in_ok-plan.ensures.faults)
     c.in_err-script.ensures.err)
 
 pub returns-in_err-plan-clause-kept : goal.returns-in_err-plan-clause-kept
@@ -52,7 +52,7 @@ returns-in_err-plan-clause-kept g c =
     let p = err_from_is_err_and c.from_residual-in_err-plan.result c.from_residual-in_err-plan.ensures.1 in
     rw (p.1, p.2)
     (kept_before (g.D.Desk.shows c.args.desk.now) (g.D.Desk.shows c.instance_of.new.desk)
-    (g.D.Desk.shows c.plan_of.new.desk) _ c.in_ok-inst.ensures.last c.in_err-plan.ensures.kept)
+    (g.D.Desk.shows c.plan_of.new.desk) _ c.in_ok-inst.ensures.faults c.in_err-plan.ensures.kept)
 
 pub returns-in_err-script-clause-kept : goal.returns-in_err-script-clause-kept
 returns-in_err-script-clause-kept g c =
@@ -60,7 +60,7 @@ returns-in_err-script-clause-kept g c =
     rw (p.1, p.2)
     (kept_before (g.D.Desk.shows c.args.desk.now) (g.D.Desk.shows c.plan_of.new.desk)
     (g.D.Desk.shows c.script_of.new.desk) _
-    (c.in_ok-plan.ensures.last ∙ c.in_ok-inst.ensures.last) c.in_err-script.ensures.kept)
+    (c.in_ok-plan.ensures.faults ∙ c.in_ok-inst.ensures.faults) c.in_err-script.ensures.kept)
 
 pub returns-clause-ok : goal.returns-clause-ok
 returns-clause-ok g c =
@@ -69,7 +69,7 @@ returns-clause-ok g c =
     let last = g.D.Desk.shows c.plan_of.new.desk in
     replay_reads c.args.limits.now (source_view c.args.source.now) c.args.plan.now c.args.script.now old mid last
     c.in_ok-inst.inst c.in_ok-plan.plan c.in_ok-script.script c.in_ok-inst.ensures.ok
-    (is_read c.args.source.now.instance.now old mid c.in_ok-inst.ensures.read c.in_ok-inst.ensures.only_reads.later)
+    (is_read c.args.source.now.instance.now old mid c.in_ok-inst.ensures.read c.in_ok-inst.ensures.faults)
     c.in_ok-plan.ensures.ok
-    (is_read c.args.plan.now mid last c.in_ok-plan.ensures.read c.in_ok-plan.ensures.only_reads.later)
+    (is_read c.args.plan.now mid last c.in_ok-plan.ensures.read c.in_ok-plan.ensures.faults)
     c.in_ok-script.ensures.ok c.in_ok-plan.ensures.each c.in_ok-script.ensures.known

@@ -23,8 +23,8 @@ returns-in-Ok g c =
     (replay_runs limits source plan script old new c.replay_read.result
     (answer_ends (λ at. AnswersReplay limits (reading old at) source.slack source.instance plan script) old mid
     new c.replay_read.result
-    (replay_stays limits source plan script old mid new e.only_reads.later) e.only_reads
-    c.replay_read.ensures.keeps e.last
+    (replay_stays limits source plan script old mid new) e.only_reads
+    c.replay_read.ensures.keeps e.faults
     (read_answer limits source plan script old mid new c.in-Ok.files.inst c.in-Ok.files.plan c.in-Ok.files.script
     c.replay_read.result e.ok c.replay_read.ensures.ends))
     (reads_keep old mid new e.only_reads c.replay_read.ensures.keeps))
@@ -43,6 +43,6 @@ returns-in-Err g c =
     (replay_runs limits source plan script old new c.refuse.result
     (refusal_ends (λ at. AnswersReplay limits (reading old at) source.slack source.instance plan script) old
     mid new c.in-Err.refusal c.refuse.result
-    (replay_stays limits source plan script old mid new e.only_reads.later) e.only_reads c.refuse.ensures.keeps
+    (replay_stays limits source plan script old mid new) e.only_reads c.refuse.ensures.keeps
     e.kept e.err c.refuse.ensures.ends)
     (reads_keep old mid new e.only_reads c.refuse.ensures.keeps))

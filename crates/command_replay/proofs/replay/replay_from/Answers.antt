@@ -15,7 +15,6 @@ returns-in-Ok-clause-ends g c =
     let said = subst (λ x. SaysKeys x text old mid) c.in-Ok.is c.replay.ensures.said in
     let keys : KeysSaid text old mid = record {
       says = said.said;
-      later = c.replay.ensures.later;
       same = c.replay.ensures.same (ok_not_failed c.replay.result c.in-Ok.field-0 c.in-Ok.is);
     } in
     ended_answer c.args.inst.now c.args.starts.now c.args.script.now old mid (g.D.Desk.shows c.say_numbered.new.desk)
@@ -31,7 +30,6 @@ returns-in-Err-NotAllowed-clause-ends g c =
     let said = subst (λ x. SaysKeys x text old mid) is c.replay.ensures.said in
     let keys : KeysSaid text old mid = record {
       says = said.said;
-      later = c.replay.ensures.later;
       same = c.replay.ensures.same (start_not_failed c.replay.result c.in-Err-NotAllowed.n is);
     } in
     not_allowed_answer c.args.inst.now c.args.starts.now c.args.script.now old mid
@@ -49,7 +47,6 @@ returns-in-Err-NothingToUndo-clause-ends g c =
     let said = subst (λ x. SaysKeys x text old mid) is c.replay.ensures.said in
     let keys : KeysSaid text old mid = record {
       says = said.said;
-      later = c.replay.ensures.later;
       same = c.replay.ensures.same (undo_not_failed c.replay.result c.in-Err-NothingToUndo.n is);
     } in
     nothing_to_undo_answer c.args.inst.now c.args.starts.now c.args.script.now old mid
@@ -65,9 +62,8 @@ returns-in-Err-Failed-clause-ends g c =
     let text = replay_text c.args.inst.now c.args.starts.now c.args.script.now in
     let is = c.in-Err-Failed.is ∙ ap Err c.in-Err-Failed.field-0-is in
     let said = subst (λ x. SaysKeys x text old new) is c.replay.ensures.said in
-    let failed = c.replay.ensures.failed is in
     failed_answer c.args.inst.now c.args.starts.now c.args.script.now old new c.requires.allowed said
-    (record { rose = failed.0; own = failed.1 })
+    (c.replay.ensures.failed is)
 
 pub returns-in-Err-Memory-clause-ends : goal.returns-in-Err-Memory-clause-ends
 returns-in-Err-Memory-clause-ends g c =
@@ -78,6 +74,6 @@ returns-in-Err-Memory-clause-ends g c =
     let is = c.in-Err-Memory.is ∙ ap Err c.in-Err-Memory.field-0-is in
     let said = subst (λ x. SaysKeys x text old mid) is c.replay.ensures.said in
     memory_answer (Replays c.args.inst.now (map Some c.args.starts.now) c.args.script.now) old mid new c.say.result
-    said c.replay.ensures.later
+    said
     (c.replay.ensures.same (memory_not_failed c.replay.result is))
     (subst (λ (t : List ℕ). SaysOrFails 11 t mid new c.say.result) c.as_bytes.ensures.value c.say.ensures.ends)

@@ -28,7 +28,7 @@ returns-in_err-plan-clause-err g c =
     rw (p.1, p.2)
     (refuses_plan c.args.limits.now (source_of files) files.plan old mid (g.D.Desk.shows c.plan_of.new.desk)
     c.in_ok-inst.inst (λ i p. Rolls c.args.limits.now i p c.args.period files) _ c.in_ok-inst.ensures.ok
-    (is_read files.instance old mid c.in_ok-inst.ensures.read c.in_ok-inst.ensures.only_reads.later)
+    (is_read files.instance old mid c.in_ok-inst.ensures.read c.in_ok-inst.ensures.faults)
     c.in_err-plan.ensures.err)
 
 pub returns-in_err-plan-clause-kept : goal.returns-in_err-plan-clause-kept
@@ -36,7 +36,7 @@ returns-in_err-plan-clause-kept g c =
     let p = err_from_is_err_and c.from_residual-in_err-plan.result c.from_residual-in_err-plan.ensures.1 in
     rw (p.1, p.2)
     (kept_before (g.D.Desk.shows c.args.desk.now) (g.D.Desk.shows c.instance_of.new.desk)
-    (g.D.Desk.shows c.plan_of.new.desk) _ c.in_ok-inst.ensures.last c.in_err-plan.ensures.kept)
+    (g.D.Desk.shows c.plan_of.new.desk) _ c.in_ok-inst.ensures.faults c.in_err-plan.ensures.kept)
 
 pub returns-in-Ok-clause-ok : goal.returns-in-Ok-clause-ok
 returns-in-Ok-clause-ok g c =
@@ -46,5 +46,5 @@ returns-in-Ok-clause-ok g c =
     let new = g.D.Desk.shows c.plan_of.new.desk in
     roll_answers c.args.limits.now files c.args.period old mid new c.in_ok-inst.inst c.in_ok-plan.plan
     (answer_of files c.in_ok-inst.inst c.in_ok-plan.plan c.args.period c.in-Ok.outcome) c.in_ok-inst.ensures.ok
-    (is_read files.instance old mid c.in_ok-inst.ensures.read c.in_ok-inst.ensures.only_reads.later)
+    (is_read files.instance old mid c.in_ok-inst.ensures.read c.in_ok-inst.ensures.faults)
     c.in_ok-plan.ensures.ok (c.in-Ok.ensures files)

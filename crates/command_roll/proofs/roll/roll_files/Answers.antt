@@ -1,7 +1,6 @@
 -- A run of `roll` from what it read, wrote and said.
-use Rattle.std.proofs.Common.{arith}
 use Rattle.command_roll.specs.Made.{files_view, answer_of}
-use Rattle.command_roll.proofs.RollRun.{roll_runs, rolled_ends, rolled_later, refused_ends}
+use Rattle.command_roll.proofs.RollRun.{roll_runs, rolled_ends, refused_ends}
 use Rattle.command_roll.proofs.roll.roll_files.Goals as goal
 
 pub returns-in-Ok : goal.returns-in-Ok
@@ -18,8 +17,7 @@ returns-in-Ok g c =
     let status = c.tell.result in
     roll_runs c.rolled_text_is_read.ensures c.plans_roll.ensures limits files period old new c.requires.standard
     (g.met.D.Desk.names c.args.desk.now) status
-    (rolled_ends limits files period old mid new e.only_reads a status e.ok e.last c.tell.ensures)
-    (rolled_later limits files period old mid new e.only_reads a status c.tell.ensures)
+    (rolled_ends limits files period old mid new e.only_reads a status e.ok e.faults c.tell.ensures)
 
 pub returns-in-Err : goal.returns-in-Err
 returns-in-Err g c =
@@ -35,4 +33,3 @@ returns-in-Err g c =
     (g.met.D.Desk.names c.args.desk.now) status
     (refused_ends limits files period old mid new e.only_reads c.in-Err.refusal status c.refuse.ensures.keeps e.kept
     e.err c.refuse.ensures.ends)
-    (omega (arith, e.only_reads.later, c.refuse.ensures.keeps.later))

@@ -1,12 +1,12 @@
 -- A run of `solve` from what it read, wrote and said.
-use Rattle.std.proofs.Common.{arith, subst}
+use Rattle.std.proofs.Common.{subst}
 use Rattle.instance_model.specs.declared.limits.Limits.{Limits}
 use Rattle.instance_model.specs.Limits.{standard_limits}
 use Rattle.command_frame.specs.Sources.{source_view}
 use Rattle.command_frame.specs.Files.{ReadsInstance}
 use Rattle.command_frame.specs.Refusals.{IsInstanceCause}
 use Rattle.command_solve.specs.Made.{files_view}
-use Rattle.command_solve.proofs.SolveRun.{solve_runs, solution_ends, solution_later, refused_ends}
+use Rattle.command_solve.proofs.SolveRun.{solve_runs, solution_ends, refused_ends}
 use Rattle.command_solve.proofs.solve.solve_files.Goals as goal
 
 pub returns-in-Ok : goal.returns-in-Ok
@@ -22,9 +22,7 @@ returns-in-Ok g c =
     c.args.desk.now)
     status
     (solution_ends source files c.args.turns old mid new read.only_reads c.in-Ok.inst status
-    (subst (λ (l : Limits). ReadsInstance l source old c.in-Ok.inst) c.standard-limits.ensures read.ok) read.last
-    c.solve_instance.ensures)
-    (solution_later source files c.args.turns old mid new read.only_reads c.in-Ok.inst status
+    (subst (λ (l : Limits). ReadsInstance l source old c.in-Ok.inst) c.standard-limits.ensures read.ok) read.faults
     c.solve_instance.ensures)
 
 pub returns-in-Err : goal.returns-in-Err
@@ -43,4 +41,3 @@ returns-in-Err g c =
     (subst (λ (l : Limits). IsInstanceCause l 2 source.instance old mid c.in-Err.refusal)
     c.standard-limits.ensures read.err)
     c.refuse.ensures.ends)
-    (omega (arith, read.only_reads.later, c.refuse.ensures.keeps.later))

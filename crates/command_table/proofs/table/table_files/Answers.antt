@@ -24,8 +24,8 @@ returns-in-Ok g c =
     (answer_ends
     (λ at. AnswersTable limits (reading old at) source.slack source.instance plan c.args.from c.args.to) old
     mid new c.table_read.result
-    (table_stays limits source plan c.args.from c.args.to old mid new e.only_reads.later) e.only_reads
-    c.table_read.ensures.keeps e.last
+    (table_stays limits source plan c.args.from c.args.to old mid new) e.only_reads
+    c.table_read.ensures.keeps e.faults
     (table_answer limits source plan c.args.from c.args.to old mid new c.in-Ok.files.inst c.in-Ok.files.plan
     c.table_read.result e.ok c.table_read.ensures.ends))
     (reads_keep old mid new e.only_reads c.table_read.ensures.keeps))
@@ -45,6 +45,6 @@ returns-in-Err g c =
     (refusal_ends
     (λ at. AnswersTable limits (reading old at) source.slack source.instance plan c.args.from c.args.to) old
     mid new c.in-Err.refusal c.refuse.result
-    (table_stays limits source plan c.args.from c.args.to old mid new e.only_reads.later) e.only_reads
+    (table_stays limits source plan c.args.from c.args.to old mid new) e.only_reads
     c.refuse.ensures.keeps e.kept (e.err c.args.from c.args.to) c.refuse.ensures.ends)
     (reads_keep old mid new e.only_reads c.refuse.ensures.keeps))

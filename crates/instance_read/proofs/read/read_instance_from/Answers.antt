@@ -56,5 +56,5 @@ pub returns-clause-faults : goal.returns-clause-faults
 returns-clause-faults g c =
     let d = g.D.Desk in
     counts_read c.args.name.now c.in_ok-take_in.ensures.ok.0 (d.shows c.args.desk.now) (d.shows c.take_in.new.self)
-    (d.shows c.read_rest-answer.new.desk) c.read_rest-answer.result (taken g c) c.take_in.ensures.faults.later
+    (d.shows c.read_rest-answer.new.desk) c.read_rest-answer.result (taken g c)
     c.in_ok-take_in.ensures.faults.same c.read_rest-answer.ensures.faults

@@ -49,6 +49,5 @@ pieces-preserved g c =
       read = fed_more (d.shows c.args.desk.now).input (d.shows c.pieces.desk).input c.pieces.count n c.args.reader.now
           c.pieces.reader c.feed.new.self piece i.shows.input c.in_ok-n.ensures.bytes size
           (λ limits bytes h. c.in_ok-feed.ensures.read limits bytes h) i.read;
-      later = search rules;
       same = search rules;
     }

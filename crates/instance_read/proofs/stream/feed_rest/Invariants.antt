@@ -12,8 +12,7 @@ invariant-pieces g l =
       unfinished : IsUnfinished l.reader.pull;
       shows : ShowsSame (d.shows l.desk) (after_read l.count (d.shows l.fn.desk));
       read : HasFed (d.shows l.fn.desk).input.unread l.count l.fn.reader l.reader;
-      later : (d.shows l.fn.desk).faults ≤ (d.shows l.desk).faults;
-      same : (d.shows l.desk).last ≡ (d.shows l.fn.desk).last;
+      same : (d.shows l.desk).faults ≡ (d.shows l.fn.desk).faults;
     }
 
 abbrev pub decreases-pieces : goal.decreases-pieces

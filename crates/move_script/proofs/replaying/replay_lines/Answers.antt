@@ -38,7 +38,6 @@ loop-i-init g c =
       room = search rules;
       said = said_more inst opening script 0 plans inst c.key.result old old new refl c.key.ensures.value here
           (said_none inst opening script old) c.in_ok-say_key.ensures.ok;
-      later = search rules;
       same = search rules;
     }
 
@@ -119,7 +118,6 @@ loop-i-preserved g c =
       room = omega (arith, c.in_ok-follow.ensures.spare, c.loop-i.invariant.room);
       said = said_more inst opening script (c.loop-i.i + 1) plans c.follow.new.kept.instance c.key-key.result old mid
           new same c.key-key.ensures.value here c.loop-i.invariant.said c.in_ok-say_key-2.ensures.ok;
-      later = search rules;
       same = search rules;
     }
 

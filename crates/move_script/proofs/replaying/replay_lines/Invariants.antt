@@ -13,6 +13,5 @@ invariant-loop-i g l =
       room : length l.script ≤ l.i + l.kept.spare;
       said : ShowsSame (shows l.desk)
           (after_say (text_to l.fn.kept.instance (present l.fn.kept.plans) l.script (l.i + 1)) (shows l.fn.desk));
-      later : (shows l.fn.desk).faults ≤ (shows l.desk).faults;
-      same : (shows l.desk).last ≡ (shows l.fn.desk).last;
+      same : (shows l.desk).faults ≡ (shows l.fn.desk).faults;
     }
