@@ -1,2 +1,5 @@
 -- What the contracts cite.
+pub mod Files
 pub mod Numbers
+pub mod Ends
+pub mod Parsing

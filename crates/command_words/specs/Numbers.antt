@@ -1,12 +1,8 @@
--- File words, slacks, turns, periods, seeds and counts. A word is the list of its bytes.
+-- Slacks, turns, periods, seeds and counts. A word is the list of its bytes.
 use Rattle.std.specs.Prelude.{ℕ, ◌-◌, ◌*◌, ◌^◌, List, length, take, drop, codes, bytes_eq, nat_le, nat_lt, ◌&&◌, not}
 use Rattle.std.specs.Prelude.{Bool}
 use Rattle.std.specs.Prelude.{Option, Some, None, if◌then◌else◌}
 use Rattle.instance_shape.specs.Keys.{all_bytes, is_digit, number_of}
-
--- a file word is a text that is not empty
-abbrev pub is_file_word : List ℕ → Bool
-is_file_word word = nat_lt 0 (length word)
 
 -- digits behind the point, in 10^-12
 abbrev pub fraction : List ℕ → ℕ
@@ -50,6 +46,15 @@ turns_of word = if is_numeral word && nat_le (number_of word) 1_000_000 then Som
 abbrev pub period_of : List ℕ → Option ℕ
 period_of word =
     if is_numeral word && nat_le 1 (number_of word) && nat_le (number_of word) 512 then Some (number_of word) else None
+
+-- two periods, the second of which is not before the first
+abbrev pub span : (from to : Option ℕ) → Option (ℕ × ℕ)
+span (Some from) (Some to) = if nat_le from to then Some (from, to) else None
+span from to = None
+
+-- the periods of two words
+abbrev pub span_of : (from to : List ℕ) → Option (ℕ × ℕ)
+span_of from to = span (period_of from) (period_of to)
 
 -- the number that an instance is drawn from: such a numeral of at most 20 digits, below 2^64
 abbrev pub seed_of : List ℕ → Option ℕ

@@ -2,7 +2,7 @@
 ghost use Rattle.std.specs.Prelude.{◌≡◌, ◌≤◌, IfSome, IfNone, IsTrue, false, ◌&&◌, nat_le, length};
 ghost use Rattle.instance_shape.specs.Keys.{all_bytes, is_digit, number_of};
 ghost use Rattle.command_words.specs.Numbers.{slack_of, slack_count, fraction, are_decimals, is_numeral_within};
-ghost use Rattle.command_words.specs.Numbers.{turns_of, period_of, seed_of, count_of};
+ghost use Rattle.command_words.specs.Numbers.{turns_of, period_of, span_of, seed_of, count_of};
 
 /// How many counts of 10^-12 a slack has at most.
 const MOST_SLACK: u64 = 1_000_000_000;
@@ -36,6 +36,7 @@ pub fn slack_of(word: &str) -> Option<u32>
     }
 }
 
+/// The slack of the bytes behind `slack=`.
 fn slack_count(bytes: &[u8]) -> Option<u32>
     ensures value { result ≡ slack_count bytes.now }
     ensures small { IfSome result (λ count. count ≤ 1_000_000_000) }
@@ -81,6 +82,16 @@ pub fn period_of(word: &str) -> Option<u32>
     }
 }
 
+/// The periods of two words, the second of which is not before the first.
+pub fn span_of(from: &str, to: &str) -> Option<(u32, u32)>
+    ensures value { result ≡ span_of from.now to.now }
+    ensures first { IfSome result (λ span. 1 ≤ span.0) }
+{
+    let from = period_of(from)?;
+    let to = period_of(to)?;
+    if from <= to { Some((from, to)) } else { None }
+}
+
 /// The seed of a word.
 pub fn seed_of(word: &str) -> Option<u64>
     ensures value { result ≡ seed_of word.now }
@@ -107,7 +118,7 @@ pub fn count_of(word: &str) -> Option<u32>
     }
 }
 
-// 1 to `most` digits, the first of which is no needless zero.
+/// 1 to `most` digits, the first of which is no needless zero.
 fn numeral(digits: &[u8], most: usize) -> Option<u128>
     requires short { most ≤ 20 }
     ensures found { IfSome result
@@ -120,7 +131,7 @@ fn numeral(digits: &[u8], most: usize) -> Option<u128>
     }
 }
 
-// At most `most` digits.
+/// At most `most` digits.
 fn short_number(digits: &[u8], most: usize) -> Option<u128>
     requires short { most ≤ 20 }
     ensures found { IfSome result (λ count. IsTrue (nat_le (length digits.now) most && all_bytes is_digit digits.now)
@@ -140,7 +151,7 @@ fn short_number(digits: &[u8], most: usize) -> Option<u128>
     Some(number)
 }
 
-// 1 to 12 digits behind the point, in 10^-12.
+/// 1 to 12 digits behind the point, in 10^-12.
 fn fraction(digits: &[u8]) -> Option<u64>
     ensures found { IfSome result (λ count. IsTrue (are_decimals digits.now) × (count ≡ fraction digits.now)) }
     ensures none { IfNone result (are_decimals digits.now ≡ false) }

@@ -1,4 +1,3 @@
-pub mod WordLemmas
 pub mod OutcomeLemmas
 pub mod AuditComplete
 pub mod RepairComplete

@@ -9,7 +9,7 @@ mod run;
 mod tests;
 mod words;
 
-pub use laws::repairs_are_complete;
+pub use laws::{commands_go_by_name, repairs_are_complete};
 use plan_desk::RealDesk;
 pub use run::run_repair;
 use std::alloc::Global;
@@ -24,7 +24,7 @@ fn main(rt: HostRuntime) -> ExitCode {
     }
 }
 
-// The words after the program's name.
+/// The words after the program's name.
 fn given_words(rt: &HostRuntime, alloc: Global) -> io::Result<Vec<String>> {
     let mut words = Vec::new(alloc);
     for word in env::args(rt)?.skip(1) {
@@ -33,7 +33,7 @@ fn given_words(rt: &HostRuntime, alloc: Global) -> io::Result<Vec<String>> {
     Ok(words)
 }
 
-// The status where the system refuses the words.
+/// The status where the system refuses the words.
 fn no_words_status(error: &io::Error) -> u8 {
     match error.kind() {
         io::ErrorKind::OutOfMemory => 11,

@@ -21,7 +21,7 @@ mod table_tests;
 mod tests;
 mod words;
 
-pub use laws::runs_are_complete;
+pub use laws::{commands_go_by_name, runs_are_complete};
 use plan_desk::RealDesk;
 pub use run::{rebound_within, roll_within, run, run_with};
 use std::alloc::Global;
@@ -36,7 +36,7 @@ fn main(rt: HostRuntime) -> ExitCode {
     }
 }
 
-// The words after the program's name.
+/// The words after the program's name.
 fn given_words(rt: &HostRuntime, alloc: Global) -> io::Result<Vec<String>> {
     let mut words = Vec::new(alloc);
     for word in env::args(rt)?.skip(1) {
@@ -45,7 +45,7 @@ fn given_words(rt: &HostRuntime, alloc: Global) -> io::Result<Vec<String>> {
     Ok(words)
 }
 
-// The status where the system refuses the words.
+/// The status where the system refuses the words.
 fn no_words_status(error: &io::Error) -> u8 {
     match error.kind() {
         io::ErrorKind::OutOfMemory => 11,

@@ -1,0 +1,6 @@
+-- Each call has one word fewer.
+use Rattle.std.proofs.Common.{length}
+use Rattle.command_words.proofs.files.+are_apart.Given as goal
+
+abbrev pub decreases-are_apart : goal.decreases-are_apart
+decreases-are_apart l = length l.names.now

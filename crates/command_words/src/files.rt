@@ -1,0 +1,33 @@
+//! Words that name files.
+ghost use Rattle.std.specs.Prelude.{◌≡◌, map};
+ghost use Rattle.command_words.specs.Files.{are_apart, are_file_words, differs_from_each};
+
+/// Whether each of these is a file word.
+pub fn are_file_words(words: &[&str]) -> bool
+    ensures { result ≡ are_file_words (map (λ word. word.now) words.now) }
+{
+    match words {
+        [] => true,
+        [word, words @ ..] => !word.is_empty() && are_file_words(words),
+    }
+}
+
+/// Whether no two of these names are the same text.
+pub fn are_apart(names: &[&str]) -> bool
+    ensures { result ≡ are_apart (map (λ name. name.now) names.now) }
+{
+    match names {
+        [] => true,
+        [name, others @ ..] => differs_from_each(name, others) && are_apart(others),
+    }
+}
+
+/// Whether a name is none of these others.
+fn differs_from_each(name: &str, others: &[&str]) -> bool
+    ensures { result ≡ differs_from_each name.now (map (λ other. other.now) others.now) }
+{
+    match others {
+        [] => true,
+        [other, others @ ..] => name != *other && differs_from_each(name, others),
+    }
+}
