@@ -1,7 +1,7 @@
 -- `check` with an instance, a plan, if one is given, and a certificate that are read: 0, 1, 5 or 11.
 use Rattle.std.proofs.Common.{ℕ, inl, inr, List, [], ◌∷◌, Option, refl}
 use Rattle.plan_desk.specs.Desk.{Shown}
-use Rattle.instance_model.specs.Limits.{standard_limits}
+use Rattle.instance_model.specs.declared.limits.Limits.{Limits}
 use Rattle.command_frame.specs.Sources.{Source}
 use Rattle.command_frame.specs.Ending.{Answer, IsOneOf, NoFault}
 use Rattle.command_frame.specs.Files.{by_bytes, OnGiven, OnCertificate}
@@ -19,21 +19,21 @@ statuses files a (broken_plan rule breaks) = inr (inl refl)
 statuses files a (failing_leaf n refuses) = inr (inr (inl refl))
 statuses files a (accepted accepts) = inl refl
 
-pub check_completes : (source : Source) (name : Option (List ℕ)) (cert_name : List ℕ) (files : CheckedPlan)
-    (old new : Shown) (status : ℕ)
-    → RunsCheck standard_limits source name cert_name old new status
-    → TellsChecked standard_limits old source name cert_name files → NoFault old new
+pub check_completes : (limits : Limits) (source : Source) (name : Option (List ℕ)) (cert_name : List ℕ)
+    (files : CheckedPlan) (old new : Shown) (status : ℕ)
+    → RunsCheck limits source name cert_name old new status
+    → TellsChecked limits old source name cert_name files → NoFault old new
     → Completes (0 ∷ 1 ∷ 5 ∷ []) (Checks files.inst files.plan files.cert) old new status
-check_completes source name cert_name files old new status run tells calm =
-    let i = told_instance standard_limits old source files.inst tells.instance in
-    let p = told_given standard_limits old name files.inst files.plan tells.plan in
-    let c = told_certificate standard_limits old cert_name files.inst files.cert tells.cert in
-    completes (0 ∷ 1 ∷ 5 ∷ []) (AnswersCheck standard_limits by_bytes source.slack i.bytes p.bytes c.bytes)
+check_completes limits source name cert_name files old new status run tells calm =
+    let i = told_instance limits old source files.inst tells.instance in
+    let p = told_given limits old name files.inst files.plan tells.plan in
+    let c = told_certificate limits old cert_name files.inst files.cert tells.cert in
+    completes (0 ∷ 1 ∷ 5 ∷ []) (AnswersCheck limits by_bytes source.slack i.bytes p.bytes c.bytes)
     (Checks files.inst files.plan files.cert) old new status
-    (λ a due. on_certificate standard_limits files.inst 4 c.bytes files.cert (Checks files.inst files.plan) a c.such
-    (on_given standard_limits files.inst 3 p.bytes files.plan
-    (λ q. OnCertificate standard_limits files.inst by_bytes 4 c.bytes (Checks files.inst q)) a p.such
-    (on_instance standard_limits source.slack 2 i.bytes files.inst
-    (λ x. OnGiven standard_limits x by_bytes 3 p.bytes
-    (λ q. OnCertificate standard_limits x by_bytes 4 c.bytes (Checks x q))) a i.such due)))
+    (λ a due. on_certificate limits files.inst 4 c.bytes files.cert (Checks files.inst files.plan) a c.such
+    (on_given limits files.inst 3 p.bytes files.plan
+    (λ q. OnCertificate limits files.inst by_bytes 4 c.bytes (Checks files.inst q)) a p.such
+    (on_instance limits source.slack 2 i.bytes files.inst
+    (λ x. OnGiven limits x by_bytes 3 p.bytes
+    (λ q. OnCertificate limits x by_bytes 4 c.bytes (Checks x q))) a i.such due)))
     (statuses files) (run.exact i.bytes p.bytes c.bytes i.tells p.tells c.tells calm)

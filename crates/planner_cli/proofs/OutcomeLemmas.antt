@@ -2,19 +2,16 @@
 use Rattle.std.proofs.Common.{◌≡◌, ℕ, List, Some, None, refl, sym, ◌∙◌, ap, subst}
 use Rattle.plan_desk.specs.Desk.{Shown}
 use Rattle.plan_desk.specs.Contents.{Says, KeepsFiles}
-use Rattle.instance_model.specs.Limits.{standard_limits}
+use Rattle.instance_model.specs.declared.limits.Limits.{Limits}
 use Rattle.planner_cli.specs.Words.{Command, evaluate, replay, check, solve, table, rebound, roll, rehearse}
 use Rattle.planner_cli.specs.Words.{command_of}
 use Rattle.command_frame.specs.Lines.{words_line}
 use Rattle.command_frame.specs.Ending.{Answer, reply, Ends}
 use Rattle.command_frame.specs.Ending.CountsRead.{none as counts_none}
 use Rattle.command_frame.specs.Ending.Ends.{done, unsaid, unwritten}
-use Rattle.planner_cli.specs.Outcome.{Asks, AskToRebound, AskToRoll, DueRefusal, BehindRefusal, RefusesWords, Outcome}
+use Rattle.planner_cli.specs.Outcome.{Asks, DueRefusal, BehindRefusal, RefusesWords, Outcome}
 use Rattle.planner_cli.specs.Outcome.BehindRefusal.{refused as behind_refused, unsaid as behind_unsaid}
 use Rattle.command_frame.specs.Refusals.{SaysOrFails}
-use Rattle.command_frame.specs.Sources.{Source}
-use Rattle.command_rebound.specs.Rebinding.{RunsRebound}
-use Rattle.command_roll.specs.Rolling.{RollFiles, RunsRoll}
 use Rattle.command_frame.proofs.EndLemmas.{reads_none, said_ends, ends_quiet, nothing_unwritten}
 
 -- ---- words that are refused
@@ -53,9 +50,9 @@ apart words c none asks = never (sym none ∙ asks)
     never : None ≡ Some c → ⊥
     never e = cc
 
-pub outcome_refused : (words : List (List ℕ)) (old new : Shown) (status : ℕ) → command_of words ≡ None
-    → KeepsFiles old new → SaysOrFails 2 words_line old new status → Outcome words old new status
-outcome_refused words old new status none keeps says =
+pub outcome_refused : (limits : Limits) (words : List (List ℕ)) (old new : Shown) (status : ℕ) → command_of words ≡ None
+    → KeepsFiles old new → SaysOrFails 2 words_line old new status → Outcome limits words old new status
+outcome_refused limits words old new status none keeps says =
     let run = refuses old new status keeps says in
     record {
       no_command = λ is. run;
@@ -68,44 +65,4 @@ outcome_refused words old new status none keeps says =
       rolls = λ files period asks. absurd (apart words (roll files period) none asks);
       rehearses = λ seed count asks. absurd (apart words (rehearse seed count) none asks);
       quiet = run.quiet;
-    }
-
--- words ask for one command at most
-other : (words : List (List ℕ)) (c d : Command) → Asks words c → Asks words d → (Some c ≡ Some d → ⊥) → ⊥
-other words c d asks also differ = differ (sym asks ∙ also)
-
-pub outcome_rebounds : (words : List (List ℕ)) (old new : Shown) (status : ℕ) → AskToRebound words
-    → ((source : Source) (cert out : List ℕ) → Asks words (rebound source cert out)
-    → RunsRebound standard_limits source cert out old new status)
-    → Outcome words old new status
-outcome_rebounds words old new status (source, (cert, (out, asks))) run =
-    record {
-      no_command = λ none. absurd (apart words (rebound source cert out) none asks);
-      evaluates = λ s p a. absurd (other words (rebound source cert out) (evaluate s p) asks a (λ e. cc));
-      replays = λ s p t a. absurd (other words (rebound source cert out) (replay s p t) asks a (λ e. cc));
-      checks = λ s p k a. absurd (other words (rebound source cert out) (check s p k) asks a (λ e. cc));
-      solves = λ s f t a. absurd (other words (rebound source cert out) (solve s f t) asks a (λ e. cc));
-      tabulates = λ s p f t a. absurd (other words (rebound source cert out) (table s p f t) asks a (λ e. cc));
-      rebounds = run;
-      rolls = λ f p a. absurd (other words (rebound source cert out) (roll f p) asks a (λ e. cc));
-      rehearses = λ s n a. absurd (other words (rebound source cert out) (rehearse s n) asks a (λ e. cc));
-      quiet = (run source cert out asks).quiet;
-    }
-
-pub outcome_rolls : (words : List (List ℕ)) (old new : Shown) (status : ℕ) → AskToRoll words
-    → ((files : RollFiles) (period : ℕ) → Asks words (roll files period)
-    → RunsRoll standard_limits files period old new status)
-    → Outcome words old new status
-outcome_rolls words old new status (files, (period, asks)) run =
-    record {
-      no_command = λ none. absurd (apart words (roll files period) none asks);
-      evaluates = λ s p a. absurd (other words (roll files period) (evaluate s p) asks a (λ e. cc));
-      replays = λ s p t a. absurd (other words (roll files period) (replay s p t) asks a (λ e. cc));
-      checks = λ s p k a. absurd (other words (roll files period) (check s p k) asks a (λ e. cc));
-      solves = λ s f t a. absurd (other words (roll files period) (solve s f t) asks a (λ e. cc));
-      tabulates = λ s p f t a. absurd (other words (roll files period) (table s p f t) asks a (λ e. cc));
-      rebounds = λ s k o a. absurd (other words (roll files period) (rebound s k o) asks a (λ e. cc));
-      rolls = run;
-      rehearses = λ s n a. absurd (other words (roll files period) (rehearse s n) asks a (λ e. cc));
-      quiet = (run files period asks).quiet;
     }

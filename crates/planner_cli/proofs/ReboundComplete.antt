@@ -1,7 +1,7 @@
 -- `rebound` with an instance and a certificate that are read: 0, 12 or 11.
 use Rattle.std.proofs.Common.{ℕ, inl, inr, List, [], ◌∷◌, refl}
 use Rattle.plan_desk.specs.Desk.{Shown}
-use Rattle.instance_model.specs.Limits.{standard_limits}
+use Rattle.instance_model.specs.declared.limits.Limits.{Limits}
 use Rattle.instance_model.specs.Tables.{Tables}
 use Rattle.branch_tree.specs.declared.certificate.Certificate.{Certificate}
 use Rattle.command_frame.specs.Sources.{Source}
@@ -13,22 +13,22 @@ use Rattle.command_frame.specs.Completing.{Completes}
 use Rattle.command_frame.proofs.CompleteReads.{told_instance, told_certificate, on_instance, on_certificate}
 use Rattle.command_frame.proofs.CompleteLemmas.{completes}
 
-statuses : (inst : Tables) (out : List ℕ) (cert : Certificate) (a : Answer) → Rebinds standard_limits inst out cert a
-    → IsOneOf (0 ∷ 12 ∷ []) a.status
-statuses inst out cert a (rebound answer is) = inl refl
-statuses inst out cert a (too_long answer is) = inr (inl refl)
+statuses : (limits : Limits) (inst : Tables) (out : List ℕ) (cert : Certificate) (a : Answer)
+    → Rebinds limits inst out cert a → IsOneOf (0 ∷ 12 ∷ []) a.status
+statuses limits inst out cert a (rebound answer is) = inl refl
+statuses limits inst out cert a (too_long answer is) = inr (inl refl)
 
-pub rebound_completes : (source : Source) (cert_name out : List ℕ) (inst : Tables) (cert : Certificate)
-    (old new : Shown) (status : ℕ)
-    → RunsRebound standard_limits source cert_name out old new status
-    → TellsInstance standard_limits old source inst → TellsCertificate standard_limits old cert_name inst cert
-    → NoFault old new → Completes (0 ∷ 12 ∷ []) (Rebinds standard_limits inst out cert) old new status
-rebound_completes source cert_name out inst cert old new status run tells tells_cert calm =
-    let i = told_instance standard_limits old source inst tells in
-    let c = told_certificate standard_limits old cert_name inst cert tells_cert in
-    completes (0 ∷ 12 ∷ []) (AnswersRebound standard_limits by_bytes source.slack i.bytes c.bytes out)
-    (Rebinds standard_limits inst out cert) old new status
-    (λ a due. on_certificate standard_limits inst 3 c.bytes cert (Rebinds standard_limits inst out) a c.such
-    (on_instance standard_limits source.slack 2 i.bytes inst
-    (λ x. OnCertificate standard_limits x by_bytes 3 c.bytes (Rebinds standard_limits x out)) a i.such due))
-    (statuses inst out cert) (run.exact i.bytes c.bytes i.tells c.tells calm)
+pub rebound_completes : (limits : Limits) (source : Source) (cert_name out : List ℕ) (inst : Tables)
+    (cert : Certificate) (old new : Shown) (status : ℕ)
+    → RunsRebound limits source cert_name out old new status
+    → TellsInstance limits old source inst → TellsCertificate limits old cert_name inst cert
+    → NoFault old new → Completes (0 ∷ 12 ∷ []) (Rebinds limits inst out cert) old new status
+rebound_completes limits source cert_name out inst cert old new status run tells tells_cert calm =
+    let i = told_instance limits old source inst tells in
+    let c = told_certificate limits old cert_name inst cert tells_cert in
+    completes (0 ∷ 12 ∷ []) (AnswersRebound limits by_bytes source.slack i.bytes c.bytes out)
+    (Rebinds limits inst out cert) old new status
+    (λ a due. on_certificate limits inst 3 c.bytes cert (Rebinds limits inst out) a c.such
+    (on_instance limits source.slack 2 i.bytes inst
+    (λ x. OnCertificate limits x by_bytes 3 c.bytes (Rebinds limits x out)) a i.such due))
+    (statuses limits inst out cert) (run.exact i.bytes c.bytes i.tells c.tells calm)

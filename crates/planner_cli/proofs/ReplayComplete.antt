@@ -1,7 +1,7 @@
 -- `replay` with an instance, a plan and a script that are read: 0, 1, 6 or 11.
 use Rattle.std.proofs.Common.{ℕ, inl, inr, List, [], ◌∷◌, refl}
 use Rattle.plan_desk.specs.Desk.{Shown}
-use Rattle.instance_model.specs.Limits.{standard_limits}
+use Rattle.instance_model.specs.declared.limits.Limits.{Limits}
 use Rattle.command_frame.specs.Sources.{Source}
 use Rattle.command_frame.specs.Ending.{Answer, IsOneOf, NoFault}
 use Rattle.command_frame.specs.Files.{by_bytes, OnPlan, OnScript}
@@ -18,21 +18,21 @@ statuses files a (ended opening opens succeeds) = inl refl
 statuses files a (not_allowed opening n opens fails) = inr (inr (inl refl))
 statuses files a (nothing_to_undo opening n opens fails) = inr (inr (inl refl))
 
-pub replay_completes : (source : Source) (name script_name : List ℕ) (files : ScriptedPlan) (old new : Shown)
-    (status : ℕ)
-    → RunsReplay standard_limits source name script_name old new status
-    → TellsScripted standard_limits old source name script_name files → NoFault old new
+pub replay_completes : (limits : Limits) (source : Source) (name script_name : List ℕ) (files : ScriptedPlan)
+    (old new : Shown) (status : ℕ)
+    → RunsReplay limits source name script_name old new status
+    → TellsScripted limits old source name script_name files → NoFault old new
     → Completes (0 ∷ 1 ∷ 6 ∷ []) (Replays files.inst files.plan files.script) old new status
-replay_completes source name script_name files old new status run tells calm =
-    let i = told_instance standard_limits old source files.inst tells.instance in
-    let p = told_plan standard_limits old name files.inst files.plan tells.plan in
-    let s = told_script standard_limits old script_name files.inst files.script tells.script in
-    completes (0 ∷ 1 ∷ 6 ∷ []) (AnswersReplay standard_limits by_bytes source.slack i.bytes p.bytes s.bytes)
+replay_completes limits source name script_name files old new status run tells calm =
+    let i = told_instance limits old source files.inst tells.instance in
+    let p = told_plan limits old name files.inst files.plan tells.plan in
+    let s = told_script limits old script_name files.inst files.script tells.script in
+    completes (0 ∷ 1 ∷ 6 ∷ []) (AnswersReplay limits by_bytes source.slack i.bytes p.bytes s.bytes)
     (Replays files.inst files.plan files.script) old new status
-    (λ a due. on_script standard_limits files.inst 4 s.bytes files.script (Replays files.inst files.plan) a s.such
-    (on_plan standard_limits files.inst 3 p.bytes files.plan
-    (λ q. OnScript standard_limits files.inst by_bytes 4 s.bytes (Replays files.inst q)) a p.such
-    (on_instance standard_limits source.slack 2 i.bytes files.inst
-    (λ x. OnPlan standard_limits x by_bytes 3 p.bytes
-    (λ q. OnScript standard_limits x by_bytes 4 s.bytes (Replays x q))) a i.such due)))
+    (λ a due. on_script limits files.inst 4 s.bytes files.script (Replays files.inst files.plan) a s.such
+    (on_plan limits files.inst 3 p.bytes files.plan
+    (λ q. OnScript limits files.inst by_bytes 4 s.bytes (Replays files.inst q)) a p.such
+    (on_instance limits source.slack 2 i.bytes files.inst
+    (λ x. OnPlan limits x by_bytes 3 p.bytes
+    (λ q. OnScript limits x by_bytes 4 s.bytes (Replays x q))) a i.such due)))
     (statuses files) (run.exact i.bytes p.bytes s.bytes i.tells p.tells s.tells calm)

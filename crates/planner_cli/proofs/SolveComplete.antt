@@ -1,7 +1,7 @@
 -- `solve` with an instance that is read: 0, 9, 10 or 11, and no 9 with turns for a tree of single plans.
 use Rattle.std.proofs.Common.{ℕ, inl, inr, List, [], ◌∷◌, refl}
 use Rattle.plan_desk.specs.Desk.{Shown}
-use Rattle.instance_model.specs.Limits.{standard_limits}
+use Rattle.instance_model.specs.declared.limits.Limits.{Limits}
 use Rattle.instance_model.specs.Tables.{Tables}
 use Rattle.command_frame.specs.Sources.{Source}
 use Rattle.command_frame.specs.Ending.{Answer, IsOneOf, NoFault}
@@ -13,37 +13,37 @@ use Rattle.command_frame.specs.Completing.{Completes}
 use Rattle.command_frame.proofs.CompleteReads.{told_instance, on_instance}
 use Rattle.command_frame.proofs.CompleteLemmas.{completes}
 
-statuses : (inst : Tables) (files : SolveFiles) (turns : ℕ) (a : Answer) → Solves standard_limits inst files turns a
-    → IsOneOf (0 ∷ 9 ∷ 10 ∷ []) a.status
-statuses inst files turns a (found changes answer plan bound solved is checkable replayable evaluable) = inl refl
-statuses inst files turns a (nothing changes answer bound solved is checkable replayable) = inr (inl refl)
-statuses inst files turns a (none changes answer solved is checkable replayable) = inr (inr (inl refl))
-statuses inst files turns a (no_start i without checkable) = inr (inr (inl refl))
+statuses : (limits : Limits) (inst : Tables) (files : SolveFiles) (turns : ℕ) (a : Answer)
+    → Solves limits inst files turns a → IsOneOf (0 ∷ 9 ∷ 10 ∷ []) a.status
+statuses limits inst files turns a (found changes answer plan bound solved is checkable replayable evaluable) = inl refl
+statuses limits inst files turns a (nothing changes answer bound solved is checkable replayable) = inr (inl refl)
+statuses limits inst files turns a (none changes answer solved is checkable replayable) = inr (inr (inl refl))
+statuses limits inst files turns a (no_start i without checkable) = inr (inr (inl refl))
 
-statuses_enough : (inst : Tables) (files : SolveFiles) (turns : ℕ) → AreEnough inst turns → (a : Answer)
-    → Solves standard_limits inst files turns a → IsOneOf (0 ∷ 10 ∷ []) a.status
-statuses_enough inst files turns enough a (found changes answer plan bound solved is checkable replayable evaluable) =
-    inl refl
-statuses_enough inst files turns enough a (nothing changes answer bound solved is checkable replayable) =
+statuses_enough : (limits : Limits) (inst : Tables) (files : SolveFiles) (turns : ℕ) → AreEnough inst turns
+    → (a : Answer) → Solves limits inst files turns a → IsOneOf (0 ∷ 10 ∷ []) a.status
+statuses_enough limits inst files turns enough a
+    (found changes answer plan bound solved is checkable replayable evaluable) = inl refl
+statuses_enough limits inst files turns enough a (nothing changes answer bound solved is checkable replayable) =
     absurd (is.too_few enough)
-statuses_enough inst files turns enough a (none changes answer solved is checkable replayable) = inr (inl refl)
-statuses_enough inst files turns enough a (no_start i without checkable) = inr (inl refl)
+statuses_enough limits inst files turns enough a (none changes answer solved is checkable replayable) = inr (inl refl)
+statuses_enough limits inst files turns enough a (no_start i without checkable) = inr (inl refl)
 
-module _ (source : Source) (files : SolveFiles) (turns : ℕ) (inst : Tables) (old new : Shown) (status : ℕ)
-    (run : RunsSolve standard_limits source files turns old new status)
-    (tells : TellsInstance standard_limits old source inst) (calm : NoFault old new) where
-  among : (list : List ℕ) → ((a : Answer) → Solves standard_limits inst files turns a → IsOneOf list a.status)
-      → Completes list (Solves standard_limits inst files turns) old new status
+module _ (limits : Limits) (source : Source) (files : SolveFiles) (turns : ℕ) (inst : Tables) (old new : Shown)
+    (status : ℕ) (run : RunsSolve limits source files turns old new status)
+    (tells : TellsInstance limits old source inst) (calm : NoFault old new) where
+  among : (list : List ℕ) → ((a : Answer) → Solves limits inst files turns a → IsOneOf list a.status)
+      → Completes list (Solves limits inst files turns) old new status
   among list one =
-      let i = told_instance standard_limits old source inst tells in
-      completes list (AnswersSolve standard_limits by_bytes source.slack i.bytes files turns)
-      (Solves standard_limits inst files turns) old new status
-      (λ a due. on_instance standard_limits source.slack 2 i.bytes inst (λ x. Solves standard_limits x files turns) a
+      let i = told_instance limits old source inst tells in
+      completes list (AnswersSolve limits by_bytes source.slack i.bytes files turns)
+      (Solves limits inst files turns) old new status
+      (λ a due. on_instance limits source.slack 2 i.bytes inst (λ x. Solves limits x files turns) a
       i.such due) one (run.exact i.bytes i.tells calm)
 
-  pub solve_completes : Completes (0 ∷ 9 ∷ 10 ∷ []) (Solves standard_limits inst files turns) old new status
-  solve_completes = among (0 ∷ 9 ∷ 10 ∷ []) (statuses inst files turns)
+  pub solve_completes : Completes (0 ∷ 9 ∷ 10 ∷ []) (Solves limits inst files turns) old new status
+  solve_completes = among (0 ∷ 9 ∷ 10 ∷ []) (statuses limits inst files turns)
 
   pub solve_completes_enough : AreEnough inst turns
-      → Completes (0 ∷ 10 ∷ []) (Solves standard_limits inst files turns) old new status
-  solve_completes_enough enough = among (0 ∷ 10 ∷ []) (statuses_enough inst files turns enough)
+      → Completes (0 ∷ 10 ∷ []) (Solves limits inst files turns) old new status
+  solve_completes_enough enough = among (0 ∷ 10 ∷ []) (statuses_enough limits inst files turns enough)

@@ -1,7 +1,7 @@
 -- `table` with an instance and a plan that are read: 0, 1 or 11.
 use Rattle.std.proofs.Common.{ℕ, inl, inr, List, [], ◌∷◌, Option, refl}
 use Rattle.plan_desk.specs.Desk.{Shown}
-use Rattle.instance_model.specs.Limits.{standard_limits}
+use Rattle.instance_model.specs.declared.limits.Limits.{Limits}
 use Rattle.instance_model.specs.Tables.{Tables}
 use Rattle.command_frame.specs.Sources.{Source}
 use Rattle.command_frame.specs.Ending.{Answer, IsOneOf, NoFault}
@@ -17,17 +17,17 @@ statuses : (inst : Tables) (plan : List (Option ℕ)) (from to : ℕ) (a : Answe
 statuses inst plan from to a (broken_start rule first) = inr (inl refl)
 statuses inst plan from to a (reported starts opens) = inl refl
 
-pub table_completes : (source : Source) (name : List ℕ) (from to : ℕ) (inst : Tables) (plan : List (Option ℕ))
-    (old new : Shown) (status : ℕ)
-    → RunsTable standard_limits source name from to old new status → TellsInstance standard_limits old source inst
-    → TellsPlan standard_limits old name inst plan → NoFault old new
+pub table_completes : (limits : Limits) (source : Source) (name : List ℕ) (from to : ℕ) (inst : Tables)
+    (plan : List (Option ℕ)) (old new : Shown) (status : ℕ)
+    → RunsTable limits source name from to old new status → TellsInstance limits old source inst
+    → TellsPlan limits old name inst plan → NoFault old new
     → Completes (0 ∷ 1 ∷ []) (Tabulates inst plan from to) old new status
-table_completes source name from to inst plan old new status run tells tells_plan calm =
-    let i = told_instance standard_limits old source inst tells in
-    let p = told_plan standard_limits old name inst plan tells_plan in
-    completes (0 ∷ 1 ∷ []) (AnswersTable standard_limits by_bytes source.slack i.bytes p.bytes from to)
+table_completes limits source name from to inst plan old new status run tells tells_plan calm =
+    let i = told_instance limits old source inst tells in
+    let p = told_plan limits old name inst plan tells_plan in
+    completes (0 ∷ 1 ∷ []) (AnswersTable limits by_bytes source.slack i.bytes p.bytes from to)
     (Tabulates inst plan from to) old new status
-    (λ a due. on_plan standard_limits inst 3 p.bytes plan (λ q. Tabulates inst q from to) a p.such
-    (on_instance standard_limits source.slack 2 i.bytes inst
-    (λ x. OnPlan standard_limits x by_bytes 3 p.bytes (λ q. Tabulates x q from to)) a i.such due))
+    (λ a due. on_plan limits inst 3 p.bytes plan (λ q. Tabulates inst q from to) a p.such
+    (on_instance limits source.slack 2 i.bytes inst
+    (λ x. OnPlan limits x by_bytes 3 p.bytes (λ q. Tabulates x q from to)) a i.such due))
     (statuses inst plan from to) (run.exact i.bytes p.bytes i.tells p.tells calm)

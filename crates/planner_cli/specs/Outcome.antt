@@ -4,7 +4,7 @@
 use Rattle.std.specs.Prelude.{◌≡◌, ℕ, List, Option, Some, None}
 use Rattle.plan_desk.specs.Desk.{Shown}
 use Rattle.plan_desk.specs.Contents.{Says}
-use Rattle.instance_model.specs.Limits.{standard_limits}
+use Rattle.instance_model.specs.declared.limits.Limits.{Limits}
 use Rattle.command_frame.specs.Sources.{Source}
 use Rattle.planner_cli.specs.Words.{Command, evaluate, replay, check, solve, table, rebound, roll, rehearse}
 use Rattle.planner_cli.specs.Words.{command_of}
@@ -48,23 +48,23 @@ pub record RefusesWords (old new : Shown) (status : ℕ) : Type 0 where
   -- no call failed, but at 7 and 8
   pub quiet : IsQuiet status old new
 
--- what a run of any words promises
-pub record Outcome (words : List (List ℕ)) (old new : Shown) (status : ℕ) : Type 0 where
+-- what a run of any words promises, within these limits
+pub record Outcome (limits : Limits) (words : List (List ℕ)) (old new : Shown) (status : ℕ) : Type 0 where
   pub no_command : command_of words ≡ None → RefusesWords old new status
   pub evaluates : (source : Source) (plan : List ℕ) → Asks words (evaluate source plan)
-      → RunsEvaluate standard_limits source plan old new status
+      → RunsEvaluate limits source plan old new status
   pub replays : (source : Source) (plan script : List ℕ) → Asks words (replay source plan script)
-      → RunsReplay standard_limits source plan script old new status
+      → RunsReplay limits source plan script old new status
   pub checks : (source : Source) (plan : Option (List ℕ)) (cert : List ℕ) → Asks words (check source plan cert)
-      → RunsCheck standard_limits source plan cert old new status
+      → RunsCheck limits source plan cert old new status
   pub solves : (source : Source) (files : SolveFiles) (turns : ℕ) → Asks words (solve source files turns)
-      → RunsSolve standard_limits source files turns old new status
+      → RunsSolve limits source files turns old new status
   pub tabulates : (source : Source) (plan : List ℕ) (from to : ℕ) → Asks words (table source plan from to)
-      → RunsTable standard_limits source plan from to old new status
+      → RunsTable limits source plan from to old new status
   pub rebounds : (source : Source) (cert out : List ℕ) → Asks words (rebound source cert out)
-      → RunsRebound standard_limits source cert out old new status
+      → RunsRebound limits source cert out old new status
   pub rolls : (files : RollFiles) (period : ℕ) → Asks words (roll files period)
-      → RunsRoll standard_limits files period old new status
+      → RunsRoll limits files period old new status
   pub rehearses : (seed count : ℕ) → Asks words (rehearse seed count) → RunsRehearse seed count old new status
   -- no call failed, but at 7 and 8
   pub quiet : IsQuiet status old new

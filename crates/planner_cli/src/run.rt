@@ -1,12 +1,8 @@
 //! The top call.
-ghost use Rattle.std.specs.Prelude.{◌≤◌, ℕ, List, map, string_bytes};
+ghost use Rattle.std.specs.Prelude.{◌≤◌, map, string_bytes};
 ghost use Rattle.instance_model.specs.Limits.{standard_limits};
 ghost use Rattle.instance_shape.specs.Ranges.{AreStandard};
-ghost use Rattle.command_frame.specs.Sources.{Source as SourceWords};
-ghost use Rattle.command_rebound.specs.Rebinding.{RunsRebound};
-ghost use Rattle.command_roll.specs.Rolling.{RollFiles as RollNames, RunsRoll};
-ghost use Rattle.planner_cli.specs.Words.{rebound, roll};
-ghost use Rattle.planner_cli.specs.Outcome.{Asks, AskToRebound, AskToRoll, Outcome};
+ghost use Rattle.planner_cli.specs.Outcome.{AskToRebound, AskToRoll, Outcome};
 
 use crate::words::{Command, command_of};
 use command_check::check_files;
@@ -32,14 +28,14 @@ use std::alloc::Global;
 /// said. 9: no plan was found, and there may be one. 10: there is no plan. 11: memory ran out, and nothing was written
 /// or said before. 12: of `rebound` and `roll`, the text to be written is too long.
 pub fn run<D: Desk>(alloc: Global, words: &[String], desk: &mut D) -> u8
-    ensures { Outcome (map string_bytes words.now) (D.shows desk.old) (D.shows desk.new) result }
+    ensures { Outcome standard_limits (map string_bytes words.now) (D.shows desk.old) (D.shows desk.new) result }
 {
     run_with::<TreeRow, D>(alloc, words, desk)
 }
 
 /// The same over rows of another kind, in which plans that change are kept: the answers are those of `run`.
 pub fn run_with<R: Row, D: Desk>(alloc: Global, words: &[String], desk: &mut D) -> u8
-    ensures { Outcome (map string_bytes words.now) (D.shows desk.old) (D.shows desk.new) result }
+    ensures { Outcome standard_limits (map string_bytes words.now) (D.shows desk.old) (D.shows desk.new) result }
 {
     match command_of(words) {
         None => say(desk, 2, WORDS_LINE.as_bytes()),
@@ -81,19 +77,19 @@ pub fn run_with<R: Row, D: Desk>(alloc: Global, words: &[String], desk: &mut D) 
     }
 }
 
-// Runs words of `rebound` within the limits of the program.
+/// Runs words of `rebound` within the limits of the program.
 fn rebound_standard<D: Desk>(alloc: Global, words: &[String], desk: &mut D) -> u8
     requires { AskToRebound (map string_bytes words.now) }
-    ensures { Outcome (map string_bytes words.now) (D.shows desk.old) (D.shows desk.new) result }
+    ensures { Outcome standard_limits (map string_bytes words.now) (D.shows desk.old) (D.shows desk.new) result }
 {
     let limits = Limits::standard();
     rebound_within(alloc, &limits, words, desk)
 }
 
-// Runs words of `roll` within the limits of the program.
+/// Runs words of `roll` within the limits of the program.
 fn roll_standard<D: Desk>(alloc: Global, words: &[String], desk: &mut D) -> u8
     requires { AskToRoll (map string_bytes words.now) }
-    ensures { Outcome (map string_bytes words.now) (D.shows desk.old) (D.shows desk.new) result }
+    ensures { Outcome standard_limits (map string_bytes words.now) (D.shows desk.old) (D.shows desk.new) result }
 {
     let limits = Limits::standard();
     roll_within(alloc, &limits, words, desk)
@@ -104,8 +100,7 @@ pub fn rebound_within<D: Desk>(alloc: Global, limits: &Limits, words: &[String],
     requires standard { AreStandard limits.now }
     requires bytes { limits.now.certificate_bytes ≤ standard_limits.certificate_bytes }
     requires asked { AskToRebound (map string_bytes words.now) }
-    ensures { (source : SourceWords) (cert out : List ℕ) → Asks (map string_bytes words.now) (rebound source cert out)
-        → RunsRebound limits.now source cert out (D.shows desk.old) (D.shows desk.new) result }
+    ensures { Outcome limits.now (map string_bytes words.now) (D.shows desk.old) (D.shows desk.new) result }
 {
     match command_of(words) {
         Some(
@@ -123,8 +118,7 @@ pub fn rebound_within<D: Desk>(alloc: Global, limits: &Limits, words: &[String],
 pub fn roll_within<D: Desk>(alloc: Global, limits: &Limits, words: &[String], desk: &mut D) -> u8
     requires standard { AreStandard limits.now }
     requires asked { AskToRoll (map string_bytes words.now) }
-    ensures { (files : RollNames) (period : ℕ) → Asks (map string_bytes words.now) (roll files period)
-        → RunsRoll limits.now files period (D.shows desk.old) (D.shows desk.new) result }
+    ensures { Outcome limits.now (map string_bytes words.now) (D.shows desk.old) (D.shows desk.new) result }
 {
     match command_of(words) {
         Some(Command::Roll { files, period }) => roll_files(alloc, limits, &files, period, desk),

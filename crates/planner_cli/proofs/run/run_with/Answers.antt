@@ -1,5 +1,6 @@
 -- What a run of the words promises, command by command.
 use Rattle.std.proofs.Common.{List, ℕ, map, string_bytes, subst}
+use Rattle.instance_model.specs.Limits.{standard_limits}
 use Rattle.command_frame.specs.Refusals.{SaysOrFails}
 use Rattle.planner_cli.proofs.OutcomeLemmas.{outcome_refused}
 use Rattle.planner_cli.proofs.run.run_with.Goals as goal
@@ -8,5 +9,6 @@ pub returns-in-None : goal.returns-in-None
 returns-in-None g c =
     let old = g.D.Desk.shows c.args.desk.now in
     let new = g.D.Desk.shows c.say.new.desk in
-    outcome_refused (map string_bytes c.args.words.now) old new c.say.result c.in-None.ensures c.say.ensures.keeps
+    outcome_refused standard_limits (map string_bytes c.args.words.now) old new c.say.result c.in-None.ensures
+    c.say.ensures.keeps
     (subst (λ (t : List ℕ). SaysOrFails 2 t old new c.say.result) c.as_bytes.ensures.value c.say.ensures.ends)
