@@ -1,7 +1,6 @@
 //! Checks of certificates over files in memory.
-use crate::run;
-use crate::tests::{BANDED, BOTH, PLAIN, TIGHT, TOGETHER, desk, owned};
-use plan_desk::{DeskCall, MemDesk};
+use crate::tests::{BANDED, BOTH, TIGHT, TOGETHER, desk, ran};
+use plan_desk::MemDesk;
 use std::alloc::{AllocError, Global};
 use std::test::Fail;
 
@@ -63,7 +62,7 @@ const STARTLESS: &str = r#"{"Resources":{},"Seasons":{},
 "Quantile":1,"Alpha":1}"#;
 
 /// Without price lists, and with one leaf.
-const ROOT: &str = "mpcert 1\nbound 2000000000000000000\nlists 0\ntree\ncost 0\n";
+pub(crate) const ROOT: &str = "mpcert 1\nbound 2000000000000000000\nlists 0\ntree\ncost 0\n";
 
 const ROOT_MORE: &str = "mpcert 1\nbound 2000000000000000001\nlists 0\ntree\ncost 0\n";
 
@@ -75,7 +74,7 @@ const ROOT_PLAN_REPORT: &str =
 
 const LEAF_1: &str = "refused certificate leaf 1\n";
 
-// A desk with the files I, P and C.
+/// A desk with the files I, P and C.
 fn with_certificate(
     alloc: Global,
     instance: &str,
@@ -85,14 +84,6 @@ fn with_certificate(
     let mut desk = desk(alloc, instance, plan.as_bytes())?;
     desk.put_file("C", certificate.as_bytes())?;
     Ok(desk)
-}
-
-// What these words say over a desk, with their status.
-fn ran(alloc: Global, words: &[&str], desk: &mut MemDesk) -> Result<(u8, Vec<u8>), AllocError> {
-    let words = owned(alloc, words)?;
-    let status = run(alloc, &words, desk);
-    let said = desk.spoken().to_vec(alloc)?;
-    Ok((status, said))
 }
 
 #[test]
@@ -270,75 +261,6 @@ fn bands_of_a_check_are_widened(rt: HostRuntime) -> Result<(), Fail> {
         let (answer, said) = ran(alloc, &["check", "I", "P", "C", slack], &mut desk)?;
         assert_eq!(rt; answer, status, "{slack}");
         assert_eq!(rt; said.as_slice(), told.as_bytes(), "{slack}");
-    }
-    Ok(())
-}
-
-#[test]
-fn words_of_a_check_are_refused(rt: HostRuntime) -> Result<(), Fail> {
-    let alloc = rt.alloc();
-    let lists: [&[&str]; 5] = [
-        &["check", "I", "-"],
-        &["check", "I", "", "C"],
-        &["check", "", "-", "C"],
-        &["check", "I", "-", ""],
-        &["check", "I", "-", "C", "C"],
-    ];
-    for words in lists {
-        let mut desk = with_certificate(alloc, BANDED, BOTH, ROOT)?;
-        let (status, said) = ran(alloc, words, &mut desk)?;
-        assert_eq!(rt; status, 2);
-        assert_eq!(rt; said.as_slice(), b"refused words\n".as_slice());
-    }
-    Ok(())
-}
-
-#[test]
-fn files_of_a_check_are_refused_in_order(rt: HostRuntime) -> Result<(), Fail> {
-    let alloc = rt.alloc();
-    for (instance, plan, words, status, line) in [
-        (
-            "[]",
-            "x",
-            ["I", "none", "none"],
-            3,
-            "refused instance shape 0\n",
-        ),
-        (
-            BANDED,
-            "x",
-            ["I", "P", "none"],
-            4,
-            "refused plan bad line 1\n",
-        ),
-        (BANDED, "x", ["I", "none", "none"], 7, "refused read 3\n"),
-        (BANDED, BOTH, ["I", "P", "none"], 7, "refused read 4\n"),
-        (BANDED, "x", ["I", "-", "none"], 7, "refused read 4\n"),
-        (BANDED, BOTH, ["none", "-", "C"], 7, "refused read 2\n"),
-    ] {
-        let mut desk = with_certificate(alloc, instance, plan, ROOT)?;
-        let (answer, said) = ran(alloc, &["check", words[0], words[1], words[2]], &mut desk)?;
-        assert_eq!(rt; answer, status, "{line}");
-        assert_eq!(rt; said.as_slice(), line.as_bytes(), "{line}");
-    }
-    Ok(())
-}
-
-#[test]
-fn failed_calls_of_a_check_are_told(rt: HostRuntime) -> Result<(), Fail> {
-    let alloc = rt.alloc();
-    for (plan, call, nth, status, line) in [
-        ("P", DeskCall::TakeIn, 3, 7, "refused read 4\n"),
-        ("P", DeskCall::Read, 5, 7, "refused read 4\n"),
-        ("P", DeskCall::Read, 6, 7, "refused read 4\n"),
-        ("-", DeskCall::TakeIn, 2, 7, "refused read 4\n"),
-        ("-", DeskCall::Say, 1, 8, ""),
-    ] {
-        let mut desk = with_certificate(alloc, PLAIN, BOTH, ROOT)?;
-        desk.fail_at(call, nth)?;
-        let (answer, said) = ran(alloc, &["check", "I", plan, "C"], &mut desk)?;
-        assert_eq!(rt; answer, status, "{call:?} {nth}");
-        assert_eq!(rt; said.as_slice(), line.as_bytes(), "{call:?} {nth}");
     }
     Ok(())
 }

@@ -5,6 +5,8 @@
 
 #[cfg(test)]
 mod check_tests;
+#[cfg(test)]
+mod desk_tests;
 mod laws;
 #[cfg(test)]
 mod output_tests;
@@ -20,6 +22,8 @@ mod table_tests;
 #[cfg(test)]
 mod tests;
 mod words;
+#[cfg(test)]
+mod words_tests;
 
 pub use laws::{commands_go_by_name, runs_are_complete};
 use plan_desk::RealDesk;

@@ -2,7 +2,7 @@
 use crate::run::run_with;
 use crate::tests::{BANDED, BOTH, LATE, PLAIN, PLAIN_REPORT, desk, owned};
 use fixed_num::{Steps, Sum};
-use plan_desk::{DeskCall, MemDesk};
+use plan_desk::MemDesk;
 use quantile_index::{FlatRow, Row, TreeRow};
 use std::alloc::{AllocError, Global};
 use std::sync::ledger::Ledger;
@@ -48,7 +48,7 @@ impl Row for NoRow {
     ghost grows = { tt };
 }
 
-// A desk with the files I, P and S.
+/// A desk with the files I, P and S.
 fn scripted(
     alloc: Global,
     instance: &str,
@@ -60,7 +60,7 @@ fn scripted(
     Ok(desk)
 }
 
-// What the replay of a script says, with its status.
+/// What the replay of a script says, with its status.
 fn replays<R: Row>(alloc: Global, desk: &mut MemDesk) -> Result<(u8, Vec<u8>), AllocError> {
     let words = owned(alloc, &["replay", "I", "P", "S"])?;
     let status = run_with::<R, MemDesk>(alloc, &words, desk);
@@ -163,24 +163,5 @@ fn rows_hold_the_sums_of_a_descent(rt: HostRuntime) -> Result<(), Fail> {
     assert_eq!(rt; run_with::<NoRow, MemDesk>(alloc, &words, &mut desk), 11);
     assert_eq!(rt; desk.spoken(), b"refused memory\n".as_slice());
     assert!(rt; desk.file("C").is_none() && desk.file("M").is_none());
-    Ok(())
-}
-
-#[test]
-fn failed_calls_of_a_replay_are_told(rt: HostRuntime) -> Result<(), Fail> {
-    let alloc = rt.alloc();
-    for (call, nth, status, told) in [
-        (DeskCall::TakeIn, 3, 7, "refused read 4\n"),
-        (DeskCall::Read, 5, 7, "refused read 4\n"),
-        (DeskCall::Read, 6, 7, "refused read 4\n"),
-        (DeskCall::Say, 1, 8, ""),
-        (DeskCall::Say, 2, 8, "0 0 2000000000000000000\n"),
-    ] {
-        let mut desk = scripted(alloc, BANDED, BOTH, "swap I1 I2\nundo\n")?;
-        desk.fail_at(call, nth)?;
-        let (answer, said) = replays::<TreeRow>(alloc, &mut desk)?;
-        assert_eq!(rt; answer, status, "{call:?} {nth}");
-        assert_eq!(rt; said.as_slice(), told.as_bytes(), "{call:?} {nth}");
-    }
     Ok(())
 }

@@ -1,7 +1,6 @@
 //! Reports by period over files in memory.
 use crate::check_tests::WINTER;
 use crate::tests::{BANDED, BOTH, TIGHT, TOGETHER, desk, ran};
-use plan_desk::DeskCall;
 use std::test::Fail;
 
 /// Both in the second period.
@@ -70,68 +69,6 @@ fn periods_are_reported(rt: HostRuntime) -> Result<(), Fail> {
         let (answer, said) = ran(alloc, &["table", "I", "P", from, to, slack], &mut desk)?;
         assert_eq!(rt; answer, status, "{told}");
         assert_eq!(rt; said.as_slice(), told.as_bytes(), "{told}");
-    }
-    Ok(())
-}
-
-#[test]
-fn words_of_a_table_are_refused(rt: HostRuntime) -> Result<(), Fail> {
-    let alloc = rt.alloc();
-    let lists: [&[&str]; 12] = [
-        &["table", "I", "P", "2", "1"],
-        &["table", "I", "P", "0", "1"],
-        &["table", "I", "P", "1", "513"],
-        &["table", "I", "P", "01", "1"],
-        &["table", "I", "P", "1", "-1"],
-        &["table", "I", "P", "", "1"],
-        &["table", "I", "P", "1"],
-        &["table", "", "P", "1", "1"],
-        &["table", "I", "", "1", "1"],
-        &["table", "I", "P", "1", "1", "slack=1"],
-        &["table", "I", "P", "1", "1", "slack=0", "slack=0"],
-        &["solve", "I", "P", "1", "1"],
-    ];
-    for words in lists {
-        let mut desk = desk(alloc, BANDED, BOTH.as_bytes())?;
-        let (status, said) = ran(alloc, words, &mut desk)?;
-        assert_eq!(rt; status, 2, "{words:?}");
-        assert_eq!(rt; said.as_slice(), b"refused words\n".as_slice());
-    }
-    Ok(())
-}
-
-// The word `-` is the name of a file as any other.
-#[test]
-fn files_of_a_table_are_refused_in_order(rt: HostRuntime) -> Result<(), Fail> {
-    let alloc = rt.alloc();
-    for (instance, plan, words, status, line) in [
-        ("[]", "x", ["I", "none"], 3, "refused instance shape 0\n"),
-        (BANDED, "x", ["none", "P"], 7, "refused read 2\n"),
-        (BANDED, "x", ["I", "-"], 7, "refused read 3\n"),
-        (BANDED, "x", ["I", "P"], 4, "refused plan bad line 1\n"),
-    ] {
-        let mut desk = desk(alloc, instance, plan.as_bytes())?;
-        let (answer, said) = ran(alloc, &["table", words[0], words[1], "1", "1"], &mut desk)?;
-        assert_eq!(rt; answer, status, "{line}");
-        assert_eq!(rt; said.as_slice(), line.as_bytes(), "{line}");
-    }
-    Ok(())
-}
-
-#[test]
-fn failed_calls_of_a_table_are_told(rt: HostRuntime) -> Result<(), Fail> {
-    let alloc = rt.alloc();
-    for (call, nth, status, told) in [
-        (DeskCall::TakeIn, 2, 7, "refused read 3\n"),
-        (DeskCall::Read, 4, 7, "refused read 3\n"),
-        (DeskCall::Say, 1, 8, ""),
-        (DeskCall::Say, 2, 8, "period"),
-    ] {
-        let mut desk = desk(alloc, BANDED, BOTH.as_bytes())?;
-        desk.fail_at(call, nth)?;
-        let (answer, said) = ran(alloc, &["table", "I", "P", "1", "2"], &mut desk)?;
-        assert_eq!(rt; answer, status, "{call:?} {nth}");
-        assert_eq!(rt; said.as_slice(), told.as_bytes(), "{call:?} {nth}");
     }
     Ok(())
 }

@@ -1,6 +1,6 @@
 //! Runs over files in memory.
 use crate::run;
-use plan_desk::{DeskCall, MemDesk};
+use plan_desk::MemDesk;
 use std::alloc::{AllocError, Global};
 use std::test::Fail;
 
@@ -96,7 +96,7 @@ const NEGATIVE: &str = r#"{"Resources":{},"Seasons":{},
 "Quantile":1,"Alpha":1}"#;
 
 /// No interventions.
-const EMPTY: &str = r#"{"Resources":{},"Seasons":{},"Interventions":{},"Exclusions":{},
+pub(crate) const EMPTY: &str = r#"{"Resources":{},"Seasons":{},"Interventions":{},"Exclusions":{},
 "T":1,"Scenarios_number":[1],"Quantile":1,"Alpha":1}"#;
 
 /// Numbers as texts and with a point, a Delta that goes on past tmax, a season of all periods, and a key of no meaning.
@@ -161,7 +161,7 @@ pub(crate) fn owned(alloc: Global, list: &[&str]) -> Result<Vec<String>, AllocEr
     Ok(words)
 }
 
-// A desk with the files I and P.
+/// A desk with the files I and P.
 pub(crate) fn desk(alloc: Global, instance: &str, plan: &[u8]) -> Result<MemDesk, AllocError> {
     let mut desk = MemDesk::make(alloc);
     desk.put_file("I", instance.as_bytes())?;
@@ -169,7 +169,7 @@ pub(crate) fn desk(alloc: Global, instance: &str, plan: &[u8]) -> Result<MemDesk
     Ok(desk)
 }
 
-// The status of these words, and what was said.
+/// The status of these words, and what was said.
 pub(crate) fn ran(
     alloc: Global,
     words: &[&str],
@@ -350,7 +350,7 @@ fn each_fault_of_an_instance_is_told(rt: HostRuntime) -> Result<(), Fail> {
     Ok(())
 }
 
-// What is said of these bytes as an instance.
+/// What is said of these bytes as an instance.
 fn said_of(alloc: Global, instance: &[u8]) -> Result<Vec<u8>, AllocError> {
     let mut desk = MemDesk::make(alloc);
     desk.put_file("I", instance)?;
@@ -381,75 +381,6 @@ fn a_million_brackets_are_too_deep(rt: HostRuntime) -> Result<(), Fail> {
 }
 
 #[test]
-fn words_are_refused(rt: HostRuntime) -> Result<(), Fail> {
-    let alloc = rt.alloc();
-    let lists: [&[&str]; 18] = [
-        &[],
-        &["--help"],
-        &["evaluate", "I"],
-        &["evaluate", "", "P"],
-        &["evaluate", "I", ""],
-        &["evaluate", "I", "P", "slack=0.0011"],
-        &["evaluate", "I", "P", "slack=0."],
-        &["evaluate", "I", "P", "slack=00"],
-        &["evaluate", "I", "P", "slack=0.0000000000001"],
-        &["evaluate", "I", "P", "slack=0.00x"],
-        &["evaluate", "I", "P", "slack"],
-        &["evaluate", "slack=0", "I", "P", "P"],
-        &["judge", "I", "P"],
-        &["evaluate", "I", "P", "S"],
-        &["replay", "I", "P"],
-        &["replay", "I", "P", ""],
-        &["replay", "I", "P", "S", "slack=1"],
-        &["replay", "I", "P", "S", "slack=0", "S"],
-    ];
-    for words in lists {
-        let mut desk = desk(alloc, PLAIN, BOTH.as_bytes())?;
-        let (status, said) = ran(alloc, words, &mut desk)?;
-        assert_eq!(rt; status, 2);
-        assert_eq!(rt; said.as_slice(), b"refused words\n".as_slice());
-    }
-    Ok(())
-}
-
-#[test]
-fn files_are_refused(rt: HostRuntime) -> Result<(), Fail> {
-    let alloc = rt.alloc();
-    for (instance, plan, words, status, line) in [
-        (PLAIN, BOTH, ["I0", "P"], 7, "refused read 2\n"),
-        (PLAIN, BOTH, ["I", "P0"], 7, "refused read 3\n"),
-        ("", BOTH, ["I", "P0"], 3, "refused instance syntax 0\n"),
-        (
-            PLAIN,
-            "I1 1\nI1 2\n",
-            ["I", "P"],
-            4,
-            "refused plan twice 2\n",
-        ),
-        (
-            PLAIN,
-            "I3 1\n",
-            ["I", "P"],
-            4,
-            "refused plan unknown name 1\n",
-        ),
-        (
-            PLAIN,
-            "\nI1 one\n",
-            ["I", "P"],
-            4,
-            "refused plan bad line 2\n",
-        ),
-    ] {
-        let mut desk = desk(alloc, instance, plan.as_bytes())?;
-        let (answer, said) = ran(alloc, &["evaluate", words[0], words[1]], &mut desk)?;
-        assert_eq!(rt; answer, status, "{line}");
-        assert_eq!(rt; said.as_slice(), line.as_bytes());
-    }
-    Ok(())
-}
-
-#[test]
 fn long_plans_are_refused(rt: HostRuntime) -> Result<(), Fail> {
     let alloc = rt.alloc();
     let long = vec![in alloc; b' '; (1 << 24) + 1]?;
@@ -460,43 +391,7 @@ fn long_plans_are_refused(rt: HostRuntime) -> Result<(), Fail> {
     Ok(())
 }
 
-#[test]
-fn failed_calls_are_told(rt: HostRuntime) -> Result<(), Fail> {
-    let alloc = rt.alloc();
-    for (call, nth, status, line) in [
-        (DeskCall::TakeIn, 1, 7, "refused read 2\n"),
-        (DeskCall::Read, 1, 7, "refused read 2\n"),
-        (DeskCall::Read, 2, 7, "refused read 2\n"),
-        (DeskCall::TakeIn, 2, 7, "refused read 3\n"),
-        (DeskCall::Read, 3, 7, "refused read 3\n"),
-        (DeskCall::Read, 4, 7, "refused read 3\n"),
-        (DeskCall::Say, 1, 8, ""),
-        (DeskCall::Read, 5, 0, PLAIN_REPORT),
-    ] {
-        let mut desk = desk(alloc, PLAIN, BOTH.as_bytes())?;
-        desk.fail_at(call, nth)?;
-        let (answer, said) = ran(alloc, &["evaluate", "I", "P"], &mut desk)?;
-        assert_eq!(rt; answer, status, "{call:?} {nth}");
-        assert_eq!(rt; said.as_slice(), line.as_bytes(), "{call:?} {nth}");
-    }
-    Ok(())
-}
-
-#[test]
-fn a_refusal_that_is_not_said_is_told(rt: HostRuntime) -> Result<(), Fail> {
-    let alloc = rt.alloc();
-    let lists: [&[&str]; 2] = [&["x"], &["evaluate", "none", "P"]];
-    for words in lists {
-        let mut desk = desk(alloc, PLAIN, BOTH.as_bytes())?;
-        desk.fail_at(DeskCall::Say, 1)?;
-        let (status, said) = ran(alloc, words, &mut desk)?;
-        assert_eq!(rt; status, 8);
-        assert_eq!(rt; said.as_slice(), b"".as_slice());
-    }
-    Ok(())
-}
-
-// Where an allocation fails, the run says that memory ran out, or the desk fails to take what is said.
+/// Where an allocation fails, the run says that memory ran out, or the desk fails to take what is said.
 #[test]
 fn memory_may_run_out(rt: HostRuntime) -> Result<(), Fail> {
     let alloc = rt.alloc();
