@@ -1,4 +1,4 @@
-//! Certificates for changed bands: a certificate with the same splits and price lists that is valid for an instance.
+//! Certificates for changed bands: the same splits and price lists, made valid for an instance.
 //!
 //! A certificate that was made for an instance is in range for one with other bands. Each of its leaves becomes the
 //! first that is right for its box there, and the bound becomes the least of what the new leaves are worth. Worths,

@@ -48,7 +48,7 @@ pub fn read_entry(
     Ok(key)
 }
 
-// Sets the entry of a line, if it is one with its numbers in range.
+/// Sets the entry of a line, if it is one with its numbers in range.
 fn set_entry(
     alloc: Global,
     inst: &Instance,
@@ -129,7 +129,7 @@ fn set_tail(
     Ok(true)
 }
 
-// Numbers up to `most` as places.
+/// Numbers up to `most` as places.
 fn places_of(alloc: Global, numbers: &[u64], most: u32) -> Result<Places, AllocError>
     requires { All (λ k. k ≤ most) numbers.now }
     ensures { IfOk result (λ places. places ≡ numbers.now) }

@@ -50,7 +50,7 @@ fn is_tail(inst: &Instance, t: u32, weight: u64, places: &[u64]) -> bool
         && ascend_to(places, scenarios)
 }
 
-// Whether the numbers strictly ascend from 1 at least to `most` at most.
+/// Whether the numbers strictly ascend from 1 at least to `most` at most.
 fn ascend_to(places: &[u64], most: u32) -> bool
     ensures { IsTrue result ↔ (AscendAbove 0 places.now × All (λ k. k ≤ most) places.now) }
 {

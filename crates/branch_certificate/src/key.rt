@@ -29,7 +29,7 @@ impl EntryKey {
                 && (first < next_first || first == next_first && second < next_second)
     }
 
-    // The kind, counted from 1, and the two numbers.
+    /// The kind, counted from 1, and the two numbers.
     fn numbers(self) -> (u64, u64, u64)
         ensures kind { result.0 ≡ (key_view self).kind }
         ensures first { result.1 ≡ (key_view self).first }

@@ -41,7 +41,7 @@ pub fn read_lists(
     Ok(PriceLists::from_vec(lists))
 }
 
-// Reads a price list.
+/// Reads a price list.
 fn read_list(
     alloc: Global,
     inst: &Instance,
@@ -60,7 +60,7 @@ fn read_list(
     read_entries(alloc, inst, version, lines)
 }
 
-// Reads the entries of a price list that was begun.
+/// Reads the entries of a price list that was begun.
 fn read_entries(
     alloc: Global,
     inst: &Instance,

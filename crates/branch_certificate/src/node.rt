@@ -54,7 +54,7 @@ fn split_of(inst: &Instance, spans: &[Span], i: u64, last: u64) -> Result<Node, 
     })
 }
 
-// The start that a number is, if it is one of an interval before its end.
+/// The start that a number is, if it is one of an interval before its end.
 fn start_before_end(span: Span, n: u64) -> Option<u32>
     ensures start { IfSome result (λ start. start ≡ n) }
     ensures within { IfSome result (λ start. (span.from ≤ n) × (n < span.to)) }

@@ -36,7 +36,7 @@ pub fn read_nodes(
     Ok(Nodes::from_vec(nodes))
 }
 
-// Goes behind a node.
+/// Goes behind a node.
 fn pass_node(path: &mut BoxPath, node: Node) -> Result<(), AllocError>
     requires some { 0 < length path.old }
     requires divides { DividesBox (first_box path.old) node }
@@ -51,7 +51,7 @@ fn pass_node(path: &mut BoxPath, node: Node) -> Result<(), AllocError>
     }
 }
 
-// Reads the node of a box.
+/// Reads the node of a box.
 fn read_node(
     alloc: Global,
     inst: &Instance,

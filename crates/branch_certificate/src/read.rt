@@ -39,7 +39,7 @@ pub fn read_certificate(
     read_whole(alloc, inst, bytes)
 }
 
-// What is read is in range and spelled so, and each fault is the text's first.
+/// What is read is in range and spelled so, and each fault is the text's first.
 fn read_whole(alloc: Global, inst: &Instance, bytes: &[u8]) -> Result<Certificate, CertFault>
     ensures found { IfOk result (IsTextOf inst.now bytes.now) }
     ensures fault { IfErr result (HasFault inst.now bytes.now) }
@@ -50,7 +50,7 @@ fn read_whole(alloc: Global, inst: &Instance, bytes: &[u8]) -> Result<Certificat
     Ok(cert)
 }
 
-// Reads the lines of a certificate.
+/// Reads the lines of a certificate.
 fn read_lines(
     alloc: Global,
     inst: &Instance,

@@ -1,4 +1,4 @@
-//! The search over a tree of boxes: a certificate of a lower bound, and the best plan that was met on the way.
+//! The search over a tree of boxes: a certificate of a bound, and the best plan that was met.
 //!
 //! The leaf of least worth is split, until none is left whose worth is below the value of the best plan, or the turns
 //! are spent. A box that a `band`, an `excl` or an `empty` leaf refutes is closed by it, and one that is a single plan

@@ -1,5 +1,4 @@
-//! Certificates of a lower bound as trees of boxes: what a certificate is, when it is valid, and
-//! that a valid one bounds every feasible plan.
+//! Certificates as trees of boxes: when one is valid, and that it then bounds every feasible plan.
 //!
 //! A box has an interval of starts for each intervention. A node is a split of one interval into two, or a leaf that
 //! says why no plan of its box is feasible with a value below the bound. Interventions, resources and exclusions count

@@ -1,4 +1,4 @@
-//! The checker of certificates: whether a certificate is valid, and else which leaf is the first that doesn't hold.
+//! The checker of certificates: whether one is valid, else the first leaf that doesn't hold.
 //!
 //! One walk over the nodes, in which each leaf is tested on its box. No feasible plan has a value below the
 //! bound of a valid certificate, for any goal.

@@ -19,7 +19,7 @@ pub fn bound(rest: &[u8]) -> Option<CertificateLine>
     Some(CertificateLine::Bound(Bound::Least(least)))
 }
 
-// A number with a minus in front where it is below 0.
+/// A number with a minus in front where it is below 0.
 fn signed_number(text: &[u8]) -> Option<i128>
     ensures found { IfSome result (λ n. text.now ≡ signed_decimal n) }
     ensures small { IfSome result (λ n. unsigned_abs n < 10 ^ 37) }
@@ -31,7 +31,7 @@ fn signed_number(text: &[u8]) -> Option<i128>
     }
 }
 
-// The number below 0 that has these digits behind its minus.
+/// The number below 0 that has these digits behind its minus.
 fn negative(digits: &[u8]) -> Option<i128>
     ensures found { IfSome result (λ n. 45 ∷ digits.now ≡ signed_decimal n) }
     ensures small { IfSome result (λ n. unsigned_abs n < 10 ^ 37) }
@@ -44,7 +44,7 @@ fn negative(digits: &[u8]) -> Option<i128>
     Some(-(n as i128))
 }
 
-// The number from 0 on that has these digits.
+/// The number from 0 on that has these digits.
 fn natural(digits: &[u8]) -> Option<i128>
     ensures found { IfSome result (λ n. digits.now ≡ signed_decimal n) }
     ensures small { IfSome result (λ n. unsigned_abs n < 10 ^ 37) }
@@ -54,7 +54,7 @@ fn natural(digits: &[u8]) -> Option<i128>
     Some(n as i128)
 }
 
-// The number that at most 37 digits write without needless zeros in front.
+/// The number that at most 37 digits write without needless zeros in front.
 fn wide_numeral(bytes: &[u8]) -> Option<u128>
     ensures found { IfSome result (λ n. bytes.now ≡ decimal n) }
     ensures small { IfSome result (λ n. n < 10 ^ 37) }

@@ -26,7 +26,7 @@ pub fn tail(alloc: Global, rest: &[u8]) -> Result<Option<CertificateLine>, Alloc
     Ok(Some(CertificateLine::Tail { t, weight, places }))
 }
 
-// The ascending numbers that are all words of a text.
+/// The ascending numbers that are all words of a text.
 fn places_of(alloc: Global, text: &[u8]) -> Result<Option<Vec<u64>>, AllocError>
     requires { IsBreak text.now }
     ensures found { IfOk result (λ read. IfSome read (λ places. text.now ≡ words places.items)) }
@@ -51,7 +51,7 @@ fn places_of(alloc: Global, text: &[u8]) -> Result<Option<Vec<u64>>, AllocError>
     Ok(Some(places))
 }
 
-// Whether a number is above the last of some ascending numbers, and so above each.
+/// Whether a number is above the last of some ascending numbers, and so above each.
 fn is_above(place: u64, places: &[u64]) -> bool
     requires { AllPairs (λ k l. k < l) places.now }
     ensures { IsTrue result ↔ All (λ k. k < place) places.now }

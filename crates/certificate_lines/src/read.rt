@@ -30,7 +30,7 @@ pub fn line_of(alloc: Global, text: &[u8]) -> Result<Option<CertificateLine>, Al
     }
 }
 
-// The line of this keyword that goes on so.
+/// The line of this keyword that goes on so.
 fn line_behind(
     alloc: Global,
     keyword: Keyword,

@@ -32,7 +32,7 @@ pub fn write_tail<D: Desk>(t: u32, weight: u32, places: &[u32], desk: &mut D) ->
     write_all(desk, b"\n")
 }
 
-// The keyword that a line begins with.
+/// The keyword that a line begins with.
 fn keyword_of(line: &CertificateLine) -> Keyword
     ensures { result ≡ keyword_of line.now }
 {
@@ -55,7 +55,7 @@ fn keyword_of(line: &CertificateLine) -> Keyword
     }
 }
 
-// Writes what follows the keyword.
+/// Writes what follows the keyword.
 fn write_operands<D: Desk>(line: &CertificateLine, desk: &mut D) -> Result<(), Failed>
     requires opened { IsTrue (D.shows desk.old).output.opened }
     ensures { WritesText (operands line.now) (D.shows desk.old) (D.shows desk.new) result }
@@ -110,7 +110,7 @@ fn write_band<D: Desk>(c: u64, t: u64, side: Side, desk: &mut D) -> Result<(), F
     write_all(desk, side_bytes(side))
 }
 
-// A side behind a blank.
+/// A side behind a blank.
 fn side_bytes(side: Side) -> &'static [u8]
     ensures { result.now ≡ side_text side }
 {
@@ -133,7 +133,7 @@ fn write_pair_and_words<D: Desk>(
     write_words(places, desk)
 }
 
-// Writes numbers, each behind a blank.
+/// Writes numbers, each behind a blank.
 fn write_words<D: Desk>(numbers: &[u64], desk: &mut D) -> Result<(), Failed>
     requires opened { IsTrue (D.shows desk.old).output.opened }
     ensures { WritesText (words numbers.now) (D.shows desk.old) (D.shows desk.new) result }
@@ -144,7 +144,7 @@ fn write_words<D: Desk>(numbers: &[u64], desk: &mut D) -> Result<(), Failed>
     Ok(())
 }
 
-// The same of smaller numbers.
+/// The same of smaller numbers.
 fn write_places<D: Desk>(places: &[u32], desk: &mut D) -> Result<(), Failed>
     requires opened { IsTrue (D.shows desk.old).output.opened }
     ensures { WritesText (words places.now) (D.shows desk.old) (D.shows desk.new) result }
@@ -155,7 +155,7 @@ fn write_places<D: Desk>(places: &[u32], desk: &mut D) -> Result<(), Failed>
     Ok(())
 }
 
-// Writes a blank and a word.
+/// Writes a blank and a word.
 fn write_word<D: Desk>(bytes: &[u8], desk: &mut D) -> Result<(), Failed>
     requires opened { IsTrue (D.shows desk.old).output.opened }
     ensures { WritesText (32 ∷ bytes.now) (D.shows desk.old) (D.shows desk.new) result }

@@ -24,7 +24,7 @@ pub fn write_entries<D: Desk>(inst: &Instance, prices: &Prices, desk: &mut D) ->
     write_ex(prices.ex_prices(), desk)
 }
 
-// The prices on the upper or on the lower limits.
+/// The prices on the upper or on the lower limits.
 fn write_limits<D: Desk>(
     inst: &Instance,
     prices: &Prices,
@@ -43,7 +43,7 @@ fn write_limits<D: Desk>(
     Ok(())
 }
 
-// Those of one resource.
+/// Those of one resource.
 fn write_row<D: Desk>(
     inst: &Instance,
     prices: &Prices,
@@ -63,7 +63,7 @@ fn write_row<D: Desk>(
     Ok(())
 }
 
-// The one of a resource and a period, unless it is 0.
+/// The one of a resource and a period, unless it is 0.
 fn write_limit<D: Desk>(
     inst: &Instance,
     prices: &Prices,
@@ -107,7 +107,7 @@ fn write_tails<D: Desk>(inst: &Instance, prices: &Prices, desk: &mut D) -> Resul
     Ok(())
 }
 
-// The tail of a period, where there is one.
+/// The tail of a period, where there is one.
 fn write_tail_of<D: Desk>(
     inst: &Instance,
     prices: &Prices,

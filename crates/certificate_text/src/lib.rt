@@ -1,4 +1,4 @@
-//! The text of a certificate: the one text that each certificate has, and which line may stand where in it.
+//! The one text that each certificate has, and which line may stand where in it.
 //!
 //! Contracts see a text as the list of its bytes. `certificate_text` is the text of a certificate, and
 //! `Leads` says which lines may follow each other.

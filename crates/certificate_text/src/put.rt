@@ -16,7 +16,7 @@ pub fn put_line<D: Desk>(line: CertificateLine, desk: &mut D) -> Result<(), Fail
     write_line(&line, desk)
 }
 
-// The line of the price of a limit.
+/// The line of the price of a limit.
 pub fn limit_line(side: Side, c: u32, t: u32, v: u32) -> CertificateLine
     ensures { result ≡ limit_form side (c + 1) t v }
 {
@@ -29,7 +29,7 @@ pub fn limit_line(side: Side, c: u32, t: u32, v: u32) -> CertificateLine
     }
 }
 
-// The line of the price of an exclusion.
+/// The line of the price of an exclusion.
 pub fn line_of_ex(x: ExPrice) -> CertificateLine
     ensures { result ≡ ex_line x }
 {
@@ -40,7 +40,7 @@ pub fn line_of_ex(x: ExPrice) -> CertificateLine
     }
 }
 
-// The line of a node.
+/// The line of a node.
 pub fn line_of_node(node: Node) -> CertificateLine
     ensures { result ≡ node_line node }
 {

@@ -43,7 +43,7 @@ pub fn audit_files<D: Desk>(
     say_report(alloc, desk, report)
 }
 
-// Reads the instance, then the plan, then the certificate, and checks it.
+/// Reads the instance, then the plan, then the certificate, and checks it.
 fn audit<D: Desk>(
     alloc: Global,
     limits: &Limits,
@@ -71,7 +71,7 @@ fn audit<D: Desk>(
     }
 }
 
-// What is answered on the certificate.
+/// What is answered on the certificate.
 fn report_on(
     alloc: Global,
     inst: &Instance,

@@ -52,7 +52,7 @@ pub fn check_files<D: Desk>(
     say_report(alloc, desk, report)
 }
 
-// Reads the instance, then the plan if one is given, then the certificate, and checks it.
+/// Reads the instance, then the plan if one is given, then the certificate, and checks it.
 fn check_certificate<D: Desk>(
     alloc: Global,
     limits: &Limits,
@@ -81,7 +81,7 @@ fn check_certificate<D: Desk>(
     }
 }
 
-// What is answered on the plan, if one is given, and on the certificate.
+/// What is answered on the plan, if one is given, and on the certificate.
 fn report_on(
     alloc: Global,
     inst: &Instance,
@@ -102,7 +102,7 @@ fn report_on(
     }
 }
 
-// What the plan comes to, if one is given.
+/// What the plan comes to, if one is given.
 fn given_of(alloc: Global, inst: &Instance, plan: &Option<Plan>) -> Result<Given, AllocError>
     requires each { IfSome plan.now (λ p. length p ≡ length inst.now.names) }
     ensures { IfOk result (StandsAs inst.now plan.now) }
@@ -113,7 +113,7 @@ fn given_of(alloc: Global, inst: &Instance, plan: &Option<Plan>) -> Result<Given
     }
 }
 
-// What a plan comes to.
+/// What a plan comes to.
 fn judged(alloc: Global, inst: &Instance, plan: &Plan) -> Result<Given, AllocError>
     requires each { length plan.now ≡ length inst.now.names }
     ensures { IfOk result (StandsAs inst.now (Some plan.now)) }
@@ -127,7 +127,7 @@ fn judged(alloc: Global, inst: &Instance, plan: &Plan) -> Result<Given, AllocErr
     }
 }
 
-// What is answered on the certificate, where a plan that was given keeps the rules and has this score.
+/// What is answered on the certificate, where a plan that was given keeps the rules and has this score.
 fn report_kept(
     alloc: Global,
     inst: &Instance,

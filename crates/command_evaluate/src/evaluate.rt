@@ -30,7 +30,7 @@ pub fn evaluate_files<D: Desk>(alloc: Global, source: &Source<'_>, plan: &str, d
     say_report(alloc, desk, report)
 }
 
-// Reads the instance, then the plan, and judges it.
+/// Reads the instance, then the plan, and judges it.
 fn evaluate<D: Desk>(
     alloc: Global,
     limits: &Limits,
@@ -56,7 +56,7 @@ fn evaluate<D: Desk>(
     }
 }
 
-// The verdict on a plan as a report.
+/// The verdict on a plan as a report.
 fn report_on(alloc: Global, inst: &Instance, plan: &Plan) -> Result<Report, AllocError>
     requires { length plan.now ≡ length inst.now.names }
     ensures { IfOk result (λ report. Judges inst.now plan.now (reply report.status report.text)) }

@@ -31,7 +31,7 @@ fn push_told(line: &mut Text, fault: &InstanceFault) -> Result<(), AllocError>
     Ok(())
 }
 
-// What is wrong.
+/// What is wrong.
 fn words_of(fault: &InstanceFault) -> &'static str
     ensures { IfSome (fault_of fault.now) (λ told. result.now ≡ fault_words told) }
 {
@@ -55,7 +55,7 @@ fn words_of(fault: &InstanceFault) -> &'static str
     }
 }
 
-// Adds where it is.
+/// Adds where it is.
 fn push_place(line: &mut Text, fault: &InstanceFault) -> Result<(), AllocError>
     ensures { OnOk result (IfSome (fault_of fault.now) (λ told. line.new ≡ line.old ++ fault_place told)) }
 {
@@ -86,7 +86,7 @@ fn push_place(line: &mut Text, fault: &InstanceFault) -> Result<(), AllocError>
     }
 }
 
-// How a limit is called.
+/// How a limit is called.
 fn limit_word(which: Which) -> &'static str
     ensures { result.now ≡ limit_word which }
 {
@@ -123,7 +123,7 @@ fn push_number_and_text(line: &mut Text, n: u64, text: &str) -> Result<(), Alloc
     push_text(line, text)
 }
 
-// Adds an intervention, a period and a start.
+/// Adds an intervention, a period and a start.
 fn push_run(line: &mut Text, name: &str, period: u32, start: u32) -> Result<(), AllocError>
     ensures { OnOk result (line.new ≡ line.old ++ (then_text name.now ++ (then_number period ++ then_number start))) }
 {

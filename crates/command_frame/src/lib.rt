@@ -1,4 +1,4 @@
-//! The frame of all commands: their files are read, a report or a refusal is made, and what is due is said.
+//! The frame of all commands: files are read, reports and refusals are made, and said.
 //!
 //! A command is a crate above this one. It reads its files by `instance_of`, `plan_of` and their like, writes files, if
 //! it does, by `put_plan` and its like, and says what is due by `say_report` or its parts. `Ends` states how a run

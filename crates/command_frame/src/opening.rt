@@ -29,7 +29,7 @@ pub fn opening_of(alloc: Global, inst: &Instance, plan: &Plan) -> Result<Opening
     }
 }
 
-// The starts of a plan; 0 where there is none.
+/// The starts of a plan; 0 where there is none.
 fn starts_of(alloc: Global, plan: &[Option<u32>]) -> Result<Vec<u32>, AllocError>
     ensures { IfOk result (λ starts. starts.items ≡ map (λ start. unwrap_or start 0) plan.now) }
 {

@@ -51,8 +51,8 @@ pub fn instance_of<D: Desk>(
     }
 }
 
-// The bytes of the file of this name, which is this word of the command line. `long` refuses it where it has more than
-// `most`.
+/// The bytes of the file of this name, which is this word of the command line. `long` refuses it where it has more than
+/// `most`.
 fn bytes_of<D: Desk>(
     alloc: Global,
     name: &str,

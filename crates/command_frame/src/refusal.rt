@@ -86,7 +86,7 @@ impl Refusal {
     }
 }
 
-// Adds the line of a plan's fault.
+/// Adds the line of a plan's fault.
 fn push_plan_fault(line: &mut Text, fault: PlanFault) -> Result<(), AllocError>
     ensures { OnOk result (line.new ≡ line.old ++ plan_fault_line fault) }
 {
@@ -98,7 +98,7 @@ fn push_plan_fault(line: &mut Text, fault: PlanFault) -> Result<(), AllocError>
     }
 }
 
-// Adds the line of a script's fault.
+/// Adds the line of a script's fault.
 fn push_script_fault(line: &mut Text, fault: ScriptFault) -> Result<(), AllocError>
     ensures { OnOk result (line.new ≡ line.old ++ script_fault_line fault) }
 {
@@ -109,7 +109,7 @@ fn push_script_fault(line: &mut Text, fault: ScriptFault) -> Result<(), AllocErr
     }
 }
 
-// Adds the line of a certificate's fault.
+/// Adds the line of a certificate's fault.
 fn push_certificate_fault(line: &mut Text, fault: CertFault) -> Result<(), AllocError>
     ensures { OnOk result (line.new ≡ line.old ++ certificate_fault_line fault) }
 {

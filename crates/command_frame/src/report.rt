@@ -75,7 +75,7 @@ fn push_bound(text: &mut Text, inst: &Instance, bound: Bound) -> Result<(), Allo
     }
 }
 
-// A bound on scores as a bound on the cost, in counts of 10^-12, rounded down.
+/// A bound on scores as a bound on the cost, in counts of 10^-12, rounded down.
 fn cost_of(inst: &Instance, least: i128) -> i128
     requires { unsigned_abs least ≤ 10 ^ 36 }
     ensures { result ≡ bound_cost inst.now least }
@@ -83,7 +83,7 @@ fn cost_of(inst: &Instance, least: i128) -> i128
     floor_div(least, i128::from(inst.periods()) * 1_000_000)
 }
 
-// Adds the lines of a bound that is a number.
+/// Adds the lines of a bound that is a number.
 fn push_least(text: &mut Text, least: i128, cost: i128) -> Result<(), AllocError>
     ensures { OnOk result (text.new ≡ text.old ++ bound_lines least cost) }
 {
@@ -116,7 +116,7 @@ fn push_cost_line(text: &mut Text, cost: i128) -> Result<(), AllocError>
     push_fixed_line(text, "bound-cost ", cost)
 }
 
-// Adds a count of 10^-12 behind a word.
+/// Adds a count of 10^-12 behind a word.
 fn push_fixed_line(text: &mut Text, word: &str, n: i128) -> Result<(), AllocError>
     ensures { OnOk result (text.new ≡ text.old ++ fixed_line word.now n) }
 {
@@ -125,7 +125,7 @@ fn push_fixed_line(text: &mut Text, word: &str, n: i128) -> Result<(), AllocErro
     text.push("\n")
 }
 
-// Adds the score of a plan that was given, and how far it is above the bound.
+/// Adds the score of a plan that was given, and how far it is above the bound.
 fn push_gap(text: &mut Text, bound: Bound, score: Option<i128>) -> Result<(), AllocError>
     requires bound { IsBoundInRange bound }
     requires score { IfSome score (λ z. unsigned_abs z < 10 ^ 36) }
@@ -228,7 +228,7 @@ fn push_rule(text: &mut Text, inst: &Instance, rule: &Rule) -> Result<(), AllocE
     }
 }
 
-// Adds a rule's code, a name and a number.
+/// Adds a rule's code, a name and a number.
 fn push_numbered(text: &mut Text, code: &str, name: &str, n: u32) -> Result<(), AllocError>
     ensures { OnOk result (text.new ≡ text.old ++ numbered code.now name.now n) }
 {
@@ -238,7 +238,7 @@ fn push_numbered(text: &mut Text, code: &str, name: &str, n: u32) -> Result<(), 
     text.push_number(n.into())
 }
 
-// Adds a rule's code, a resource and a period, and the load there with its limit.
+/// Adds a rule's code, a resource and a period, and the load there with its limit.
 fn push_band(
     text: &mut Text,
     code: &str,
@@ -253,7 +253,7 @@ fn push_band(
     push_pair(text, load, limit)
 }
 
-// Adds two counts of 10^-12.
+/// Adds two counts of 10^-12.
 fn push_pair(text: &mut Text, first: i128, second: i128) -> Result<(), AllocError>
     ensures { OnOk result (text.new ≡ text.old ++ pair_text first second) }
 {

@@ -1,5 +1,4 @@
-//! The command `rebound`: a certificate that was made for an instance with other bands becomes one that is valid for
-//! this instance, and is written to a file.
+//! The command `rebound`: a certificate for other bands becomes one for these, and is written.
 //!
 //! `RunsRebound` states what a run promises, by what the desk shows before and after it.
 #![tactic(auto)]

@@ -29,7 +29,7 @@ pub(crate) fn make(alloc: Global, inst: &Instance, cert: &Certificate) -> Result
     Ok(Made { rebounded, report })
 }
 
-// The report on the new certificate.
+/// The report on the new certificate.
 fn report_on(alloc: Global, inst: &Instance, rebounded: &Rebounded) -> Result<Text, AllocError>
     ensures { IfOk result (λ text. text ≡ rebound_report inst.now rebounded.now) }
 {

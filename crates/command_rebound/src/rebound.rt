@@ -52,7 +52,7 @@ pub fn rebound_files<D: Desk>(
     }
 }
 
-// Reads the instance, then the certificate.
+/// Reads the instance, then the certificate.
 fn read_files<D: Desk>(
     alloc: Global,
     limits: &Limits,
@@ -76,7 +76,7 @@ fn read_files<D: Desk>(
     Ok(Files { inst, cert })
 }
 
-// Makes what the certificate becomes, and tells it.
+/// Makes what the certificate becomes, and tells it.
 fn rebound_read<D: Desk>(
     alloc: Global,
     limits: &Limits,
@@ -95,7 +95,7 @@ fn rebound_read<D: Desk>(
     }
 }
 
-// Refuses a text that is too long, or writes it and says the report. Takes no memory.
+/// Refuses a text that is too long, or writes it and says the report. Takes no memory.
 fn tell<D: Desk>(limits: &Limits, files: &Files, made: &Made, out: &str, desk: &mut D) -> u8
     requires bytes { limits.now.certificate_bytes ≤ standard_limits.certificate_bytes }
     requires made { IsMade files.now.inst files.now.cert made.now }

@@ -1,4 +1,4 @@
-//! The command `rehearse`: an instance that is drawn from a number is planned and bounded, and a summary is said.
+//! The command `rehearse`: a drawn instance is planned and bounded, and a summary is said.
 //!
 //! `RunsRehearse` states what a run promises, by what the desk shows before and after it.
 #![tactic(auto)]

@@ -27,7 +27,7 @@ pub fn rehearse_drawn<R: Row, D: Desk>(alloc: Global, seed: u64, count: u32, des
     }
 }
 
-// The text of the summary.
+/// The text of the summary.
 fn summary_of<R: Row>(alloc: Global, seed: u64, count: u32) -> Result<Text, AllocError>
     requires from { 1 ≤ count }
     requires to { count ≤ 200 }

@@ -39,7 +39,7 @@ pub(crate) fn summary_text(alloc: Global, summary: Summary) -> Result<Text, Allo
     Ok(text)
 }
 
-// Adds the lines of the instance and its opening plan.
+/// Adds the lines of the instance and its opening plan.
 fn push_opening(text: &mut Text, summary: Summary) -> Result<(), AllocError>
     ensures { OnOk result (text.new ≡ text.old ++ opening_lines summary) }
 {
@@ -48,7 +48,7 @@ fn push_opening(text: &mut Text, summary: Summary) -> Result<(), AllocError>
     Ok(())
 }
 
-// Adds those of the descent, and of the way back.
+/// Adds those of the descent, and of the way back.
 fn push_descent(text: &mut Text, summary: Summary) -> Result<(), AllocError>
     ensures { OnOk result (text.new ≡ text.old ++ descent_lines summary) }
 {
@@ -57,7 +57,7 @@ fn push_descent(text: &mut Text, summary: Summary) -> Result<(), AllocError>
     push_key(text, "undone", summary.undone)
 }
 
-// Adds those of the certificate, and of rounding.
+/// Adds those of the certificate, and of rounding.
 fn push_bounding(text: &mut Text, summary: Summary) -> Result<(), AllocError>
     ensures { OnOk result (text.new ≡ text.old ++ bound_lines summary) }
 {
@@ -66,7 +66,7 @@ fn push_bounding(text: &mut Text, summary: Summary) -> Result<(), AllocError>
     push_rounded(text, summary.rounded)
 }
 
-// Adds a word and a key.
+/// Adds a word and a key.
 fn push_key(text: &mut Text, word: &str, key: Key) -> Result<(), AllocError>
     ensures { OnOk result (text.new ≡ text.old ++ key_line word.now key) }
 {

@@ -16,7 +16,7 @@ pub(crate) fn undo_all<R: Row>(kept: &mut Kept<'_, R>, changes: usize)
     undo_on::<R, Brand>(kept, changes, Blank::new(1));
 }
 
-// The same, with its steps counted on the ledger that the blank becomes.
+/// The same, with its steps counted on the ledger that the blank becomes.
 fn undo_on<R: Row, L: Ledger>(kept: &mut Kept<'_, R>, changes: usize, blank: Blank)
     requires name { blank.name ≡ L.name }
     requires parts { blank.parts ≡ L.parts }

@@ -1,5 +1,5 @@
-//! The command `repair`: a plan with few changes from an old one and a certificate of how many are needed are made,
-//! written, and reported.
+//! The command `repair`: a plan with few changes is made, with a certificate of how many it needs. Both are written,
+//! and reported.
 //!
 //! `RunsRepair` states what a run promises, by what the desk shows before and after it.
 #![tactic(auto)]

@@ -62,7 +62,7 @@ pub fn repair_files<R: Row, D: Desk>(
     }
 }
 
-// Reads the instance, then the plan.
+/// Reads the instance, then the plan.
 fn read_files<D: Desk>(
     alloc: Global,
     limits: &Limits,
@@ -85,7 +85,7 @@ fn read_files<D: Desk>(
     Ok(Files { inst, plan })
 }
 
-// Makes the solution of what was read, writes it, and says the report.
+/// Makes the solution of what was read, writes it, and says the report.
 fn repair_read<R: Row, D: Desk>(
     alloc: Global,
     read: &Files,
@@ -103,7 +103,7 @@ fn repair_read<R: Row, D: Desk>(
     }
 }
 
-// Writes a solution, and says its report. Takes no memory.
+/// Writes a solution, and says its report. Takes no memory.
 fn tell<D: Desk>(inst: &Instance, files: &RepairFiles<'_>, solution: &Solution, desk: &mut D) -> u8
     requires { IsWritable inst.now solution.now }
     ensures { TellsAnswer (answer_of inst.now (files_view files.now) solution.now) (D.shows desk.old)
@@ -113,7 +113,7 @@ fn tell<D: Desk>(inst: &Instance, files: &RepairFiles<'_>, solution: &Solution, 
     say_written(desk, wrote, &solution.report)
 }
 
-// Writes the certificate and, if there is one, the plan. The error is the word of the file that could not be written.
+/// Writes the certificate and, if there is one, the plan. The error is the word of the file that could not be written.
 fn write_files<D: Desk>(
     inst: &Instance,
     files: &RepairFiles<'_>,
@@ -134,7 +134,7 @@ fn write_files<D: Desk>(
     }
 }
 
-// Writes the plan.
+/// Writes the plan.
 fn write_out<D: Desk>(
     inst: &Instance,
     files: &RepairFiles<'_>,

@@ -61,7 +61,7 @@ pub(crate) fn none_text(
     Ok(text)
 }
 
-// Adds the last lines of each report.
+/// Adds the last lines of each report.
 fn push_counts(
     text: &mut Text,
     inst: &Instance,

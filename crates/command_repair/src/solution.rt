@@ -44,7 +44,7 @@ pub(crate) fn solution_of<R: Row>(
     }
 }
 
-// The solution that a repair from this opening makes.
+/// The solution that a repair from this opening makes.
 fn solution_from<R: Row>(
     alloc: Global,
     inst: &Instance,
@@ -70,7 +70,7 @@ fn solution_from<R: Row>(
     })
 }
 
-// The report on a plan, if there is one, and a certificate.
+/// The report on a plan, if there is one, and a certificate.
 fn report_on(
     alloc: Global,
     inst: &Instance,
@@ -105,7 +105,7 @@ fn report_on(
     }
 }
 
-// The solution where this intervention is the first without an allowed start.
+/// The solution where this intervention is the first without an allowed start.
 fn startless(
     alloc: Global,
     inst: &Instance,

@@ -49,7 +49,7 @@ pub fn replay_files<R: Row, D: Desk>(
     }
 }
 
-// Reads the three files.
+/// Reads the three files.
 fn read_files<D: Desk>(
     alloc: Global,
     limits: &Limits,
@@ -75,7 +75,7 @@ fn read_files<D: Desk>(
     Ok(Files { inst, plan, script })
 }
 
-// Replays what was read.
+/// Replays what was read.
 fn replay_read<R: Row, D: Desk>(alloc: Global, files: &Files, desk: &mut D) -> u8
     requires each { length files.now.plan ≡ length files.now.inst.names }
     requires known { All (NamesKnown files.now.inst) files.now.script }
@@ -92,7 +92,7 @@ fn replay_read<R: Row, D: Desk>(alloc: Global, files: &Files, desk: &mut D) -> u
     }
 }
 
-// Replays a script from these starts, and says how it ended.
+/// Replays a script from these starts, and says how it ended.
 fn replay_from<R: Row, D: Desk>(
     alloc: Global,
     inst: &Instance,

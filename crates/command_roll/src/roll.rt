@@ -72,7 +72,7 @@ pub fn roll_files<D: Desk>(
     }
 }
 
-// Reads the instance, then the plan, and makes the report.
+/// Reads the instance, then the plan, and makes the report.
 fn roll<D: Desk>(
     alloc: Global,
     limits: &Limits,
@@ -109,7 +109,7 @@ fn roll<D: Desk>(
     }
 }
 
-// What is answered to an instance and a plan.
+/// What is answered to an instance and a plan.
 fn outcome_of(
     alloc: Global,
     limits: &Limits,
@@ -132,7 +132,7 @@ fn outcome_of(
     Ok(Outcome::Rolled(rolled_text(alloc, inst, plan.as_slice(), period)?))
 }
 
-// Writes the file, if there is one to write, and says what is answered. Takes no memory.
+/// Writes the file, if there is one to write, and says what is answered. Takes no memory.
 fn tell<D: Desk>(files: &RollFiles<'_>, rolling: &Rolling, period: u32, desk: &mut D) -> u8
     requires { length rolling.now.plan ≡ length rolling.now.inst.names }
     ensures { TellsAnswer
@@ -146,7 +146,7 @@ fn tell<D: Desk>(files: &RollFiles<'_>, rolling: &Rolling, period: u32, desk: &m
     }
 }
 
-// Writes the text of the rolled instance, and says the report.
+/// Writes the text of the rolled instance, and says the report.
 fn write_out<D: Desk>(
     files: &RollFiles<'_>,
     rolling: &Rolling,
@@ -165,7 +165,7 @@ fn write_out<D: Desk>(
     }
 }
 
-// Writes the text of the rolled instance as the file of this name. Takes no memory.
+/// Writes the text of the rolled instance as the file of this name. Takes no memory.
 fn put_rolled<D: Desk>(
     inst: &Instance,
     plan: &[Option<u32>],

@@ -1,4 +1,4 @@
-//! The command `solve`: a plan, a certificate and a trail are made of an instance, written, and reported.
+//! The command `solve`: a plan, a certificate and a trail are made, written, and reported.
 //!
 //! `RunsSolve` states what a run promises, by what the desk shows before and after it.
 #![tactic(auto)]

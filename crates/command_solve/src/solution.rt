@@ -45,7 +45,7 @@ pub(crate) fn solution_of<R: Row>(
     }
 }
 
-// The solution that a descent from this plan and a search make.
+/// The solution that a descent from this plan and a search make.
 fn solution_from<R: Row>(
     alloc: Global,
     inst: &Instance,
@@ -73,7 +73,7 @@ fn solution_from<R: Row>(
     })
 }
 
-// The report on the answer of a search behind these changes.
+/// The report on the answer of a search behind these changes.
 fn report_on(
     alloc: Global,
     inst: &Instance,
@@ -101,7 +101,7 @@ fn report_on(
     }
 }
 
-// The report on a plan that was found.
+/// The report on a plan that was found.
 fn report_plan(
     alloc: Global,
     inst: &Instance,
@@ -124,7 +124,7 @@ fn report_plan(
     }
 }
 
-// The solution where this intervention is the first without an allowed start.
+/// The solution where this intervention is the first without an allowed start.
 fn startless(alloc: Global, inst: &Instance, i: u32) -> Result<Solution, AllocError>
     requires { IsWithoutStart inst.now i }
     ensures { IfOk result (λ solution. (turns : ℕ) → IsSolution inst.now turns solution) }

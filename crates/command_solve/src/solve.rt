@@ -49,7 +49,7 @@ pub fn solve_files<R: Row, D: Desk>(
     }
 }
 
-// Makes the solution of an instance, writes it, and says the report.
+/// Makes the solution of an instance, writes it, and says the report.
 fn solve_instance<R: Row, D: Desk>(
     alloc: Global,
     inst: &Instance,
@@ -66,7 +66,7 @@ fn solve_instance<R: Row, D: Desk>(
     }
 }
 
-// Writes a solution, and says its report. Takes no memory.
+/// Writes a solution, and says its report. Takes no memory.
 fn tell<D: Desk>(inst: &Instance, files: &SolveFiles<'_>, solution: &Solution, desk: &mut D) -> u8
     requires { IsWritable inst.now solution.now }
     ensures { TellsAnswer (answer_of inst.now (files_view files.now) solution.now) (D.shows desk.old)
@@ -76,8 +76,8 @@ fn tell<D: Desk>(inst: &Instance, files: &SolveFiles<'_>, solution: &Solution, d
     say_written(desk, wrote, &solution.report)
 }
 
-// Writes the certificate, the trail and, if there is one, the plan. The error is the word of the file that could not be
-// written.
+/// Writes the certificate, the trail and, if there is one, the plan. The error is the word of the file that could not be
+/// written.
 fn write_files<D: Desk>(
     inst: &Instance,
     files: &SolveFiles<'_>,
@@ -102,7 +102,7 @@ fn write_files<D: Desk>(
     }
 }
 
-// Writes the plan.
+/// Writes the plan.
 fn write_best<D: Desk>(
     inst: &Instance,
     files: &SolveFiles<'_>,

@@ -53,7 +53,7 @@ pub fn table_files<D: Desk>(
     }
 }
 
-// Reads both files. The answer that is due where one is refused is the same for all periods.
+/// Reads both files. The answer that is due where one is refused is the same for all periods.
 fn read_files<D: Desk>(
     alloc: Global,
     limits: &Limits,
@@ -77,7 +77,7 @@ fn read_files<D: Desk>(
     Ok(Files { inst, plan })
 }
 
-// Reports what was read.
+/// Reports what was read.
 fn table_read<D: Desk>(alloc: Global, files: &Files, from: u32, to: u32, desk: &mut D) -> u8
     requires each { length files.now.plan ≡ length files.now.inst.names }
     requires first { 1 ≤ from }
@@ -94,7 +94,7 @@ fn table_read<D: Desk>(alloc: Global, files: &Files, from: u32, to: u32, desk: &
     }
 }
 
-// Makes the reports of these starts, and says them.
+/// Makes the reports of these starts, and says them.
 fn table_from<D: Desk>(
     alloc: Global,
     inst: &Instance,
@@ -115,7 +115,7 @@ fn table_from<D: Desk>(
     }
 }
 
-// The reports of the periods from `from` to `to`, or to the horizon where that comes before.
+/// The reports of the periods from `from` to `to`, or to the horizon where that comes before.
 fn reports_of(
     alloc: Global,
     inst: &Instance,
@@ -137,7 +137,7 @@ fn reports_of(
     Ok(reports)
 }
 
-// Says a table.
+/// Says a table.
 fn say_table<D: Desk>(inst: &Instance, reports: &[PeriodReport], desk: &mut D) -> u8
     requires { All (NamesWithin inst.now) reports.now }
     ensures ends { SaysOrFails 0 (table_text inst.now reports.now) (D.shows desk.old) (D.shows desk.new) result }
@@ -149,7 +149,7 @@ fn say_table<D: Desk>(inst: &Instance, reports: &[PeriodReport], desk: &mut D) -
     }
 }
 
-// Says the reports, their number, and how many numbers of the instance were changed by rounding.
+/// Says the reports, their number, and how many numbers of the instance were changed by rounding.
 fn say_lines<D: Desk>(inst: &Instance, reports: &[PeriodReport], desk: &mut D) -> Result<(), Failed>
     requires { All (NamesWithin inst.now) reports.now }
     ensures { SaysText (table_text inst.now reports.now) (D.shows desk.old) (D.shows desk.new) result }

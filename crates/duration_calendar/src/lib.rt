@@ -1,4 +1,4 @@
-//! The calendar of an instance: runs as windows of periods, allowed starts, and periods that two runs share.
+//! The calendar of an instance: runs as windows, allowed starts, periods that two runs share.
 //!
 //! Periods and starts count from 1. No call takes memory.
 #![tactic(auto)]

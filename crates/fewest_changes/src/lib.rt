@@ -1,5 +1,5 @@
-//! The search for a plan with the fewest changes from old starts: a plan of which no change can go back alone, and a
-//! certificate of how many starts every plan changes at least.
+//! A plan with few changes from old starts, and a certificate of how many every plan has. No change of it can go back
+//! alone.
 //!
 //! Interventions count from 0, and starts count from 1. One change is worth 10^18.
 #![tactic(auto)]

@@ -1,4 +1,4 @@
-//! Instances of the maintenance problem as tables, and the definitions on plans: rules, values, keys and neighbours.
+//! Instances as tables, and the definitions on plans: rules, values, keys and neighbours.
 //!
 //! A contract sees an `Instance` as a record of lists, and reads it through functions of the tables. Periods, starts
 //! and scenarios count from 1; interventions, resources, seasons and exclusions count from 0.

@@ -1,4 +1,4 @@
-//! From the rows that a reader keeps of a file to the instance that they define, or to the first fault across the file.
+//! From the rows of a file to the instance that they define, or its first fault across the file.
 #![tactic(auto)]
 
 mod assembly;

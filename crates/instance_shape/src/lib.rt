@@ -1,5 +1,5 @@
-//! The instance that a JSON text stands for: what stands where in the text, the faults
-//! of its shape and across it, and its tables.
+//! The instance that a JSON text stands for: what stands where, its faults, and its tables. Faults are of the shape, or
+//! across the file.
 #![tactic(auto)]
 
 mod fault;

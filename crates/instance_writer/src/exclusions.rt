@@ -38,7 +38,7 @@ fn put_exclusion<S: Sink>(inst: &Instance, e: u32, first: bool, sink: &mut S)
     put_exclusion_words(inst, e, sink);
 }
 
-// The names of the two interventions and of the season.
+/// The names of the two interventions and of the season.
 fn put_exclusion_words<S: Sink>(inst: &Instance, e: u32, sink: &mut S)
     requires ready { S.IsReady sink.old }
     requires number { e < length inst.now.exclusion_names }

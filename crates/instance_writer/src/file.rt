@@ -31,7 +31,7 @@ impl<'a, D: Desk> OpenFile<'a, D> {
         }
     }
 
-    // Writes what is kept, and then the piece.
+    /// Writes what is kept, and then the piece.
     fn write_out(&mut self, piece: &[u8])
         requires opened { IsTrue (D.shows self.old.desk.now).output.opened }
         requires good { self.old.failed ≡ false }

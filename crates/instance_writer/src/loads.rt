@@ -43,7 +43,7 @@ fn load_at<V: InstanceView>(view: &V, i: u32, s: u32, c: u32, t: u32) -> Option<
     }
 }
 
-// Whether intervention `i` has a workload of resource `c` in period `t`.
+/// Whether intervention `i` has a workload of resource `c` in period `t`.
 fn has_load_in<V: InstanceView>(view: &V, i: u32, c: u32, t: u32) -> bool
     requires shown { IsViewOf (V.base view.now) (V.tables view.now) }
     requires number { i < length (V.base view.now).names }
@@ -58,7 +58,7 @@ fn has_load_in<V: InstanceView>(view: &V, i: u32, c: u32, t: u32) -> bool
     false
 }
 
-// Whether intervention `i` has a workload of resource `c`.
+/// Whether intervention `i` has a workload of resource `c`.
 fn has_load<V: InstanceView>(view: &V, i: u32, c: u32) -> bool
     requires shown { IsViewOf (V.base view.now) (V.tables view.now) }
     requires number { i < length (V.base view.now).names }
@@ -89,7 +89,7 @@ pub fn put_workload<V: InstanceView, N: Numerals, S: Sink>(view: &V, i: u32, sin
     sink.put(b"}");
 }
 
-// Those of resource `c`, if there is one. Says whether the next field would be the first.
+/// Those of resource `c`, if there is one. Says whether the next field would be the first.
 fn put_resource_loads<V: InstanceView, N: Numerals, S: Sink>(
     view: &V,
     i: u32,
@@ -117,7 +117,7 @@ fn put_resource_loads<V: InstanceView, N: Numerals, S: Sink>(
     false
 }
 
-// Those of resource `c`, by period and start.
+/// Those of resource `c`, by period and start.
 fn put_periods_of<V: InstanceView, N: Numerals, S: Sink>(view: &V, i: u32, c: u32, sink: &mut S)
     requires ready { S.IsReady sink.old }
     requires shown { IsViewOf (V.base view.now) (V.tables view.now) }
@@ -136,7 +136,7 @@ fn put_periods_of<V: InstanceView, N: Numerals, S: Sink>(view: &V, i: u32, c: u3
     sink.put(b"}");
 }
 
-// Those in period `t`, if there is one. Says whether the next field would be the first.
+/// Those in period `t`, if there is one. Says whether the next field would be the first.
 fn put_period_loads<V: InstanceView, N: Numerals, S: Sink>(
     view: &V,
     i: u32,
@@ -164,7 +164,7 @@ fn put_period_loads<V: InstanceView, N: Numerals, S: Sink>(
     false
 }
 
-// Those of resource `c` in period `t`, by start.
+/// Those of resource `c` in period `t`, by start.
 fn put_starts_of<V: InstanceView, N: Numerals, S: Sink>(
     view: &V,
     i: u32,
@@ -189,7 +189,7 @@ fn put_starts_of<V: InstanceView, N: Numerals, S: Sink>(
     sink.put(b"}");
 }
 
-// That at start `s`, if there is one. Says whether the next field would be the first.
+/// That at start `s`, if there is one. Says whether the next field would be the first.
 fn put_load<V: InstanceView, N: Numerals, S: Sink>(
     view: &V,
     i: u32,

@@ -22,7 +22,7 @@ use instance_model::{Instance, RiskNumbers};
 use std::marker::Brand;
 use std::sync::ledger::{Blank, Ledger};
 
-// The risks of a start in a period, read on a new ledger.
+/// The risks of a start in a period, read on a new ledger.
 fn risks_on<L: Ledger>(inst: &Instance, i: u32, s: u32, t: u32, blank: Blank) -> RiskNumbers<'_>
     requires name { blank.name ≡ L.name }
     requires parts { blank.parts ≡ L.parts }
@@ -38,7 +38,7 @@ fn risks_on<L: Ledger>(inst: &Instance, i: u32, s: u32, t: u32, blank: Blank) ->
     inst.risks(i, s, t, &mut steps)
 }
 
-// Whether intervention `i` has risks in period `t`.
+/// Whether intervention `i` has risks in period `t`.
 fn has_risks_in<V: InstanceView>(view: &V, i: u32, t: u32) -> bool
     requires shown { IsViewOf (V.base view.now) (V.tables view.now) }
     requires number { i < length (V.base view.now).names }
@@ -68,7 +68,7 @@ pub fn put_risk<V: InstanceView, N: Numerals, S: Sink>(view: &V, i: u32, sink: &
     sink.put(b"}");
 }
 
-// Those in period `t`, if there are any. Says whether the next field would be the first.
+/// Those in period `t`, if there are any. Says whether the next field would be the first.
 fn put_period_risks<V: InstanceView, N: Numerals, S: Sink>(
     view: &V,
     i: u32,
@@ -96,7 +96,7 @@ fn put_period_risks<V: InstanceView, N: Numerals, S: Sink>(
     false
 }
 
-// Those in period `t`, by start and scenario.
+/// Those in period `t`, by start and scenario.
 fn put_starts<V: InstanceView, N: Numerals, S: Sink>(view: &V, i: u32, t: u32, sink: &mut S)
     requires ready { S.IsReady sink.old }
     requires shown { IsViewOf (V.base view.now) (V.tables view.now) }
@@ -116,7 +116,7 @@ fn put_starts<V: InstanceView, N: Numerals, S: Sink>(view: &V, i: u32, t: u32, s
     sink.put(b"}");
 }
 
-// Those at start `s`, if its run holds the period. Says whether the next field would be the first.
+/// Those at start `s`, if its run holds the period. Says whether the next field would be the first.
 fn put_start_risks<V: InstanceView, N: Numerals, S: Sink>(
     view: &V,
     i: u32,
@@ -147,7 +147,7 @@ fn put_start_risks<V: InstanceView, N: Numerals, S: Sink>(
     false
 }
 
-// The risks of a start in a period of its run, by scenario.
+/// The risks of a start in a period of its run, by scenario.
 fn risks_of_run<V: InstanceView>(view: &V, i: u32, s: u32, t: u32) -> RiskNumbers<'_>
     requires shown { IsViewOf (V.base view.now) (V.tables view.now) }
     requires number { i < length (V.base view.now).names }

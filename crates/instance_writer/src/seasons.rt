@@ -52,7 +52,7 @@ fn put_season_periods<S: Sink>(inst: &Instance, q: u32, sink: &mut S)
     sink.put(b"]");
 }
 
-// The period, if it belongs to the season. Says whether the next one would be the first.
+/// The period, if it belongs to the season. Says whether the next one would be the first.
 fn put_season_period<S: Sink>(inst: &Instance, q: u32, t: u32, first: bool, sink: &mut S) -> bool
     requires ready { S.IsReady sink.old }
     requires season { q < length inst.now.season_names }

@@ -14,7 +14,7 @@ pub trait Sink {
         ensures ready { IsReady self.new }
         ensures text { Takes piece.now self.old self.new };
 
-    // Texts that are taken one after another are taken as one.
+    /// Texts that are taken one after another are taken as one.
     ghost takes_none: { (s : Self) → Takes [] s s };
 
     ghost takes_more: { (a b : List ℕ) (s t u : Self) → Takes a s t → Takes b t u → Takes (a ++ b) s u };

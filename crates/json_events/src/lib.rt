@@ -1,4 +1,4 @@
-//! The events of a JSON text that comes in pieces, each as soon as it is due, and the exact place of its first fault.
+//! The events of a JSON text that comes in pieces, each when it is due, and its first fault's place.
 #![tactic(auto)]
 
 mod counted_number;

@@ -1,4 +1,4 @@
-//! A machine that takes the bytes of a JSON text one after another, or in runs, and tells the text's events.
+//! A machine that takes the bytes of a JSON text one by one, or in runs, and tells its events.
 #![tactic(auto)]
 
 mod characters;

@@ -1,5 +1,5 @@
-//! Prices on the limits of bands and on exclusions, and the bound that they give: no feasible plan in a box of starts
-//! has a value below the box's worth, whatever the prices in range are.
+//! Prices on limits and exclusions, and the bound that they give: the worth of a box of starts. No feasible plan in a
+//! box has a value below it, whatever the prices in range are.
 //!
 //! Interventions, resources and exclusions count from 0; periods, starts and scenarios count from 1. Prices, bases,
 //! worths and scores are in parts of 10^-18, which are counts of 10^-12 times millionths.

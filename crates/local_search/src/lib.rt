@@ -1,4 +1,4 @@
-//! A descent from a kept plan: changes to neighbours of strictly lower key, until none is left or the turns are made.
+//! A descent from a kept plan: changes to neighbours of lower key, until none or no turn is left.
 //!
 //! Contracts see the changes as a list, and the plans that they lead to as those of the kept plan. Turns count changes.
 #![tactic(auto)]

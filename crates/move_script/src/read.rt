@@ -51,7 +51,7 @@ fn read_lines(alloc: Global, inst: &Instance, text: &[u8]) -> Result<Vec<ScriptL
     Ok(lines)
 }
 
-// Reads line `n`.
+/// Reads line `n`.
 fn read_line(inst: &Instance, line: &[u8], n: u64) -> Result<ScriptLine, ScriptFault>
     ensures ok { IfOk result (Spells inst.now.names line.now) }
     ensures err { IfErr result (Refuses inst.now.names line.now n) }
@@ -71,7 +71,7 @@ fn read_line(inst: &Instance, line: &[u8], n: u64) -> Result<ScriptLine, ScriptF
     Ok(ScriptLine::Swap { i, j })
 }
 
-// The number of the intervention that line `n` names.
+/// The number of the intervention that line `n` names.
 fn number_of(inst: &Instance, name: &[u8], n: u64) -> Result<u32, ScriptFault>
     ensures place { IfOk result (IsPlace inst.now.names) }
     ensures name { IfOk result (λ i. slice_index_or inst.now.names i [] ≡ name.now) }

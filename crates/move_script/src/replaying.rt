@@ -47,7 +47,7 @@ pub fn replay<R: Row, D: Desk>(
     replay_lines::<R, Brand, D>(&mut kept, lines, Blank::new(1), desk)
 }
 
-// The opening plan, with room for one more plan a line.
+/// The opening plan, with room for one more plan a line.
 fn kept_for<'a, R: Row>(
     alloc: Global,
     inst: &'a Instance,
@@ -62,7 +62,7 @@ fn kept_for<'a, R: Row>(
     Ok(kept)
 }
 
-// Replays the lines from the one plan that is kept. Steps are counted on a counter of its own.
+/// Replays the lines from the one plan that is kept. Steps are counted on a counter of its own.
 fn replay_lines<R: Row, L: Ledger, D: Desk>(
     kept: &mut Kept<'_, R>,
     script: &[ScriptLine],
@@ -97,7 +97,7 @@ fn replay_lines<R: Row, L: Ledger, D: Desk>(
     Ok(())
 }
 
-// Makes the change of line `n`, or tells why it can't be made.
+/// Makes the change of line `n`, or tells why it can't be made.
 fn follow<R: Row, L: Ledger>(
     kept: &mut Kept<'_, R>,
     line: ScriptLine,
@@ -137,7 +137,7 @@ fn follow<R: Row, L: Ledger>(
     }
 }
 
-// Whether each of two interventions may start where the other does.
+/// Whether each of two interventions may start where the other does.
 fn may_swap<R: Row>(kept: &Kept<'_, R>, i: u32, j: u32) -> bool
     requires first { i < length kept.now.instance.names }
     requires second { j < length kept.now.instance.names }

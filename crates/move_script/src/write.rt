@@ -46,7 +46,7 @@ fn write_change<D: Desk>(inst: &Instance, change: Change, desk: &mut D) -> Resul
     }
 }
 
-// Writes a line of two words behind a verb.
+/// Writes a line of two words behind a verb.
 fn write_words<D: Desk>(
     verb: &[u8],
     first: &[u8],

@@ -1,5 +1,4 @@
-//! Changes of a plan against old starts: how many there are, the goal of few changes, and a plan with no change that
-//! could go back alone.
+//! Changes of a plan against old starts: their number, the goal of few, and what can go back.
 //!
 //! Old starts are a list of one start or none for each intervention; an intervention past its end has none, and then
 //! every start is a change. One change is worth 10^18, so bounds on values are bounds on numbers of changes.

@@ -46,6 +46,6 @@ pub trait Desk {
     fn say(&mut self, piece: &[u8]) -> Result<usize, Failed>
         ensures { Speaks piece.now (shows self.old) (shows self.new) result };
 
-    // The names of its files are told, where anything of them is.
+    /// The names of its files are told, where anything of them is.
     ghost names: { (desk : Self) → TellsNames (shows desk) };
 }

@@ -87,7 +87,7 @@ pub fn say_pieces<D: Desk>(desk: &mut D, pieces: &[&[u8]]) -> Result<(), Failed>
     Ok(())
 }
 
-// Reads the rest of the file that is taken in, to the end of the bytes.
+/// Reads the rest of the file that is taken in, to the end of the bytes.
 fn read_rest<D: Desk>(desk: &mut D, bytes: &mut Vec<u8>, limit: u64) -> Result<(), ReadFault>
     requires taken { IsTrue (D.shows desk.old).input.taken }
     requires room { vec_len bytes.old ≤ limit }

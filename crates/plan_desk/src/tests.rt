@@ -12,7 +12,7 @@ use std::{env, fs, process};
 
 const HELD: [u8; 5] = [1, 2, 3, 4, 5];
 
-// What is read of a file of five bytes, by pieces of at most so many, where the nth read fails.
+/// What is read of a file of five bytes, by pieces of at most so many, where the nth read fails.
 fn read_of(
     alloc: Global,
     most: usize,
@@ -28,14 +28,14 @@ fn read_of(
     Ok(read_all(alloc, &mut desk, "a", limit))
 }
 
-// What is read of a file that isn't there, beside one that is.
+/// What is read of a file that isn't there, beside one that is.
 fn read_of_missing(alloc: Global) -> Result<Result<Bytes, ReadFault>, AllocError> {
     let mut desk = MemDesk::make(alloc);
     desk.put_file("a", &HELD)?;
     Ok(read_all(alloc, &mut desk, "b", 5))
 }
 
-// Whether a call of this kind succeeds, after the calls that it needs.
+/// Whether a call of this kind succeeds, after the calls that it needs.
 fn succeeds(desk: &mut MemDesk, call: DeskCall) -> bool {
     let mut buf = [0; 2];
     match call {
@@ -48,7 +48,7 @@ fn succeeds(desk: &mut MemDesk, call: DeskCall) -> bool {
     }
 }
 
-// Which of three calls of this kind succeed, where the nth fails.
+/// Which of three calls of this kind succeed, where the nth fails.
 fn three_calls(alloc: Global, call: DeskCall, failing: u32) -> Result<[bool; 3], AllocError> {
     let mut desk = MemDesk::make(alloc);
     desk.put_file("a", &HELD)?;
@@ -59,7 +59,7 @@ fn three_calls(alloc: Global, call: DeskCall, failing: u32) -> Result<[bool; 3],
     Ok([first, second, third])
 }
 
-// Writes a file of one piece, which it then holds, where that is told.
+/// Writes a file of one piece, which it then holds, where that is told.
 fn write_once<D: Desk>(desk: &mut D, name: &str, piece: &[u8]) -> Result<(), Failed>
     ensures { OnOk result (HoldsBytes (D.shows desk.new) name.now piece.now) }
 {
@@ -68,7 +68,7 @@ fn write_once<D: Desk>(desk: &mut D, name: &str, piece: &[u8]) -> Result<(), Fai
     desk.finish_out()
 }
 
-// Writes a file, and then puts it out again and writes another piece.
+/// Writes a file, and then puts it out again and writes another piece.
 fn write_twice<D: Desk>(desk: &mut D, name: &str) -> Result<(), Failed> {
     write_once(desk, name, &HELD)?;
     desk.put_out(name)?;
@@ -77,7 +77,7 @@ fn write_twice<D: Desk>(desk: &mut D, name: &str) -> Result<(), Failed> {
     desk.finish_out()
 }
 
-// What a file holds that was written twice, where the nth call of this kind fails, and whether the writing failed.
+/// What a file holds that was written twice, where the nth call of this kind fails, and whether the writing failed.
 fn written_twice(
     alloc: Global,
     call: DeskCall,
@@ -92,7 +92,7 @@ fn written_twice(
     }
 }
 
-// What was said by two pieces.
+/// What was said by two pieces.
 fn said_twice(alloc: Global, failing: u32) -> Result<(bool, Vec<u8>), AllocError> {
     let mut desk = MemDesk::make(alloc);
     desk.fail_at(DeskCall::Say, failing)?;

@@ -1,5 +1,5 @@
-//! A plan of allowed starts that is changed one start or one exchange at a time, with its
-//! key kept and every change undone at will.
+//! A plan of allowed starts that is changed and undone step by step, with its key kept. A change is one start or one
+//! exchange.
 //!
 //! A contract sees what is kept as the list of plans that a start and its changes made, the present one last. Periods
 //! and starts count from 1; interventions count from 0.

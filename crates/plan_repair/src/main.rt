@@ -1,4 +1,4 @@
-//! The program: repairs plans of maintenance with few changed starts, and checks certificates of how few there can be.
+//! The second program: repairs plans with few changes, and checks certificates of how few there are.
 //!
 //! `run_repair` is the whole program over any device; `main` runs it over real files and standard output.
 #![tactic(auto)]

@@ -35,7 +35,7 @@ const TREE: &str = "lists 0\ntree\nsplit 1 1\nsplit 2 1\nband 1 1 over\ncost 0\n
 
 const REPAIR: [&str; 6] = ["repair", "I", "P", "C", "O", "3"];
 
-// A desk with the files I and P.
+/// A desk with the files I and P.
 fn desk(alloc: Global, instance: &str, plan: &[u8]) -> Result<MemDesk, AllocError> {
     let mut desk = MemDesk::make(alloc);
     desk.put_file("I", instance.as_bytes())?;
@@ -43,7 +43,7 @@ fn desk(alloc: Global, instance: &str, plan: &[u8]) -> Result<MemDesk, AllocErro
     Ok(desk)
 }
 
-// The status of these words over a desk.
+/// The status of these words over a desk.
 fn status_of(alloc: Global, list: &[&str], desk: &mut MemDesk) -> Result<u8, AllocError> {
     let mut words = Vec::new(alloc);
     for word in list {
@@ -52,7 +52,7 @@ fn status_of(alloc: Global, list: &[&str], desk: &mut MemDesk) -> Result<u8, All
     Ok(run_repair(alloc, &words, desk))
 }
 
-// Whether the file of this name is there and holds just these bytes.
+/// Whether the file of this name is there and holds just these bytes.
 fn holds(desk: &MemDesk, name: &str, bytes: &[u8]) -> bool {
     match desk.file(name) {
         Some(held) => held == bytes,

@@ -1,5 +1,5 @@
-//! The rest of a year: the instance in which the interventions that begin before a period keep their starts, and the
-//! others may only start in that period or later.
+//! The rest of a year: an instance in which what begins before a period keeps its start. The other interventions may
+//! only start in that period or later.
 //!
 //! A contract sees the plan so far as a list with one start or none for each intervention, in file order. Periods,
 //! starts and scenarios count from 1; interventions count from 0.

@@ -26,7 +26,7 @@ pub fn say_report<D: Desk>(
     say_clashes(inst, report.clashes.as_slice(), desk)
 }
 
-// Says the lines on the scenario sums.
+/// Says the lines on the scenario sums.
 fn say_head<D: Desk>(report: &PeriodReport, desk: &mut D) -> Result<(), Failed>
     ensures { SaysText (head_text report.now) (D.shows desk.old) (D.shows desk.new) result }
 {
@@ -69,7 +69,7 @@ fn say_risk<D: Desk>(report: &PeriodReport, desk: &mut D) -> Result<(), Failed>
     )
 }
 
-// Says two counts behind a word.
+/// Says two counts behind a word.
 fn say_range<D: Desk>(word: &[u8], low: i128, high: i128, desk: &mut D) -> Result<(), Failed>
     ensures { SaysText (words_line word.now (fixed_text low ∷ fixed_text high ∷ []))
         (D.shows desk.old) (D.shows desk.new) result }
@@ -96,7 +96,7 @@ fn say_load<D: Desk>(inst: &Instance, line: &LoadLine, desk: &mut D) -> Result<(
     say_load_as(inst, line, word_of(line.state).as_bytes(), desk)
 }
 
-// Says a load with this word behind it.
+/// Says a load with this word behind it.
 fn say_load_as<D: Desk>(
     inst: &Instance,
     line: &LoadLine,
@@ -178,7 +178,7 @@ fn say_clash<D: Desk>(inst: &Instance, e: u32, desk: &mut D) -> Result<(), Faile
     say_words(b"clash", &[inst.exclusion_name(e).as_bytes()], desk)
 }
 
-// Says a line of words.
+/// Says a line of words.
 fn say_words<D: Desk>(first: &[u8], rest: &[&[u8]], desk: &mut D) -> Result<(), Failed>
     ensures { SaysText (words_line first.now (map (λ word. word.now) rest.now))
         (D.shows desk.old) (D.shows desk.new) result }
@@ -188,7 +188,7 @@ fn say_words<D: Desk>(first: &[u8], rest: &[&[u8]], desk: &mut D) -> Result<(), 
     say_all(desk, b"\n")
 }
 
-// Says words, each behind a blank.
+/// Says words, each behind a blank.
 fn say_rest<D: Desk>(rest: &[&[u8]], desk: &mut D) -> Result<(), Failed>
     ensures { SaysText (words_behind (map (λ word. word.now) rest.now))
         (D.shows desk.old) (D.shows desk.new) result }

@@ -39,7 +39,7 @@ pub fn entry_of(line: &[u8]) -> Option<(&[u8], u32)>
     Some((name, start))
 }
 
-// The start that a text of digits and blanks gives.
+/// The start that a text of digits and blanks gives.
 fn start_of(text: &[u8]) -> Option<u32>
     ensures found { IfSome result (EndsInStart text.now) }
     ensures small { IfSome result (λ start. start < 10 ^ 9) }
@@ -53,7 +53,7 @@ fn start_of(text: &[u8]) -> Option<u32>
     Some(start as u32)
 }
 
-// The bytes up to the first blank, and the rest.
+/// The bytes up to the first blank, and the rest.
 fn split_name(line: &[u8]) -> (&[u8], &[u8])
     ensures { IsSplit (λ b. b ≢ 32) line.now result.0.now result.1.now }
 {
@@ -64,7 +64,7 @@ fn split_name(line: &[u8]) -> (&[u8], &[u8])
     line.split_at(end)
 }
 
-// The blanks that a text begins with, and the rest.
+/// The blanks that a text begins with, and the rest.
 fn split_blanks(text: &[u8]) -> (&[u8], &[u8])
     ensures { IsSplit (λ b. b ≡ 32) text.now result.0.now result.1.now }
 {
@@ -75,7 +75,7 @@ fn split_blanks(text: &[u8]) -> (&[u8], &[u8])
     text.split_at(end)
 }
 
-// The digits that a text begins with, and the rest.
+/// The digits that a text begins with, and the rest.
 fn split_digits(text: &[u8]) -> (&[u8], &[u8])
     ensures { IsSplit (λ b. digit_value b < 10) text.now result.0.now result.1.now }
 {

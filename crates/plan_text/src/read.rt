@@ -28,7 +28,7 @@ pub fn read_plan(alloc: Global, inst: &Instance, bytes: &[u8]) -> Result<Plan, P
     Ok(Plan::from_vec(starts))
 }
 
-// Reads the starts of all lines into a plan that has none yet.
+/// Reads the starts of all lines into a plan that has none yet.
 fn read_lines(inst: &Instance, text: &[u8], starts: &mut Vec<Option<u32>>) -> Result<(), PlanFault>
     requires { starts.old.items ≡ replicate (length inst.now.names) None }
     ensures ok { OnOk result (IsPlan inst.now.names text.now starts.new.items) }
@@ -46,7 +46,7 @@ fn read_lines(inst: &Instance, text: &[u8], starts: &mut Vec<Option<u32>>) -> Re
     Ok(())
 }
 
-// Reads the start of line `n`, where it gives one.
+/// Reads the start of line `n`, where it gives one.
 fn read_line(
     inst: &Instance,
     line: &[u8],

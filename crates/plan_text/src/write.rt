@@ -24,7 +24,7 @@ pub fn write_plan<D: Desk>(inst: &Instance, starts: &[u32], desk: &mut D) -> Res
     Ok(())
 }
 
-// Writes the line of an intervention.
+/// Writes the line of an intervention.
 fn write_line<D: Desk>(name: &str, start: u32, desk: &mut D) -> Result<(), Failed>
     requires opened { IsTrue (D.shows desk.old).output.opened }
     ensures { WritesText (line_text name.now start) (D.shows desk.old) (D.shows desk.new) result }

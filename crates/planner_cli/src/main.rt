@@ -1,4 +1,4 @@
-//! The program: makes, judges, replays and reports plans of maintenance, and checks certificates, as its words ask.
+//! The program: makes, judges, replays and reports plans, and checks certificates, as its words ask.
 //!
 //! `run` is the whole program over any device; `main` runs it over real files and standard output.
 #![tactic(auto)]

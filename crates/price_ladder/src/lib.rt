@@ -1,6 +1,6 @@
-//! The ladder of prices: a price list is raised by steps in one place, as long as a step makes the
-//! worth of the box of all starts much greater. A step adds a power of ten to one price or takes it
-//! off, or switches the tail of a plan in one period.
+//! The ladder of prices: a price list is raised by steps in one place, as long as one gains enough. A step gains what
+//! it adds to the worth of the box of all starts. A step adds a power of ten to one price or takes it off, or switches
+//! the tail of a plan in one period.
 //!
 //! Interventions, resources and exclusions count from 0; periods, starts and scenarios
 //! count from 1. Worths are in parts of 10^-18.

@@ -1,4 +1,4 @@
-//! Rows of sums, one for each scenario, in which the m-th smallest sum is found: a finite map with a rank.
+//! Rows of sums, one for each scenario, with the m-th smallest: a finite map with a rank.
 //!
 //! Scenarios and ranks count from 1. Only making a row takes memory.
 #![tactic(auto)]

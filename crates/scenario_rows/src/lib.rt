@@ -1,4 +1,4 @@
-//! The score of runs on board, kept as runs are added and taken: for each period a row of its scenario sums.
+//! The score of runs on board, kept as runs come and go: a row of scenario sums a period.
 //!
 //! A contract sees the rows as the start of each intervention on board beside the scenario sums by period. Periods,
 //! starts and scenarios count from 1; interventions count from 0. Only making the rows takes memory.

@@ -51,7 +51,7 @@ fn are_digits(bytes: &[u8]) -> bool
     bytes.iter().all(|byte| byte.is_ascii_digit())
 }
 
-// The number that some digits write.
+/// The number that some digits write.
 fn value_of(digits: &[u8]) -> u128
     requires few { length digits.now ≤ 38 }
     requires digits { AllDigits 10 digits.now }

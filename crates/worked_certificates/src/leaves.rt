@@ -160,7 +160,7 @@ fn leaves_hold_exactly_where_no_plan_is_left(rt: HostRuntime) -> Result<(), Fail
 /// A price of 2 on an exclusion in period 1.
 const PRICED: &str = "lists 1\nprices\nex 1 1 2000000\ntree\ncost 1\n";
 
-// A costs 4 in either period, B nothing in period 1, and 2 is taken off once.
+/// A costs 4 in either period, B nothing in period 1, and 2 is taken off once.
 #[test]
 fn an_exclusion_of_one_is_priced_twice(rt: HostRuntime) -> Result<(), Fail> {
     let alloc = rt.alloc();

@@ -1,5 +1,4 @@
-//! Certificates audited from their texts: a caller of the reader and of the checker that says in the
-//! subject's words what an accepted text proves.
+//! Certificates audited from their texts: a caller of the reader and of the checker.
 //!
 //! The tests are worked certificates: every kind of leaf and of price, each at the exact edge of its bound and one
 //! past it, texts cut off and texts damaged; and the texts of drawn instances.

@@ -220,7 +220,7 @@ fn the_last_of_sixteen_lists_counts(rt: HostRuntime) -> Result<(), Fail> {
     Ok(())
 }
 
-// What a fault says.
+/// What a fault says.
 fn says(alloc: Global, fault: CertFault) -> Result<String, Fail> {
     Ok(format!(in alloc; "{fault}")?)
 }

@@ -59,7 +59,7 @@ fn a_certificate_is_written_as_it_was_read(rt: HostRuntime) -> Result<(), Fail> 
     are_rewritten(&rt, rt.alloc(), &TEXTS)
 }
 
-// What writing this text answers, where the nth write fails.
+/// What writing this text answers, where the nth write fails.
 fn write_at(alloc: Global, text: &str, nth: u32) -> Result<Result<(), Failed>, Fail> {
     let inst = instance(alloc, apart())?;
     write_for(alloc, &inst, text, nth)

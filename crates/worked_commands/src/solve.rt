@@ -54,7 +54,7 @@ fn begins(desk: &MemDesk, name: &str, bytes: &[u8]) -> bool {
     }
 }
 
-// How many line feeds the file of this name has; none where it isn't there.
+/// How many line feeds the file of this name has; none where it isn't there.
 fn line_feeds(desk: &MemDesk, name: &str) -> usize {
     let mut count: usize = 0;
     if let Some(held) = desk.file(name) {
@@ -67,7 +67,7 @@ fn line_feeds(desk: &MemDesk, name: &str) -> usize {
     count
 }
 
-// Whether the file of this name has one line or two, each with its line feed.
+/// Whether the file of this name has one line or two, each with its line feed.
 fn has_one_line_or_two(desk: &MemDesk, name: &str) -> bool {
     let count = line_feeds(desk, name);
     match desk.file(name) {

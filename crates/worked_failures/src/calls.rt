@@ -18,7 +18,7 @@ const KINDS: [DeskCall; 6] = [
 /// More calls of a kind than any of these runs makes.
 const MANY: u32 = 1000;
 
-// Runs a command over a fresh desk, of which the nth call of a kind is to fail if one is given.
+/// Runs a command over a fresh desk, of which the nth call of a kind is to fail if one is given.
 fn ran(
     alloc: Global,
     command: Command,
@@ -32,7 +32,7 @@ fn ran(
     Ok(Ran { status, desk })
 }
 
-// Whether each call of this kind that a run makes, failing alone, leaves what is due.
+/// Whether each call of this kind that a run makes, failing alone, leaves what is due.
 fn are_told(alloc: Global, command: Command, call: DeskCall) -> Result<bool, AllocError> {
     let clean = ran(alloc, command, None)?;
     for before in 0..MANY {
@@ -52,7 +52,7 @@ fn are_told(alloc: Global, command: Command, call: DeskCall) -> Result<bool, All
     Ok(false)
 }
 
-// Whether a run without a failing call ends well, says something, and writes something to each of its files.
+/// Whether a run without a failing call ends well, says something, and writes something to each of its files.
 fn is_done(alloc: Global, command: Command) -> Result<bool, AllocError> {
     let ran = ran(alloc, command, None)?;
     for (_, name) in command.outputs() {

@@ -139,7 +139,7 @@ fn replay(alloc: Global, desk: &mut MemDesk) -> u8 {
     replay_files::<TreeRow, MemDesk>(alloc, &SOURCE, "P", "S", desk)
 }
 
-// With three turns.
+/// With three turns.
 fn solve(alloc: Global, desk: &mut MemDesk) -> u8 {
     let files = SolveFiles {
         plan: "O",
@@ -169,12 +169,12 @@ pub(crate) fn roll(alloc: Global, instance: u64, plan: u64, desk: &mut MemDesk) 
     roll_files(alloc, &limits, &files, 2, desk)
 }
 
-// With one intervention.
+/// With one intervention.
 fn rehearse(alloc: Global, desk: &mut MemDesk) -> u8 {
     rehearse_drawn::<TreeRow, MemDesk>(alloc, 0, 1, desk)
 }
 
-// With three turns.
+/// With three turns.
 fn repair(alloc: Global, desk: &mut MemDesk) -> u8 {
     let files = RepairFiles {
         certificate: "D",

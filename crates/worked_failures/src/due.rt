@@ -49,7 +49,7 @@ impl Case<'_> {
             && self.are_written(None, Held::Whole)
     }
 
-    // The file of this word could not be read: that is said, and all files are as they were.
+    /// The file of this word could not be read: that is said, and all files are as they were.
     fn is_unread(&self, alloc: Global, word: Option<Word>) -> Result<bool, AllocError> {
         let Some((number, _)) = word else {
             return Ok(false);
@@ -58,7 +58,7 @@ impl Case<'_> {
         Ok(self.ran.status == 7 && self.says(line.as_str()) && are_old(&self.ran.desk))
     }
 
-    // The nth file could not be written.
+    /// The nth file could not be written.
     fn is_unwritten(&self, alloc: Global, nth: usize, held: Held) -> Result<bool, AllocError> {
         match self.command.outputs().get(nth).copied() {
             Some((number, _)) => self.stops_at(alloc, number, held),
@@ -66,7 +66,7 @@ impl Case<'_> {
         }
     }
 
-    // One of the files could not be written to its end.
+    /// One of the files could not be written to its end.
     fn is_cut(&self, alloc: Global) -> Result<bool, AllocError> {
         for (number, _) in self.command.outputs() {
             if self.stops_at(alloc, *number, Held::Part)? {
@@ -76,7 +76,7 @@ impl Case<'_> {
         Ok(false)
     }
 
-    // The file of this word could not be written: that is said, and it holds this.
+    /// The file of this word could not be written: that is said, and it holds this.
     fn stops_at(&self, alloc: Global, number: u64, held: Held) -> Result<bool, AllocError> {
         let line = format!(in alloc; "refused write {number}\n")?;
         Ok(
@@ -87,7 +87,7 @@ impl Case<'_> {
         )
     }
 
-    // A first part of the report was said, but not all, and all files are whole.
+    /// A first part of the report was said, but not all, and all files are whole.
     fn is_unsaid(&self) -> bool {
         let said = self.ran.desk.spoken();
         let report = self.clean.desk.spoken();
@@ -102,7 +102,7 @@ impl Case<'_> {
         self.ran.desk.spoken() == line.as_bytes()
     }
 
-    // The files before that of this word are whole, those behind it old, and it holds this itself.
+    /// The files before that of this word are whole, those behind it old, and it holds this itself.
     fn are_written(&self, stop: Option<u64>, held: Held) -> bool {
         let mut stopped = false;
         for (number, name) in self.command.outputs() {
@@ -133,7 +133,7 @@ impl Case<'_> {
         }
     }
 
-    // The files that the command doesn't write are as they were.
+    /// The files that the command doesn't write are as they were.
     fn keeps_others(&self) -> bool {
         for (name, text) in FILES {
             if !is_output(self.command, name) && !holds(&self.ran.desk, name, text) {
@@ -166,7 +166,7 @@ pub(crate) fn are_all(command: Command, call: DeskCall, count: usize) -> bool {
     }
 }
 
-// Whether all files are as they were.
+/// Whether all files are as they were.
 fn are_old(desk: &MemDesk) -> bool {
     for (name, text) in FILES {
         if !holds(desk, name, text) {
@@ -183,7 +183,7 @@ fn holds(desk: &MemDesk, name: &str, text: &str) -> bool {
     }
 }
 
-// The file of the read after so many: each file is read by pieces, and once more at its end.
+/// The file of the read after so many: each file is read by pieces, and once more at its end.
 fn word_read(command: Command, before: usize) -> Option<Word> {
     let mut left = before;
     for word in command.inputs() {

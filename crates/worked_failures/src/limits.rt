@@ -9,7 +9,7 @@ use std::test::Fail;
 /// A text with a fault in its first byte, which is read in three pieces.
 const FAULTY: [u8; 250] = [b']'; 250];
 
-// The status of a command on an instance file of this text, of which the nth read is to fail.
+/// The status of a command on an instance file of this text, of which the nth read is to fail.
 fn status_of_faulty(
     alloc: Global,
     command: Command,
@@ -21,7 +21,7 @@ fn status_of_faulty(
     Ok(command.run(alloc, desk))
 }
 
-// Whether no file was written.
+/// Whether no file was written.
 fn are_old(command: Command, desk: &MemDesk) -> bool {
     for (_, name) in command.outputs() {
         if desk.file(name) != Some(OLD.as_bytes()) {
@@ -62,8 +62,8 @@ enum Long {
     Certificate,
 }
 
-// The status of a command that reads such a file, whose limit an instance passes with its second read, and another
-// file with its first.
+/// The status of a command that reads such a file, whose limit an instance passes with its second read, and another
+/// file with its first.
 fn status_of_long(alloc: Global, long: Long, desk: &mut MemDesk) -> u8 {
     match long {
         Long::Instance => roll(alloc, 150, ANY, desk),
@@ -72,7 +72,7 @@ fn status_of_long(alloc: Global, long: Long, desk: &mut MemDesk) -> u8 {
     }
 }
 
-// How many reads come before those of such a file.
+/// How many reads come before those of such a file.
 fn reads_before(long: Long) -> usize {
     match long {
         Long::Instance => 0,

@@ -1,4 +1,4 @@
-//! Bounds by raised prices: a caller of the ladder that says in the subject's words what its list proves.
+//! Bounds by raised prices: a caller of the ladder that says what its list proves.
 //!
 //! The tests are worked rows: the list that a small instance gets, number by number, worked out by hand.
 #![tactic(auto)]

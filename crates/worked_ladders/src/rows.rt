@@ -207,8 +207,8 @@ fn are_as_wanted(rows: Option<(Row, i128)>, wanted: Row, best: i128) -> bool {
     }
 }
 
-// g is 3 * 10^16 and 1 more. A step of 10^5 on the upper limit makes A and B cost 0.6 more each in period 1, and takes
-// 1 off. After a fourth, B would start in period 2.
+/// g is 3 * 10^16 and 1 more. A step of 10^5 on the upper limit makes A and B cost 0.6 more each in period 1, and takes
+/// 1 off. After a fourth, B would start in period 2.
 #[test]
 fn full_resources_get_a_price(rt: HostRuntime) -> Result<(), Fail> {
     let rows = raised(rt.alloc(), PAIR, &[1, 1])?;
@@ -227,8 +227,8 @@ fn full_resources_get_a_price(rt: HostRuntime) -> Result<(), Fail> {
     Ok(())
 }
 
-// A step of 10^5 makes A and B cost 0.1 more each in period 1, and takes 0.1 off.
-// After the twentieth, B would start in period 2.
+/// A step of 10^5 makes A and B cost 0.1 more each in period 1, and takes 0.1 off.
+/// After the twentieth, B would start in period 2.
 #[test]
 fn exclusions_get_a_price(rt: HostRuntime) -> Result<(), Fail> {
     let rows = raised(rt.alloc(), APART, &[1, 1])?;
@@ -244,8 +244,8 @@ fn exclusions_get_a_price(rt: HostRuntime) -> Result<(), Fail> {
     Ok(())
 }
 
-// g is 1.5 * 10^16 and 1 more. A step of 10^4 makes A cost 0.05 less in period 1, and adds
-// 0.05. After the sixtieth, A would start there.
+/// g is 1.5 * 10^16 and 1 more. A step of 10^4 makes A cost 0.05 less in period 1, and adds
+/// 0.05. After the sixtieth, A would start there.
 #[test]
 fn lower_limits_get_a_price(rt: HostRuntime) -> Result<(), Fail> {
     let rows = raised(rt.alloc(), FLOOR, &[1])?;
@@ -261,7 +261,7 @@ fn lower_limits_get_a_price(rt: HostRuntime) -> Result<(), Fail> {
     Ok(())
 }
 
-// The only plan is Z and U, so g is 1. With the tail the whole excess of half a unit counts.
+/// The only plan is Z and U, so g is 1. With the tail the whole excess of half a unit counts.
 #[test]
 fn greatest_scenario_gets_the_tail(rt: HostRuntime) -> Result<(), Fail> {
     let rows = raised(rt.alloc(), SKEWED, &[1])?;
@@ -295,7 +295,7 @@ fn nothing_is_raised_without_interventions(rt: HostRuntime) -> Result<(), Fail> 
     Ok(())
 }
 
-// The list itself: no number of it is above 0 where there is no intervention, and one is where a step gains.
+/// The list itself: no number of it is above 0 where there is no intervention, and one is where a step gains.
 #[test]
 fn zeros_are_raised_where_no_step_gains(rt: HostRuntime) -> Result<(), Fail> {
     let alloc = rt.alloc();

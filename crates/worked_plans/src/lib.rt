@@ -1,5 +1,4 @@
-//! Plans judged on hand-made instances: a caller of `judge` that says in the
-//! subject's words when a plan keeps the rules.
+//! Plans judged on hand-made instances: a caller of `judge` that speaks in the subject's words.
 //!
 //! The tests are worked rows: bands, seasons, exclusions, starts, ranks and values, all over small instances; and what
 //! these stand on, numbers and windows of periods.

@@ -83,7 +83,7 @@ const GREATEST: Sketch<'static> = Sketch {
     ..LEAST
 };
 
-// The values where the excess over the mean is so many counts.
+/// The values where the excess over the mean is so many counts.
 fn spread(excess: i64) -> Verdict {
     let mean = -2_000_000_000_000;
     let score = excess as i128 * 1_000_000;

@@ -10,7 +10,7 @@ use small_instances::{Sketch, instance};
 use std::alloc::{AllocError, Global};
 use std::process::Abort;
 
-// The verdict on a plan, and whether it keeps the rules; none where the plan isn't one of this instance.
+/// The verdict on a plan, and whether it keeps the rules; none where the plan isn't one of this instance.
 fn judged(
     alloc: Global,
     inst: &Instance,
@@ -22,7 +22,7 @@ fn judged(
     Ok(Some((judge(alloc, inst, plan)?, keeps_rules(alloc, inst, plan)?)))
 }
 
-// The plan has this verdict, and `keeps_rules` agrees.
+/// The plan has this verdict, and `keeps_rules` agrees.
 fn agrees(rt: &impl Abort, alloc: Global, inst: &Instance, plan: &[Option<u32>], verdict: Verdict) {
     let kept = matches!(verdict, Verdict::Feasible(_));
     assert_eq!(rt;
@@ -32,7 +32,7 @@ fn agrees(rt: &impl Abort, alloc: Global, inst: &Instance, plan: &[Option<u32>],
     );
 }
 
-// Each plan of the sketch's instance has the verdict beside it.
+/// Each plan of the sketch's instance has the verdict beside it.
 pub(crate) fn judges<const N: usize>(
     rt: &impl Abort,
     alloc: Global,
@@ -70,7 +70,7 @@ pub(crate) fn clash(e: u32, t: u32) -> Verdict {
     Verdict::Broken(Rule::Clash { e, t })
 }
 
-// Score and roof, then the printed cost, mean and excess.
+/// Score and roof, then the printed cost, mean and excess.
 pub(crate) fn feasible(
     sums: (i128, i128),
     cost: (i128, i128),
@@ -89,12 +89,12 @@ pub(crate) fn feasible(
     })
 }
 
-// A plan without risk.
+/// A plan without risk.
 pub(crate) fn free() -> Verdict {
     feasible((0, 0), (0, 0), (0, 0), (0, 0))
 }
 
-// The values where both interventions of PAIR, or one in each period, start as early as they may.
+/// The values where both interventions of PAIR, or one in each period, start as early as they may.
 pub(crate) fn plain() -> Verdict {
     feasible(
         (2_000_000_000_000_000_000, 2_000_000_000_000_000_000),

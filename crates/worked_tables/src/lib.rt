@@ -1,5 +1,4 @@
-//! Reports of plans of hand-made instances: a caller of `period_report` that finds out by its reports alone whether a
-//! plan is feasible.
+//! Reports of plans of hand-made instances: a caller that finds out by these what is feasible.
 //!
 //! The tests are worked rows, said to a desk in memory.
 #![tactic(auto)]

@@ -9,7 +9,7 @@ use std::alloc::Global;
 use std::process::Abort;
 use std::test::Fail;
 
-// The text is read as these two starts.
+/// The text is read as these two starts.
 fn reads(
     rt: &impl Abort,
     alloc: Global,
@@ -24,7 +24,7 @@ fn reads(
     }
 }
 
-// The text has this first fault.
+/// The text has this first fault.
 fn refuses(rt: &impl Abort, alloc: Global, inst: &Instance, text: &[u8], fault: PlanFault) {
     match read_plan(alloc, inst, text) {
         Ok(_) => panic!(rt; "{text:?} is read"),
@@ -85,7 +85,7 @@ fn finds_wrong_names(rt: HostRuntime) -> Result<(), Fail> {
     Ok(())
 }
 
-// Writes the starts 512 and 7 to a new file.
+/// Writes the starts 512 and 7 to a new file.
 fn write_two<D: Desk>(inst: &Instance, desk: &mut D) -> Result<(), Failed>
     requires { length inst.now.names ≡ 2 }
 {

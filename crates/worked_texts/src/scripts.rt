@@ -13,7 +13,7 @@ use std::alloc::{AllocError, Global};
 use std::process::Abort;
 use std::test::Fail;
 
-// The text is read as these lines.
+/// The text is read as these lines.
 fn reads(rt: &impl Abort, alloc: Global, inst: &Instance, text: &[u8], lines: &[ScriptLine]) {
     match read_script(alloc, inst, text) {
         Ok(script) => assert_eq!(rt; script.as_slice(), lines, "{text:?}"),
@@ -21,7 +21,7 @@ fn reads(rt: &impl Abort, alloc: Global, inst: &Instance, text: &[u8], lines: &[
     }
 }
 
-// The text has this first fault.
+/// The text has this first fault.
 fn refuses(rt: &impl Abort, alloc: Global, inst: &Instance, text: &[u8], fault: ScriptFault) {
     match read_script(alloc, inst, text) {
         Ok(_) => panic!(rt; "{text:?} is read"),
@@ -127,7 +127,7 @@ fn finds_unknown_names(rt: HostRuntime) -> Result<(), Fail> {
     Ok(())
 }
 
-// A move of each intervention, and their exchange.
+/// A move of each intervention, and their exchange.
 fn three_moves(alloc: Global) -> Result<Moves, AllocError>
     ensures { IfOk result (λ moves. moves ≡ Move 0 512 ∷ Swap 1 0 ∷ Move 1 0 ∷ []) }
 {
@@ -138,7 +138,7 @@ fn three_moves(alloc: Global) -> Result<Moves, AllocError>
     ]?))
 }
 
-// Writes the changes to a new file.
+/// Writes the changes to a new file.
 fn write_to_file<D: Desk>(inst: &Instance, moves: &Moves, desk: &mut D) -> Result<(), Failed>
     requires known { All (λ change. NamesKnown inst.now (line_of change)) moves.now }
     requires small { All HasSmallStart moves.now }
