@@ -1,5 +1,5 @@
 -- Laws of the text.
-use Rattle.std.specs.Prelude.{◌≡◌, ℕ, ◌+◌, ◌*◌, ◌^◌, ◌≤◌, List, [], ◌∷◌, ◌++◌, length, All, Some}
+use Rattle.std.specs.Prelude.{◌≡◌, ℕ, ◌+◌, ◌*◌, ◌^◌, ◌<◌, ◌≤◌, List, [], ◌∷◌, ◌++◌, length, All, Some}
 use Rattle.std.specs.List.{sum_by}
 use Rattle.instance_model.specs.Tables.{Tables}
 use Rattle.instance_model.specs.Fitting.{IsFitting}
@@ -116,9 +116,9 @@ TextsAreShort = (inst : Tables) (cert : Certificate) → IsFitting inst → IsIn
     → length (certificate_text inst cert)
     ≤ frame_bytes + list_bytes * length cert.lists + ex_bytes * ex_count cert + node_bytes * length cert.nodes
 
--- with at most one list, of at most 400 prices of exclusions, and at most 2,000,001 nodes it is within the limit of
--- certificate files
+-- with at most one list, of at most 400 prices of exclusions, and at most 2,000,001 nodes it is shorter than the limit
+-- of certificate files
 abbrev pub TextsFitFiles : Type 0
 TextsFitFiles = (inst : Tables) (cert : Certificate) → IsFitting inst → IsInRange inst cert → length cert.lists ≤ 1
     → All (λ prices. length prices.ex ≤ 400) cert.lists → length cert.nodes ≤ 2_000_001
-    → length (certificate_text inst cert) ≤ 2 ^ 28
+    → length (certificate_text inst cert) < 2 ^ 28
