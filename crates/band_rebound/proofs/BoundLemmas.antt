@@ -8,8 +8,8 @@ use Rattle.std.proofs.lemmas.List.Elements.{Contains-append_left}
 use Rattle.fixed_num.proofs.SignedLemmas.{signed_arith}
 use Rattle.certificate_lines.specs.declared.line.Bound.{Bound}
 use Rattle.certificate_lines.specs.declared.line.Bound.TheVariants.{NoPlan, Least}
-use Rattle.branch_tree.specs.Holding.{IsAtLeast}
-use Rattle.branch_tree.specs.Ranges.{IsBoundInRange}
+use Rattle.certificate_tree.specs.Holding.{IsAtLeast}
+use Rattle.certificate_tree.specs.Ranges.{IsBoundInRange}
 use Rattle.band_rebound.specs.Rebinding.{IsLeastWorth, IsBoundOf, IsNoLower}
 use Rattle.band_rebound.specs.Steps.{top_of}
 

@@ -7,10 +7,10 @@ use Rattle.instance_model.specs.Tables.{Tables}
 use Rattle.lagrange_bound.specs.declared.span.Span.{Span}
 use Rattle.lagrange_bound.specs.Prices.{PriceList}
 use Rattle.lagrange_bound.specs.Boxes.{HasStarts, starts_in, span_of}
-use Rattle.branch_tree.specs.declared.node.Node.{Node}
-use Rattle.branch_tree.specs.declared.node.Node.TheVariants.{Split, Cost, Point, Band, Excl, Empty}
-use Rattle.branch_tree.specs.Holding.{EmptyHolds, IsSingle}
-use Rattle.branch_tree.proofs.StartLemmas.{has_start_from, start_found}
+use Rattle.certificate_tree.specs.declared.node.Node.{Node}
+use Rattle.certificate_tree.specs.declared.node.Node.TheVariants.{Split, Cost, Point, Band, Excl, Empty}
+use Rattle.certificate_tree.specs.Holding.{EmptyHolds, IsSingle}
+use Rattle.certificate_tree.proofs.StartLemmas.{has_start_from, start_found}
 use Rattle.branch_search.specs.Boxes.{IsGreatest}
 use Rattle.certificate_check.proofs.VerdictLemmas.{same_or_apart}
 use Rattle.band_rebound.specs.declared.leaf.NewLeaf.{NewLeaf}

@@ -7,13 +7,13 @@ use Rattle.lagrange_bound.specs.Goals.{risk_base, risk_value, ValuesAreSmall}
 use Rattle.lagrange_bound.specs.Worth.{WorthsAreSmall}
 use Rattle.certificate_lines.specs.declared.line.Bound.{Bound}
 use Rattle.certificate_lines.specs.declared.line.Version.{Version}
-use Rattle.branch_tree.specs.declared.node.Node.{Node}
-use Rattle.branch_tree.specs.declared.certificate.Certificate.{Certificate}
-use Rattle.branch_tree.specs.Trees.{Tree, pre_order, leaves, root_box}
-use Rattle.branch_tree.specs.Ranges.{IsInRange, IsTreeInRange, HasPricesOf}
-use Rattle.branch_tree.specs.Validity.{IsValid, BoundsPlans}
-use Rattle.branch_tree.specs.Laws.{NodesAreOneTree, ValidBoundsPlans}
-use Rattle.branch_tree.proofs.RootLemmas.{root_is_box}
+use Rattle.certificate_tree.specs.declared.node.Node.{Node}
+use Rattle.certificate_tree.specs.declared.certificate.Certificate.{Certificate}
+use Rattle.certificate_tree.specs.Trees.{Tree, pre_order, leaves, root_box}
+use Rattle.certificate_tree.specs.Ranges.{IsInRange, IsTreeInRange, HasPricesOf}
+use Rattle.certificate_tree.specs.Validity.{IsValid, BoundsPlans}
+use Rattle.certificate_tree.specs.Laws.{NodesAreOneTree, ValidBoundsPlans}
+use Rattle.certificate_tree.proofs.RootLemmas.{root_is_box}
 use Rattle.band_rebound.specs.declared.rebounded.Rebounded.{Rebounded}
 use Rattle.band_rebound.specs.declared.growth.Growth.{Growth}
 use Rattle.band_rebound.specs.Rebinding.{TreeBecomes, tree_worths, IsBoundOf, IsNoLower, LeafCounts, Counts}

@@ -17,15 +17,15 @@ use Rattle.lagrange_bound.specs.Worth.{worth_of, ex_total, price_total, WorthsAr
 use Rattle.lagrange_bound.specs.Boxes.{IsBox, HasStarts}
 use Rattle.certificate_lines.specs.declared.line.Bound.{Bound}
 use Rattle.certificate_lines.specs.declared.line.Bound.TheVariants.{NoPlan, Least}
-use Rattle.branch_tree.specs.declared.node.Node.{Node}
-use Rattle.branch_tree.specs.declared.node.Node.TheVariants.{Split, Cost, Point, Band, Excl, Empty}
-use Rattle.branch_tree.specs.Trees.{Tree, leaf, split, Leaf, leaves, below, above}
-use Rattle.branch_tree.specs.Ranges.{IsLeafInRange, IsTreeInRange}
-use Rattle.branch_tree.specs.Holding.{IsAtLeast, IsSingle, first_starts, LeafHolds}
-use Rattle.branch_tree.specs.Validity.{BoundsPlans}
-use Rattle.branch_tree.proofs.RootLemmas.{parts_are_boxes}
-use Rattle.branch_tree.proofs.Refuting.{feasible_allowed, length-first_starts}
-use Rattle.branch_tree.proofs.Soundness.{zero_in_range}
+use Rattle.certificate_tree.specs.declared.node.Node.{Node}
+use Rattle.certificate_tree.specs.declared.node.Node.TheVariants.{Split, Cost, Point, Band, Excl, Empty}
+use Rattle.certificate_tree.specs.Trees.{Tree, leaf, split, Leaf, leaves, below, above}
+use Rattle.certificate_tree.specs.Ranges.{IsLeafInRange, IsTreeInRange}
+use Rattle.certificate_tree.specs.Holding.{IsAtLeast, IsSingle, first_starts, LeafHolds}
+use Rattle.certificate_tree.specs.Validity.{BoundsPlans}
+use Rattle.certificate_tree.proofs.RootLemmas.{parts_are_boxes}
+use Rattle.certificate_tree.proofs.Refuting.{feasible_allowed, length-first_starts}
+use Rattle.certificate_tree.proofs.Soundness.{zero_in_range}
 use Rattle.certificate_check.proofs.TableLemmas.{list_zero}
 use Rattle.branch_search.specs.Boxes.{worth_by, IsGreatest}
 use Rattle.band_rebound.specs.Rebinding.{IsHeld, Becomes, TreeBecomes, worths_at, tree_worths, LeafCounts, sum_of}

@@ -9,13 +9,13 @@ use Rattle.lagrange_bound.specs.declared.span.Span.{Span}
 use Rattle.lagrange_bound.specs.Prices.{PriceList}
 use Rattle.lagrange_bound.specs.Boxes.{IsBox}
 use Rattle.certificate_lines.specs.declared.line.Bound.{Bound}
-use Rattle.branch_tree.specs.declared.node.Node.{Node}
-use Rattle.branch_tree.specs.declared.node.Node.TheVariants.{Split}
-use Rattle.branch_tree.specs.declared.certificate.Certificate.{Certificate}
-use Rattle.branch_tree.specs.Trees.{Tree, leaf, split, pre_order, root_box, below, above, IsSplit}
-use Rattle.branch_tree.specs.Ranges.{IsLeafInRange, IsTreeInRange, IsTreeOf}
-use Rattle.branch_tree.specs.Walk.{first_box, other_boxes}
-use Rattle.branch_tree.proofs.RootLemmas.{parts_are_boxes, root_is_box}
+use Rattle.certificate_tree.specs.declared.node.Node.{Node}
+use Rattle.certificate_tree.specs.declared.node.Node.TheVariants.{Split}
+use Rattle.certificate_tree.specs.declared.certificate.Certificate.{Certificate}
+use Rattle.certificate_tree.specs.Trees.{Tree, leaf, split, pre_order, root_box, below, above, IsSplit}
+use Rattle.certificate_tree.specs.Ranges.{IsLeafInRange, IsTreeInRange, IsTreeOf}
+use Rattle.certificate_tree.specs.Walk.{first_box, other_boxes}
+use Rattle.certificate_tree.proofs.RootLemmas.{parts_are_boxes, root_is_box}
 use Rattle.band_rebound.specs.declared.growth.Growth.{Growth}
 use Rattle.band_rebound.specs.declared.leaf.NewLeaf.{NewLeaf}
 use Rattle.band_rebound.specs.Rebinding.{TreeBecomes, worths_at, tree_worths, IsBoundOf, LeafCounts, sum_of, CountsLeaf}

@@ -12,10 +12,10 @@ use Rattle.lagrange_bound.specs.Goals.{risk_base, risk_value}
 use Rattle.lagrange_bound.specs.Boxes.{HasStarts}
 use Rattle.certificate_lines.specs.declared.line.Bound.{Bound}
 use Rattle.certificate_lines.specs.declared.line.Bound.TheVariants.{NoPlan, Least}
-use Rattle.branch_tree.specs.declared.node.Node.{Node}
-use Rattle.branch_tree.specs.declared.node.Node.TheVariants.{Split, Cost, Point, Band, Excl, Empty}
-use Rattle.branch_tree.specs.Trees.{Tree, leaf, split, below, above}
-use Rattle.branch_tree.specs.Holding.{IsStartIn, IsSingle, first_starts, BandHolds, ExclHolds, EmptyHolds}
+use Rattle.certificate_tree.specs.declared.node.Node.{Node}
+use Rattle.certificate_tree.specs.declared.node.Node.TheVariants.{Split, Cost, Point, Band, Excl, Empty}
+use Rattle.certificate_tree.specs.Trees.{Tree, leaf, split, below, above}
+use Rattle.certificate_tree.specs.Holding.{IsStartIn, IsSingle, first_starts, BandHolds, ExclHolds, EmptyHolds}
 use Rattle.branch_search.specs.Boxes.{worth_by, IsGreatest}
 
 -- ---- one leaf

@@ -1,9 +1,9 @@
 -- The certificate that another one becomes where the bands of its instance were changed: this is the statement.
 use Rattle.std.specs.Prelude.{◌≡◌}
 use Rattle.instance_model.specs.Tables.{Tables}
-use Rattle.branch_tree.specs.declared.certificate.Certificate.{Certificate}
-use Rattle.branch_tree.specs.Trees.{Tree, root_box}
-use Rattle.branch_tree.specs.Ranges.{IsTreeOf}
+use Rattle.certificate_tree.specs.declared.certificate.Certificate.{Certificate}
+use Rattle.certificate_tree.specs.Trees.{Tree, root_box}
+use Rattle.certificate_tree.specs.Ranges.{IsTreeOf}
 use Rattle.band_rebound.specs.declared.rebounded.Rebounded.{Rebounded}
 use Rattle.band_rebound.specs.Rebinding.{TreeBecomes, tree_worths, IsBoundOf, Counts}
 

@@ -5,10 +5,10 @@ use Rattle.lagrange_bound.specs.declared.span.Span.{Span}
 use Rattle.lagrange_bound.specs.Prices.{PriceList}
 use Rattle.certificate_lines.specs.declared.line.Bound.{Bound}
 use Rattle.certificate_lines.specs.declared.line.Bound.TheVariants.{NoPlan, Least}
-use Rattle.branch_tree.specs.declared.node.Node.{Node}
-use Rattle.branch_tree.specs.declared.certificate.Certificate.{Certificate}
-use Rattle.branch_tree.specs.Trees.{Tree, pre_order, root_box}
-use Rattle.branch_tree.specs.Ranges.{IsTreeOf}
+use Rattle.certificate_tree.specs.declared.node.Node.{Node}
+use Rattle.certificate_tree.specs.declared.certificate.Certificate.{Certificate}
+use Rattle.certificate_tree.specs.Trees.{Tree, pre_order, root_box}
+use Rattle.certificate_tree.specs.Ranges.{IsTreeOf}
 use Rattle.band_rebound.specs.declared.leaf.NewLeaf.{NewLeaf}
 use Rattle.band_rebound.specs.declared.growth.Growth.{Growth}
 use Rattle.band_rebound.specs.Rebinding.{Becomes, TreeBecomes, worths_at, tree_worths, IsBoundOf, LeafCounts, sum_of}

@@ -1,8 +1,8 @@
 //! A certificate for changed bands.
 ghost use Rattle.std.specs.Prelude.{◌≡◌, IfOk};
 ghost use Rattle.lagrange_bound.specs.Goals.{risk_base, risk_value};
-ghost use Rattle.branch_tree.specs.Ranges.{IsInRange};
-ghost use Rattle.branch_tree.specs.Validity.{IsValid, BoundsPlans};
+ghost use Rattle.certificate_tree.specs.Ranges.{IsInRange};
+ghost use Rattle.certificate_tree.specs.Validity.{IsValid, BoundsPlans};
 ghost use Rattle.band_rebound.specs.declared.rebounded.Rebounded.{Rebounded};
 ghost use Rattle.band_rebound.specs.Rebinding.{IsNoLower};
 ghost use Rattle.band_rebound.specs.Rebounds.{IsReboundOf};
@@ -10,8 +10,8 @@ ghost use Rattle.band_rebound.specs.Rebounds.{IsReboundOf};
 use crate::Rebounded;
 use crate::growth::Growth;
 use crate::walk::grow;
-use branch_tree::{Certificate, Nodes, PriceLists, nodes_are_one_tree, valid_bounds_plans};
 use certificate_check::tables_of;
+use certificate_tree::{Certificate, Nodes, PriceLists, nodes_are_one_tree, valid_bounds_plans};
 use instance_model::Instance;
 use lagrange_bound::{Prices, RiskGoal, worths_are_small};
 use std::alloc::{AllocError, Global};

@@ -6,7 +6,7 @@ ghost use Rattle.band_rebound.specs.Rebinding.{IsBoundOf};
 ghost use Rattle.band_rebound.specs.Steps.{some_worth, top_of, TakesLeaf};
 
 use crate::leaf::NewLeaf;
-use branch_tree::{Bound, Node};
+use certificate_tree::{Bound, Node};
 use std::alloc::{AllocError, Global};
 
 /// The greatest number that a bound may be.

@@ -2,15 +2,15 @@
 ghost use Rattle.std.specs.Prelude.{◌≡◌, ◌<◌, ◌≤◌, ◌^◌, [], length, IsTrue, IfOk, IfSome, IfNone, ◌↔◌, unsigned_abs};
 ghost use Rattle.lagrange_bound.specs.Goals.{risk_base};
 ghost use Rattle.lagrange_bound.specs.Boxes.{IsBox, HasStarts};
-ghost use Rattle.branch_tree.specs.Holding.{IsSingle};
-ghost use Rattle.branch_tree.specs.Ranges.{IsLeafInRange};
+ghost use Rattle.certificate_tree.specs.Holding.{IsSingle};
+ghost use Rattle.certificate_tree.specs.Ranges.{IsLeafInRange};
 ghost use Rattle.branch_search.specs.Boxes.{worth_by, IsGreatest};
 ghost use Rattle.certificate_check.specs.Priced.{AreTables};
 ghost use Rattle.band_rebound.specs.Rebinding.{IsFirstEmpty, IsHeld, worths_at};
 ghost use Rattle.band_rebound.specs.Steps.{some_worth, IsNewLeaf};
 
-use branch_tree::{Certificate, Node, band_holds, excl_holds, has_start};
 use certificate_check::{is_single, starts_of};
+use certificate_tree::{Certificate, Node, band_holds, excl_holds, has_start};
 use instance_model::{Instance, plan_of};
 use lagrange_bound::{Goal, PriceTable, RiskGoal, Span, worth};
 use plan_score::broken_rule;

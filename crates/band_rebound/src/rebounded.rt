@@ -1,5 +1,5 @@
 //! What a certificate becomes.
-use branch_tree::Certificate;
+use certificate_tree::Certificate;
 
 /// A certificate that is valid for the instance, and how many leaves are the same as before and how many are others.
 #[derive(Drop)]

@@ -1,13 +1,13 @@
 //! The walk over the nodes of a certificate.
 ghost use Rattle.std.specs.Prelude.{IfOk};
 ghost use Rattle.lagrange_bound.specs.Goals.{risk_base};
-ghost use Rattle.branch_tree.specs.Ranges.{IsInRange};
+ghost use Rattle.certificate_tree.specs.Ranges.{IsInRange};
 ghost use Rattle.certificate_check.specs.Priced.{AreTables};
 ghost use Rattle.band_rebound.specs.Steps.{IsGrown};
 
 use crate::growth::Growth;
 use crate::leaf::new_leaf;
-use branch_tree::{BoxPath, Certificate, Node};
+use certificate_tree::{BoxPath, Certificate, Node};
 use instance_model::Instance;
 use lagrange_bound::PriceTable;
 use std::alloc::{AllocError, Global};

@@ -23,10 +23,10 @@ use Rattle.lagrange_bound.specs.Least.{least_over}
 use Rattle.lagrange_bound.specs.Boxes.{span_of, starts_in, HasStarts}
 use Rattle.certificate_lines.specs.declared.line.Side.{Side}
 use Rattle.certificate_lines.specs.declared.line.Side.TheVariants.{Over, Under}
-use Rattle.branch_tree.specs.Loads.{greatest_over, load_by_start, least_load, greatest_load}
-use Rattle.branch_tree.specs.Extremes.{extreme_over, extreme_load}
-use Rattle.branch_tree.specs.Holding.{IsOffLimit}
-use Rattle.branch_tree.proofs.StartLemmas.{has_start_from, start_found}
+use Rattle.certificate_tree.specs.Loads.{greatest_over, load_by_start, least_load, greatest_load}
+use Rattle.certificate_tree.specs.Extremes.{extreme_over, extreme_load}
+use Rattle.certificate_tree.specs.Holding.{IsOffLimit}
+use Rattle.certificate_tree.proofs.StartLemmas.{has_start_from, start_found}
 use Rattle.box_state.specs.declared.extent.Extent.{Extent}
 use Rattle.box_state.specs.declared.range.LoadRange.{LoadRange}
 use Rattle.box_state.specs.declared.band.Band.{Band}

@@ -9,7 +9,7 @@ use Rattle.instance_model.specs.Tables.{Tables, exclusion_of}
 use Rattle.duration_calendar.specs.Calendar.{IsAllowedIn}
 use Rattle.lagrange_bound.specs.declared.span.Span.{Span}
 use Rattle.lagrange_bound.specs.Boxes.{span_of}
-use Rattle.branch_tree.specs.Holding.{IsStartIn, ExclHolds}
+use Rattle.certificate_tree.specs.Holding.{IsStartIn, ExclHolds}
 use Rattle.season_exclusion.specs.Broken.{is_named, naming_of}
 use Rattle.season_exclusion.proofs.NamedLemmas.{naming_to-names, naming_to-each}
 use Rattle.box_state.specs.Exclusions.{index_of, NoExclusionHolds, NoOtherHolds, OthersAreKept, NoOthersArise}

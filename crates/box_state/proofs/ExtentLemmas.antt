@@ -16,8 +16,8 @@ use Rattle.lagrange_bound.specs.Boxes.{starts_in}
 use Rattle.lagrange_bound.specs.Least.{least_over}
 use Rattle.certificate_lines.specs.declared.line.Side.{Side}
 use Rattle.certificate_lines.specs.declared.line.Side.TheVariants.{Over, Under}
-use Rattle.branch_tree.specs.Loads.{greatest_over}
-use Rattle.branch_tree.specs.Extremes.{extreme, extreme_over}
+use Rattle.certificate_tree.specs.Loads.{greatest_over}
+use Rattle.certificate_tree.specs.Extremes.{extreme, extreme_over}
 use Rattle.box_state.specs.declared.extent.Extent.{Extent}
 use Rattle.box_state.specs.Extents.{no_extent, end_of, end_to, end_with, taken, IsExtentOf, IsTaken}
 

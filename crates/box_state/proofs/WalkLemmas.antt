@@ -14,7 +14,7 @@ use Rattle.instance_model.specs.Tables.{Tables, in_run, load_of}
 use Rattle.instance_model.proofs.EntryLemmas.{IsRunning-from}
 use Rattle.instance_model.proofs.CellLemmas.{load_found, load_missing}
 use Rattle.instance_model.proofs.BoardLemmas.{load_at-idle, load_at-running}
-use Rattle.branch_tree.specs.Loads.{load_by_start}
+use Rattle.certificate_tree.specs.Loads.{load_by_start}
 use Rattle.box_state.specs.declared.extent.Extent.{Extent}
 use Rattle.box_state.specs.KeptLoads.{place_of}
 use Rattle.box_state.specs.Extents.{no_extent, extent_at, taken, IsTaken, AreExtentsOf}

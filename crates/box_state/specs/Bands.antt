@@ -3,7 +3,7 @@ use Rattle.std.specs.Prelude.{ℕ, ◌<◌, ◌≤◌, List, length}
 use Rattle.instance_model.specs.Tables.{Tables}
 use Rattle.lagrange_bound.specs.declared.span.Span.{Span}
 use Rattle.certificate_lines.specs.declared.line.Side.{Side}
-use Rattle.branch_tree.specs.Holding.{BandHolds}
+use Rattle.certificate_tree.specs.Holding.{BandHolds}
 use Rattle.box_state.specs.declared.band.Band.{Band}
 
 -- a resource of the instance and a period of its horizon

@@ -3,7 +3,7 @@ use Rattle.std.specs.Prelude.{◌≡◌, ℕ, ◌<◌, false, List, length, slic
 use Rattle.std.specs.List.{range_with_len}
 use Rattle.instance_model.specs.Tables.{Tables, exclusion_of}
 use Rattle.lagrange_bound.specs.declared.span.Span.{Span}
-use Rattle.branch_tree.specs.Holding.{ExclHolds}
+use Rattle.certificate_tree.specs.Holding.{ExclHolds}
 use Rattle.season_exclusion.specs.Broken.{is_named, naming_of}
 
 -- the exclusions that name each intervention

@@ -7,8 +7,8 @@ use Rattle.instance_model.specs.Tables.{Tables}
 use Rattle.lagrange_bound.specs.declared.span.Span.{Span}
 use Rattle.certificate_lines.specs.declared.line.Side.{Side}
 use Rattle.certificate_lines.specs.declared.line.Side.TheVariants.{Over, Under}
-use Rattle.branch_tree.specs.Loads.{load_by_start}
-use Rattle.branch_tree.specs.Extremes.{extreme, extreme_over}
+use Rattle.certificate_tree.specs.Loads.{load_by_start}
+use Rattle.certificate_tree.specs.Extremes.{extreme, extreme_over}
 use Rattle.box_state.specs.declared.extent.Extent.{Extent}
 use Rattle.box_state.specs.declared.range.LoadRange.{LoadRange}
 use Rattle.box_state.specs.KeptLoads.{place_of}

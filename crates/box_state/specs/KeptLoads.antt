@@ -3,7 +3,7 @@ use Rattle.std.specs.Prelude.{◌≡◌, ℕ, ◌+◌, ◌-◌, ◌*◌, ◌<◌
 use Rattle.instance_model.specs.Tables.{Tables, tmax}
 use Rattle.lagrange_bound.specs.declared.span.Span.{Span}
 use Rattle.lagrange_bound.specs.Boxes.{span_of}
-use Rattle.branch_tree.specs.Loads.{least_load, greatest_load}
+use Rattle.certificate_tree.specs.Loads.{least_load, greatest_load}
 use Rattle.box_state.specs.declared.range.LoadRange.{LoadRange}
 
 -- the place of resource c in period t in a list by resource, then period

@@ -2,7 +2,7 @@
 use Rattle.std.specs.Prelude.{List}
 use Rattle.instance_model.specs.Tables.{Tables}
 use Rattle.lagrange_bound.specs.declared.span.Span.{Span}
-use Rattle.branch_tree.specs.Holding.{IsOffLimit}
+use Rattle.certificate_tree.specs.Holding.{IsOffLimit}
 use Rattle.box_state.specs.declared.band.Band.{Band}
 use Rattle.box_state.specs.Bands.{IsBand}
 

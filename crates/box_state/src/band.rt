@@ -1,5 +1,5 @@
 //! A band, and the limit of it that a load leaves.
-use branch_tree::Side;
+use certificate_tree::Side;
 
 /// Resource `c` in period `t`, and the side of its band.
 #[derive(Clone, Copy, Debug, PartialEq, Eq)]

@@ -4,7 +4,7 @@ ghost use Rattle.instance_model.specs.Tables.{tmax};
 ghost use Rattle.lagrange_bound.specs.Boxes.{span_of};
 ghost use Rattle.box_state.specs.Exclusions.{index_of, IsHoldingExclusion, NoExclusionHolds, NoOtherHolds};
 
-use branch_tree::excl_holds;
+use certificate_tree::excl_holds;
 use instance_model::Instance;
 use lagrange_bound::Span;
 use season_exclusion::{Named, named_lists};

@@ -4,7 +4,7 @@ ghost use Rattle.instance_model.specs.declared.parts.LoadCell.{LoadCell};
 ghost use Rattle.instance_model.specs.Fitting.{CellBefore};
 ghost use Rattle.instance_model.specs.Tables.{is_allowed, tmax};
 ghost use Rattle.lagrange_bound.specs.Boxes.{starts_in};
-ghost use Rattle.branch_tree.specs.Loads.{load_by_start};
+ghost use Rattle.certificate_tree.specs.Loads.{load_by_start};
 ghost use Rattle.box_state.specs.KeptLoads.{place_of};
 ghost use Rattle.box_state.specs.Extents.{extent_at, AreExtentsOf, IsTaken};
 

@@ -10,10 +10,10 @@ use Rattle.instance_model.specs.Fitting.{IsFitting}
 use Rattle.lagrange_bound.specs.declared.span.Span.{Span}
 use Rattle.lagrange_bound.specs.Boxes.{IsBox}
 use Rattle.lagrange_bound.specs.Goals.{PlanValue}
-use Rattle.branch_tree.specs.declared.node.Node.{Node}
-use Rattle.branch_tree.specs.declared.node.Node.TheVariants.{Split, Cost}
-use Rattle.branch_tree.specs.Trees.{root_box}
-use Rattle.branch_tree.proofs.RootLemmas.{root_is_box}
+use Rattle.certificate_tree.specs.declared.node.Node.{Node}
+use Rattle.certificate_tree.specs.declared.node.Node.TheVariants.{Split, Cost}
+use Rattle.certificate_tree.specs.Trees.{root_box}
+use Rattle.certificate_tree.proofs.RootLemmas.{root_is_box}
 use Rattle.branch_search.specs.declared.tree.cell.Cell.{Cell}
 use Rattle.branch_search.specs.declared.splitting.settling.Settled.{Settled}
 use Rattle.branch_search.specs.Best.{IsFeasiblePlan, IsNoWorse, IsBestOver}

@@ -8,10 +8,10 @@ use Rattle.instance_model.specs.Tables.{Tables, tmax}
 use Rattle.instance_model.specs.Fitting.{IsFitting}
 use Rattle.lagrange_bound.specs.declared.span.Span.{Span}
 use Rattle.lagrange_bound.specs.Boxes.{span_of, IsBox}
-use Rattle.branch_tree.specs.declared.node.Node.{Node}
-use Rattle.branch_tree.specs.declared.node.Node.TheVariants.{Split}
-use Rattle.branch_tree.specs.Trees.{below, above, root_box, IsSplit}
-use Rattle.branch_tree.proofs.RootLemmas.{root_at, length-root, changed_at}
+use Rattle.certificate_tree.specs.declared.node.Node.{Node}
+use Rattle.certificate_tree.specs.declared.node.Node.TheVariants.{Split}
+use Rattle.certificate_tree.specs.Trees.{below, above, root_box, IsSplit}
+use Rattle.certificate_tree.proofs.RootLemmas.{root_at, length-root, changed_at}
 use Rattle.branch_search.specs.declared.tree.cell.Cell.{Cell}
 use Rattle.branch_search.specs.Growing.{cell_at, node_at, box_at, IsSplitAt, IsLinked, IsPartOf, AreBoxesOf}
 use Rattle.branch_search.specs.Climbing.{cut_above, cut_below, narrowed, IsCommon, IsClimbed}

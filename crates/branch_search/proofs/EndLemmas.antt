@@ -16,11 +16,11 @@ use Rattle.certificate_lines.specs.declared.line.Bound.{Bound}
 use Rattle.certificate_lines.specs.declared.line.Bound.TheVariants.{NoPlan, Least}
 use Rattle.certificate_lines.specs.declared.line.Version.{Version}
 use Rattle.certificate_lines.specs.declared.line.Version.TheVariants.{Two}
-use Rattle.branch_tree.specs.declared.node.Node.{Node}
-use Rattle.branch_tree.specs.declared.node.Node.TheVariants.{Split, Cost, Point, Band, Excl, Empty}
-use Rattle.branch_tree.specs.Trees.{Tree, Leaf, leaves, root_box}
-use Rattle.branch_tree.specs.Holding.{IsAtLeast, LeafHolds, first_starts, IsSingle}
-use Rattle.branch_tree.specs.Ranges.{IsLeafInRange, IsTreeInRange, IsTreeOf}
+use Rattle.certificate_tree.specs.declared.node.Node.{Node}
+use Rattle.certificate_tree.specs.declared.node.Node.TheVariants.{Split, Cost, Point, Band, Excl, Empty}
+use Rattle.certificate_tree.specs.Trees.{Tree, Leaf, leaves, root_box}
+use Rattle.certificate_tree.specs.Holding.{IsAtLeast, LeafHolds, first_starts, IsSingle}
+use Rattle.certificate_tree.specs.Ranges.{IsLeafInRange, IsTreeInRange, IsTreeOf}
 use Rattle.branch_search.specs.declared.best.Best.{Best}
 use Rattle.branch_search.specs.declared.tree.cell.Cell.{Cell}
 use Rattle.branch_search.specs.declared.tree.growth.Growth.{Growth}

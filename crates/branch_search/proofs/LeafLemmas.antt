@@ -5,11 +5,11 @@ use Rattle.fixed_num.proofs.SignedLemmas.{signed_arith}
 use Rattle.instance_model.specs.Tables.{Tables}
 use Rattle.lagrange_bound.specs.declared.span.Span.{Span}
 use Rattle.lagrange_bound.specs.Boxes.{span_of}
-use Rattle.branch_tree.specs.declared.node.Node.{Node}
-use Rattle.branch_tree.specs.declared.node.Node.TheVariants.{Split, Cost, Point, Band, Excl, Empty}
-use Rattle.branch_tree.specs.Trees.{below, above, IsSplit}
-use Rattle.branch_tree.specs.Holding.{first_starts}
-use Rattle.branch_tree.proofs.StartLemmas.{has_start_from}
+use Rattle.certificate_tree.specs.declared.node.Node.{Node}
+use Rattle.certificate_tree.specs.declared.node.Node.TheVariants.{Split, Cost, Point, Band, Excl, Empty}
+use Rattle.certificate_tree.specs.Trees.{below, above, IsSplit}
+use Rattle.certificate_tree.specs.Holding.{first_starts}
+use Rattle.certificate_tree.proofs.StartLemmas.{has_start_from}
 use Rattle.branch_search.specs.declared.splitting.settling.Settled.{Settled}
 use Rattle.branch_search.specs.Best.{IsReached, IsBestOver}
 use Rattle.branch_search.specs.Tasks.{Task, freed}

@@ -11,9 +11,9 @@ use Rattle.lagrange_bound.specs.Worth.{price_total, WorthsAreSmall}
 use Rattle.lagrange_bound.proofs.PriceLemmas.{zero_in_range, zero_total}
 use Rattle.certificate_lines.specs.declared.line.Bound.{Bound}
 use Rattle.certificate_lines.specs.declared.line.Bound.TheVariants.{NoPlan, Least}
-use Rattle.branch_tree.specs.Trees.{Tree, leaf, split, pre_order, Leaf, leaves, root_box, below, above}
-use Rattle.branch_tree.specs.Ranges.{IsBoundInRange}
-use Rattle.branch_tree.specs.Holding.{list_at}
+use Rattle.certificate_tree.specs.Trees.{Tree, leaf, split, pre_order, Leaf, leaves, root_box, below, above}
+use Rattle.certificate_tree.specs.Ranges.{IsBoundInRange}
+use Rattle.certificate_tree.specs.Holding.{list_at}
 use Rattle.branch_search.specs.declared.tree_end.TreeEnd.{TreeEnd}
 use Rattle.branch_search.specs.Splits.{split_boxes}
 use Rattle.branch_search.specs.Best.{IsBestOver}

@@ -14,10 +14,10 @@ use Rattle.lagrange_bound.specs.Prices.{PriceList, zero_list}
 use Rattle.lagrange_bound.specs.Goals.{Bases, PlanValue}
 use Rattle.lagrange_bound.specs.Boxes.{span_of, IsBox, HasStarts, IsPlanIn}
 use Rattle.lagrange_bound.specs.Tabulated.{PriceRows}
-use Rattle.branch_tree.specs.declared.node.Node.TheVariants.{Cost}
-use Rattle.branch_tree.specs.Holding.{IsSingle, first_starts, list_at}
-use Rattle.branch_tree.specs.Trees.{AreStartsIn}
-use Rattle.branch_tree.proofs.Refuting.{feasible_allowed, length-first_starts}
+use Rattle.certificate_tree.specs.declared.node.Node.TheVariants.{Cost}
+use Rattle.certificate_tree.specs.Holding.{IsSingle, first_starts, list_at}
+use Rattle.certificate_tree.specs.Trees.{AreStartsIn}
+use Rattle.certificate_tree.proofs.Refuting.{feasible_allowed, length-first_starts}
 use Rattle.branch_search.specs.declared.closing.worths.Worths.{Worths}
 use Rattle.branch_search.specs.Boxes.{IsUnrefuted, worth_by, IsGreatest}
 use Rattle.branch_search.specs.Tasks.{free_task}

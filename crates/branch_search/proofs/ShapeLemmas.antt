@@ -3,8 +3,8 @@ use Rattle.std.proofs.Common.{◌≡◌, ℕ, suc, ◌+◌, ◌*◌, ◌<◌, �
 use Rattle.std.proofs.Common.{cond}
 use Rattle.std.proofs.Common.{List, length, eqb, inl, inr, ◌⊎◌}
 use Rattle.std.proofs.lemmas.Bool.{eqb-true, eqb-false, eq-eqb, ne_eqb, cases_order}
-use Rattle.branch_tree.specs.declared.node.Node.{Node}
-use Rattle.branch_tree.specs.declared.node.Node.TheVariants.{Split}
+use Rattle.certificate_tree.specs.declared.node.Node.{Node}
+use Rattle.certificate_tree.specs.declared.node.Node.TheVariants.{Split}
 use Rattle.branch_search.specs.declared.tree.cell.Cell.{Cell}
 use Rattle.branch_search.specs.Growing.{cell_at, node_at, IsLeafNode, split_cells}
 use Rattle.branch_search.specs.Shapes.{Shape, tip, fork, top, forks, size, same, times, tips, IsWithin, IsForkAt}

@@ -16,9 +16,9 @@ use Rattle.lagrange_bound.specs.Goals.{Bases, PlanValue}
 use Rattle.lagrange_bound.specs.Boxes.{IsBox}
 use Rattle.lagrange_bound.specs.Worth.{WorthBoundsPlans}
 use Rattle.certificate_lines.specs.declared.line.Version.{Version}
-use Rattle.branch_tree.specs.Trees.{IsSplit}
-use Rattle.branch_tree.specs.Ranges.{HasPricesOf, IsBoundInRange, IsInRange}
-use Rattle.branch_tree.specs.Holding.{IsSingle}
+use Rattle.certificate_tree.specs.Trees.{IsSplit}
+use Rattle.certificate_tree.specs.Ranges.{HasPricesOf, IsBoundInRange, IsInRange}
+use Rattle.certificate_tree.specs.Holding.{IsSingle}
 use Rattle.branch_search.specs.declared.best.Best.{Best}
 use Rattle.branch_search.specs.declared.tree.cell.Cell.{Cell}
 use Rattle.branch_search.specs.declared.tree.growth.Growth.{Growth}

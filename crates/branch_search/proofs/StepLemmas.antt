@@ -10,11 +10,11 @@ use Rattle.instance_model.specs.Fitting.{IsFitting}
 use Rattle.lagrange_bound.specs.declared.span.Span.{Span}
 use Rattle.lagrange_bound.specs.Prices.{IsPriceList}
 use Rattle.lagrange_bound.specs.Worth.{WorthBoundsPlans}
-use Rattle.branch_tree.specs.declared.node.Node.{Node}
-use Rattle.branch_tree.specs.declared.node.Node.TheVariants.{Split, Cost}
-use Rattle.branch_tree.specs.Trees.{below, above, IsSplit}
-use Rattle.branch_tree.specs.Holding.{list_at}
-use Rattle.branch_tree.proofs.Soundness.{list_in_range}
+use Rattle.certificate_tree.specs.declared.node.Node.{Node}
+use Rattle.certificate_tree.specs.declared.node.Node.TheVariants.{Split, Cost}
+use Rattle.certificate_tree.specs.Trees.{below, above, IsSplit}
+use Rattle.certificate_tree.specs.Holding.{list_at}
+use Rattle.certificate_tree.proofs.Soundness.{list_in_range}
 use Rattle.branch_search.specs.declared.tree.cell.Cell.{Cell}
 use Rattle.branch_search.specs.declared.splitting.settling.Settled.{Settled}
 use Rattle.branch_search.specs.Best.{IsShort, IsBestOver}

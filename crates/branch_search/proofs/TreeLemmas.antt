@@ -8,10 +8,10 @@ use Rattle.std.proofs.lemmas.List.{map-append, length-append, get_or_append_left
 use Rattle.std.proofs.lemmas.List.Elements.{All-nil, All-cons, All-append}
 use Rattle.instance_model.specs.Tables.{Tables}
 use Rattle.lagrange_bound.specs.declared.span.Span.{Span}
-use Rattle.branch_tree.specs.declared.node.Node.{Node}
-use Rattle.branch_tree.specs.declared.node.Node.TheVariants.{Split, Cost, Point, Band, Excl, Empty}
-use Rattle.branch_tree.specs.Trees.{Tree, leaf, split, pre_order, below, above, IsSplit, Leaf, leaves}
-use Rattle.branch_tree.specs.Ranges.{IsLeafInRange, IsTreeInRange}
+use Rattle.certificate_tree.specs.declared.node.Node.{Node}
+use Rattle.certificate_tree.specs.declared.node.Node.TheVariants.{Split, Cost, Point, Band, Excl, Empty}
+use Rattle.certificate_tree.specs.Trees.{Tree, leaf, split, pre_order, below, above, IsSplit, Leaf, leaves}
+use Rattle.certificate_tree.specs.Ranges.{IsLeafInRange, IsTreeInRange}
 use Rattle.branch_search.specs.declared.tree.cell.Cell.{Cell}
 use Rattle.branch_search.specs.Splits.{split_boxes}
 use Rattle.branch_search.specs.Growing.{cell_at, node_at, box_at, IsLeafNode, IsSplitAt, IsLinked, AreBoxesOf}

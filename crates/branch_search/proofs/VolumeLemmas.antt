@@ -12,10 +12,10 @@ use Rattle.instance_model.specs.Tables.{Tables, tmax}
 use Rattle.instance_model.specs.Fitting.{IsFitting}
 use Rattle.lagrange_bound.specs.declared.span.Span.{Span}
 use Rattle.lagrange_bound.specs.Boxes.{span_of, IsBox}
-use Rattle.branch_tree.specs.Trees.{Tree, leaf, split, Leaf, leaves, below, above, root_box, IsSplit}
-use Rattle.branch_tree.specs.Holding.{IsSingle}
-use Rattle.branch_tree.specs.Ranges.{IsTreeInRange}
-use Rattle.branch_tree.proofs.RootLemmas.{root_at, length-root, root_is_box, changed_at}
+use Rattle.certificate_tree.specs.Trees.{Tree, leaf, split, Leaf, leaves, below, above, root_box, IsSplit}
+use Rattle.certificate_tree.specs.Holding.{IsSingle}
+use Rattle.certificate_tree.specs.Ranges.{IsTreeInRange}
+use Rattle.certificate_tree.proofs.RootLemmas.{root_at, length-root, root_is_box, changed_at}
 use Rattle.branch_search.specs.Splits.{split_boxes}
 
 -- ---- products

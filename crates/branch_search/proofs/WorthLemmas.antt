@@ -18,9 +18,9 @@ use Rattle.lagrange_bound.specs.TailLemmas.{least_over_le, least_over_reached}
 use Rattle.lagrange_bound.specs.Prices.{PriceList}
 use Rattle.lagrange_bound.specs.Boxes.{span_of, starts_in, HasStarts, IsBox, IsPlanIn}
 use Rattle.lagrange_bound.specs.Worth.{price_of, fixed_part, worth_of}
-use Rattle.branch_tree.specs.Trees.{below, above, IsSplit}
-use Rattle.branch_tree.proofs.RootLemmas.{changed_at}
-use Rattle.branch_tree.proofs.StartLemmas.{in_starts}
+use Rattle.certificate_tree.specs.Trees.{below, above, IsSplit}
+use Rattle.certificate_tree.proofs.RootLemmas.{changed_at}
+use Rattle.certificate_tree.proofs.StartLemmas.{in_starts}
 
 -- one box is a part of another
 pub record IsPart (part box : List Span) : Type 0 where

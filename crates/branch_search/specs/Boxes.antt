@@ -7,7 +7,7 @@ use Rattle.lagrange_bound.specs.Goals.{Bases}
 use Rattle.lagrange_bound.specs.Boxes.{HasStarts}
 use Rattle.lagrange_bound.specs.Worth.{worth_of}
 use Rattle.certificate_lines.specs.declared.line.Side.{Side}
-use Rattle.branch_tree.specs.Holding.{list_at, BandHolds, ExclHolds}
+use Rattle.certificate_tree.specs.Holding.{list_at, BandHolds, ExclHolds}
 
 -- each interval has an allowed start, and no `band` leaf and no `excl` leaf holds
 pub record IsUnrefuted (inst : Tables) (box : List Span) : Type 0 where

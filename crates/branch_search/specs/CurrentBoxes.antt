@@ -2,7 +2,7 @@
 use Rattle.std.specs.Prelude.{◌≡◌, ℕ, List, Option}
 use Rattle.instance_model.specs.Tables.{Tables}
 use Rattle.lagrange_bound.specs.declared.span.Span.{Span}
-use Rattle.branch_tree.specs.Trees.{IsSplit}
+use Rattle.certificate_tree.specs.Trees.{IsSplit}
 use Rattle.box_state.specs.KeptLoads.{IsOver}
 use Rattle.box_state.specs.Exclusions.{index_of}
 use Rattle.branch_search.specs.declared.splitting.current_box.CurrentBox.{CurrentBox}

@@ -1,7 +1,7 @@
 -- The nodes of a tree under construction, listed in their order. Cited by private functions only: no part of any
 -- promise.
 use Rattle.std.specs.Prelude.{◌≡◌, ℕ, List, [], ◌∷◌, ◌++◌, length, map, reverse}
-use Rattle.branch_tree.specs.declared.node.Node.{Node}
+use Rattle.certificate_tree.specs.declared.node.Node.{Node}
 use Rattle.branch_search.specs.declared.tree.cell.Cell.{Cell}
 use Rattle.branch_search.specs.Growing.{node_at}
 use Rattle.branch_search.specs.Shapes.{Shape, top, numbers, Stands, IsWithin, IsShapeOf}

@@ -8,7 +8,7 @@ use Rattle.lagrange_bound.specs.Goals.{Bases}
 use Rattle.lagrange_bound.specs.Boxes.{IsBox, HasStarts}
 use Rattle.lagrange_bound.specs.Worth.{worth_of}
 use Rattle.lagrange_bound.specs.Tabulated.{PriceRows, IsPricedBox, worth_in}
-use Rattle.branch_tree.specs.Holding.{list_at}
+use Rattle.certificate_tree.specs.Holding.{list_at}
 use Rattle.branch_search.specs.declared.closing.worths.Worths.{Worths}
 
 -- the table has a price for each interval of a box with starts, and gives the worth of that box

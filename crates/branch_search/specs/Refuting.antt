@@ -3,10 +3,10 @@ use Rattle.std.specs.Prelude.{ℕ, ◌<◌, ◌≤◌, List, length}
 use Rattle.instance_model.specs.Tables.{Tables}
 use Rattle.lagrange_bound.specs.declared.span.Span.{Span}
 use Rattle.lagrange_bound.specs.Boxes.{starts_in, span_of}
-use Rattle.branch_tree.specs.declared.node.Node.{Node}
-use Rattle.branch_tree.specs.declared.node.Node.TheVariants.{Split, Cost, Point, Band, Excl, Empty}
+use Rattle.certificate_tree.specs.declared.node.Node.{Node}
+use Rattle.certificate_tree.specs.declared.node.Node.TheVariants.{Split, Cost, Point, Band, Excl, Empty}
 use Rattle.certificate_lines.specs.declared.line.Side.{Side}
-use Rattle.branch_tree.specs.Holding.{BandHolds, ExclHolds}
+use Rattle.certificate_tree.specs.Holding.{BandHolds, ExclHolds}
 
 -- a `band` leaf of this resource and period that holds
 pub record IsBandIn (inst : Tables) (box : List Span) (c t : ℕ) (side : Side) : Type 0 where

@@ -10,13 +10,13 @@ use Rattle.lagrange_bound.specs.Goals.{Bases, PlanValue}
 use Rattle.certificate_lines.specs.declared.line.Bound.{Bound}
 use Rattle.certificate_lines.specs.declared.line.Bound.TheVariants.{NoPlan, Least}
 use Rattle.certificate_lines.specs.declared.line.Version.TheVariants.{Two}
-use Rattle.branch_tree.specs.declared.node.Node.{Node}
-use Rattle.branch_tree.specs.declared.node.Node.TheVariants.{Split, Cost, Point, Band, Excl, Empty}
-use Rattle.branch_tree.specs.declared.certificate.Certificate.{Certificate}
-use Rattle.branch_tree.specs.Trees.{Tree, Leaf, leaves, root_box}
-use Rattle.branch_tree.specs.Ranges.{IsTreeOf}
-use Rattle.branch_tree.specs.Holding.{IsSingle, first_starts}
-use Rattle.branch_tree.specs.Validity.{CertLeafHolds}
+use Rattle.certificate_tree.specs.declared.node.Node.{Node}
+use Rattle.certificate_tree.specs.declared.node.Node.TheVariants.{Split, Cost, Point, Band, Excl, Empty}
+use Rattle.certificate_tree.specs.declared.certificate.Certificate.{Certificate}
+use Rattle.certificate_tree.specs.Trees.{Tree, Leaf, leaves, root_box}
+use Rattle.certificate_tree.specs.Ranges.{IsTreeOf}
+use Rattle.certificate_tree.specs.Holding.{IsSingle, first_starts}
+use Rattle.certificate_tree.specs.Validity.{CertLeafHolds}
 use Rattle.branch_search.specs.declared.tree_end.TreeEnd.{TreeEnd}
 use Rattle.branch_search.specs.Splits.{split_boxes}
 use Rattle.branch_search.specs.Best.{IsReached, IsShort, IsBestOver, bound_of}

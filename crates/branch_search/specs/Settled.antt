@@ -3,11 +3,11 @@ use Rattle.std.specs.Prelude.{◌≡◌, ◌^◌, ℕ, ◌<◌, ℤ, ◌≤ℤ�
 use Rattle.std.specs.Prelude.{unsigned_abs}
 use Rattle.lagrange_bound.specs.declared.span.Span.{Span}
 use Rattle.lagrange_bound.specs.Boxes.{IsPlanIn}
-use Rattle.branch_tree.specs.declared.node.Node.{Node}
-use Rattle.branch_tree.specs.declared.node.Node.TheVariants.{Split, Cost, Point, Band, Excl, Empty}
-use Rattle.branch_tree.specs.Holding.{IsSingle, BandHolds, ExclHolds, EmptyHolds}
-use Rattle.branch_tree.specs.Ranges.{IsLeafInRange}
-use Rattle.branch_tree.specs.Trees.{below, above}
+use Rattle.certificate_tree.specs.declared.node.Node.{Node}
+use Rattle.certificate_tree.specs.declared.node.Node.TheVariants.{Split, Cost, Point, Band, Excl, Empty}
+use Rattle.certificate_tree.specs.Holding.{IsSingle, BandHolds, ExclHolds, EmptyHolds}
+use Rattle.certificate_tree.specs.Ranges.{IsLeafInRange}
+use Rattle.certificate_tree.specs.Trees.{below, above}
 use Rattle.branch_search.specs.declared.splitting.settling.Settled.{Settled}
 use Rattle.branch_search.specs.Boxes.{IsUnrefuted, IsGreatest}
 use Rattle.branch_search.specs.Growing.{IsLeafNode}

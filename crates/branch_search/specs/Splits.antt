@@ -1,7 +1,7 @@
 -- The boxes of the splits of a tree.
 use Rattle.std.specs.Prelude.{List, [], ◌∷◌, ◌++◌}
 use Rattle.lagrange_bound.specs.declared.span.Span.{Span}
-use Rattle.branch_tree.specs.Trees.{Tree, leaf, split, below, above}
+use Rattle.certificate_tree.specs.Trees.{Tree, leaf, split, below, above}
 
 -- the boxes of the splits of a tree over a box, in the order of its nodes
 abbrev pub split_boxes : List Span → Tree → List (List Span)

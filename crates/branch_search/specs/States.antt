@@ -7,7 +7,7 @@ use Rattle.lagrange_bound.specs.Prices.{PriceList}
 use Rattle.certificate_lines.specs.declared.line.Bound.{Bound}
 use Rattle.certificate_lines.specs.declared.line.Bound.TheVariants.{NoPlan, Least}
 use Rattle.certificate_lines.specs.declared.line.Version.TheVariants.{Two}
-use Rattle.branch_tree.specs.declared.node.Node.TheVariants.{Split, Cost}
+use Rattle.certificate_tree.specs.declared.node.Node.TheVariants.{Split, Cost}
 use Rattle.branch_search.specs.declared.best.Best.{Best}
 use Rattle.branch_search.specs.declared.tree.cell.Cell.{Cell}
 use Rattle.branch_search.specs.declared.tree.growth.Growth.{Growth}

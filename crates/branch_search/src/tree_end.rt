@@ -1,5 +1,5 @@
 //! What a search answers.
-use branch_tree::Certificate;
+use certificate_tree::Certificate;
 use instance_model::Starts;
 
 /// A certificate, the best plan that was handed in or met, if there is one, and whether a box is left that may have a

@@ -3,10 +3,10 @@ use Rattle.std.proofs.Common.{◌≡◌, ℕ, refl, sym, ◌∙◌, ap, subst, L
 use Rattle.std.specs.Bool.{⊤}
 use Rattle.instance_model.specs.Tables.{Tables}
 use Rattle.lagrange_bound.specs.declared.span.Span.{Span}
-use Rattle.branch_tree.specs.declared.node.Node.{Node}
-use Rattle.branch_tree.specs.declared.node.Node.TheVariants.{Split, Cost, Point, Band, Excl, Empty}
-use Rattle.branch_tree.specs.Trees.{Tree, leaf, split, Leaf, leaves, below, above, pre_order, IsSplit}
-use Rattle.branch_tree.specs.Ranges.{IsLeafInRange, IsTreeInRange}
+use Rattle.certificate_tree.specs.declared.node.Node.{Node}
+use Rattle.certificate_tree.specs.declared.node.Node.TheVariants.{Split, Cost, Point, Band, Excl, Empty}
+use Rattle.certificate_tree.specs.Trees.{Tree, leaf, split, Leaf, leaves, below, above, pre_order, IsSplit}
+use Rattle.certificate_tree.specs.Ranges.{IsLeafInRange, IsTreeInRange}
 
 -- the leaves that the nodes give over boxes that wait, the first one first
 abbrev pub flat_leaves : List Node → List (List Span) → List Leaf

@@ -8,9 +8,9 @@ use Rattle.instance_model.specs.Plans.{AreAllowedStarts}
 use Rattle.instance_model.specs.Rules.{first_rule, IsFeasible}
 use Rattle.lagrange_bound.specs.declared.span.Span.{Span}
 use Rattle.lagrange_bound.specs.Boxes.{span_of, starts_in, IsBox}
-use Rattle.branch_tree.specs.Holding.{EmptyHolds, first_starts}
-use Rattle.branch_tree.proofs.StartLemmas.{has_start_from, start_found}
-use Rattle.branch_tree.proofs.Refuting.{feasible_allowed, length-first_starts}
+use Rattle.certificate_tree.specs.Holding.{EmptyHolds, first_starts}
+use Rattle.certificate_tree.proofs.StartLemmas.{has_start_from, start_found}
+use Rattle.certificate_tree.proofs.Refuting.{feasible_allowed, length-first_starts}
 
 pub starts_allowed : (inst : Tables) (box : List Span) (starts : List ℕ) (plan : List (Option ℕ)) (rule : Option Rule)
     (b : Bool) → IsBox inst box → starts ≡ first_starts box → plan ≡ map Some starts → rule ≡ first_rule inst plan

@@ -7,14 +7,14 @@ use Rattle.instance_model.specs.Tables.{Tables}
 use Rattle.instance_model.specs.Fitting.{IsFitting}
 use Rattle.lagrange_bound.specs.declared.span.Span.{Span}
 use Rattle.lagrange_bound.specs.Boxes.{IsBox}
-use Rattle.branch_tree.specs.declared.node.Node.{Node}
-use Rattle.branch_tree.specs.declared.node.Node.TheVariants.{Split, Cost, Point, Band, Excl, Empty}
-use Rattle.branch_tree.specs.Walk.{first_box, other_boxes}
-use Rattle.branch_tree.specs.declared.certificate.Certificate.{Certificate}
-use Rattle.branch_tree.specs.Trees.{Tree, Leaf, leaves, root_box, below, above, IsSplit}
-use Rattle.branch_tree.specs.Ranges.{IsLeafInRange, IsTreeOf}
-use Rattle.branch_tree.specs.Validity.{FailsFirst}
-use Rattle.branch_tree.proofs.RootLemmas.{parts_are_boxes, root_is_box}
+use Rattle.certificate_tree.specs.declared.node.Node.{Node}
+use Rattle.certificate_tree.specs.declared.node.Node.TheVariants.{Split, Cost, Point, Band, Excl, Empty}
+use Rattle.certificate_tree.specs.Walk.{first_box, other_boxes}
+use Rattle.certificate_tree.specs.declared.certificate.Certificate.{Certificate}
+use Rattle.certificate_tree.specs.Trees.{Tree, Leaf, leaves, root_box, below, above, IsSplit}
+use Rattle.certificate_tree.specs.Ranges.{IsLeafInRange, IsTreeOf}
+use Rattle.certificate_tree.specs.Validity.{FailsFirst}
+use Rattle.certificate_tree.proofs.RootLemmas.{parts_are_boxes, root_is_box}
 use Rattle.certificate_check.proofs.FlatLemmas.{flat_leaves, AreFlat, leaves_are, nodes_are}
 
 -- ---- lists

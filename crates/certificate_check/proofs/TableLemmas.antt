@@ -7,7 +7,7 @@ use Rattle.instance_model.specs.Tables.{Tables}
 use Rattle.lagrange_bound.specs.Prices.{PriceList, zero_list}
 use Rattle.lagrange_bound.specs.Goals.{Bases}
 use Rattle.lagrange_bound.specs.Tabulated.{PriceRows}
-use Rattle.branch_tree.specs.Holding.{list_at}
+use Rattle.certificate_tree.specs.Holding.{list_at}
 use Rattle.certificate_check.specs.Priced.{IsTableOf}
 
 pub list_zero : (inst : Tables) (lists : List PriceList) → list_at inst lists 0 ≡ zero_list inst

@@ -4,11 +4,11 @@ use Rattle.std.proofs.Common.{true, false, nat_le}
 use Rattle.std.proofs.lemmas.Bool.Decides.{nat_tests}
 use Rattle.instance_model.specs.Tables.{Tables}
 use Rattle.lagrange_bound.specs.Goals.{Bases, PlanValue}
-use Rattle.branch_tree.specs.declared.node.Node.TheVariants.{Point}
-use Rattle.branch_tree.specs.declared.certificate.Certificate.{Certificate}
-use Rattle.branch_tree.specs.Trees.{Tree, Leaf, leaves, root_box}
-use Rattle.branch_tree.specs.Validity.{CertLeafHolds, FailsFirst}
-use Rattle.branch_tree.specs.Laws.{NodesAreOneTree}
+use Rattle.certificate_tree.specs.declared.node.Node.TheVariants.{Point}
+use Rattle.certificate_tree.specs.declared.certificate.Certificate.{Certificate}
+use Rattle.certificate_tree.specs.Trees.{Tree, Leaf, leaves, root_box}
+use Rattle.certificate_tree.specs.Validity.{CertLeafHolds, FailsFirst}
+use Rattle.certificate_tree.specs.Laws.{NodesAreOneTree}
 use Rattle.certificate_check.specs.declared.verdict.CertVerdict.{CertVerdict}
 use Rattle.certificate_check.specs.declared.verdict.CertVerdict.TheVariants.{Valid, LeafFails}
 use Rattle.certificate_check.specs.Verdicts.{IsVerdict}

@@ -1,7 +1,7 @@
 //! The walk over the nodes of a certificate, for any goal: its contract is the verdict, and what that proves.
 ghost use Rattle.std.specs.Prelude.{◌≡◌, IfOk};
-ghost use Rattle.branch_tree.specs.Ranges.{IsInRange};
-ghost use Rattle.branch_tree.specs.Validity.{BoundsPlans};
+ghost use Rattle.certificate_tree.specs.Ranges.{IsInRange};
+ghost use Rattle.certificate_tree.specs.Validity.{BoundsPlans};
 ghost use Rattle.certificate_check.specs.declared.verdict.CertVerdict.{CertVerdict};
 ghost use Rattle.certificate_check.specs.declared.verdict.CertVerdict.TheVariants.{Valid};
 ghost use Rattle.certificate_check.specs.Verdicts.{IsVerdict};
@@ -10,7 +10,7 @@ ghost use Rattle.certificate_check.specs.Priced.{AreTables};
 use crate::CertVerdict;
 use crate::leaf::leaf_holds;
 use crate::tables::tables_of;
-use branch_tree::{BoxPath, Certificate, Node, nodes_are_one_tree, valid_bounds_plans};
+use certificate_tree::{BoxPath, Certificate, Node, nodes_are_one_tree, valid_bounds_plans};
 use instance_model::Instance;
 use lagrange_bound::{Goal, PriceTable};
 use std::alloc::{AllocError, Global};

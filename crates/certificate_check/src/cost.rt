@@ -1,11 +1,11 @@
 //! The test of a `cost` leaf.
 ghost use Rattle.std.specs.Prelude.{◌<◌, ◌≤◌, ◌^◌, length, IsTrue, ◌↔◌, unsigned_abs};
 ghost use Rattle.lagrange_bound.specs.Boxes.{IsBox};
-ghost use Rattle.branch_tree.specs.Ranges.{IsBoundInRange};
-ghost use Rattle.branch_tree.specs.Holding.{IsAtLeast, CostHolds};
+ghost use Rattle.certificate_tree.specs.Ranges.{IsBoundInRange};
+ghost use Rattle.certificate_tree.specs.Holding.{IsAtLeast, CostHolds};
 ghost use Rattle.certificate_check.specs.Priced.{AreTables};
 
-use branch_tree::{Bound, Certificate, has_starts};
+use certificate_tree::{Bound, Certificate, has_starts};
 use instance_model::Instance;
 use lagrange_bound::{Goal, PriceTable, Span, worth};
 

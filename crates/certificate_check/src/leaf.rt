@@ -1,13 +1,13 @@
 //! The test of any leaf on its box.
 ghost use Rattle.std.specs.Prelude.{length, IsTrue, IfOk, ◌↔◌};
 ghost use Rattle.lagrange_bound.specs.Boxes.{IsBox};
-ghost use Rattle.branch_tree.specs.Ranges.{IsBoundInRange, IsLeafInRange};
-ghost use Rattle.branch_tree.specs.Holding.{LeafHolds};
+ghost use Rattle.certificate_tree.specs.Ranges.{IsBoundInRange, IsLeafInRange};
+ghost use Rattle.certificate_tree.specs.Holding.{LeafHolds};
 ghost use Rattle.certificate_check.specs.Priced.{AreTables};
 
 use crate::cost::cost_holds;
 use crate::point::point_holds;
-use branch_tree::{Certificate, Node, band_holds, excl_holds, has_start};
+use certificate_tree::{Certificate, Node, band_holds, excl_holds, has_start};
 use instance_model::Instance;
 use lagrange_bound::{Goal, PriceTable, Span};
 use std::alloc::{AllocError, Global};

@@ -1,11 +1,11 @@
 //! The test of a `point` leaf.
 ghost use Rattle.std.specs.Prelude.{◌≡◌, map, Some, length, IsTrue, IfOk, ◌↔◌};
 ghost use Rattle.lagrange_bound.specs.Boxes.{IsBox};
-ghost use Rattle.branch_tree.specs.Ranges.{IsBoundInRange};
-ghost use Rattle.branch_tree.specs.Holding.{IsSingle, first_starts, PointHolds};
+ghost use Rattle.certificate_tree.specs.Ranges.{IsBoundInRange};
+ghost use Rattle.certificate_tree.specs.Holding.{IsSingle, first_starts, PointHolds};
 
 use crate::cost::is_at_least;
-use branch_tree::Bound;
+use certificate_tree::Bound;
 use instance_model::{Instance, plan_of};
 use lagrange_bound::{Goal, Span};
 use plan_score::broken_rule;

@@ -1,14 +1,14 @@
 //! The check for the score, which the program makes.
 ghost use Rattle.std.specs.Prelude.{◌≡◌, IfOk};
 ghost use Rattle.lagrange_bound.specs.Goals.{risk_base, risk_value};
-ghost use Rattle.branch_tree.specs.Ranges.{IsInRange};
-ghost use Rattle.branch_tree.specs.Validity.{BoundsPlans};
+ghost use Rattle.certificate_tree.specs.Ranges.{IsInRange};
+ghost use Rattle.certificate_tree.specs.Validity.{BoundsPlans};
 ghost use Rattle.certificate_check.specs.declared.verdict.CertVerdict.{CertVerdict};
 ghost use Rattle.certificate_check.specs.declared.verdict.CertVerdict.TheVariants.{Valid};
 ghost use Rattle.certificate_check.specs.Verdicts.{IsVerdict};
 
 use crate::{CertVerdict, check_for};
-use branch_tree::Certificate;
+use certificate_tree::Certificate;
 use instance_model::Instance;
 use lagrange_bound::RiskGoal;
 use std::alloc::{AllocError, Global};

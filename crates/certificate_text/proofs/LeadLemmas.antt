@@ -14,10 +14,10 @@ use Rattle.certificate_lines.specs.declared.line.Version.{Version}
 use Rattle.certificate_lines.specs.declared.line.Version.TheVariants.{One, Two}
 use Rattle.certificate_lines.specs.declared.line.CertificateLine.{CertificateLine}
 use Rattle.certificate_lines.specs.declared.line.CertificateLine.TheVariants as line
-use Rattle.branch_tree.specs.declared.node.Node.{Node}
-use Rattle.branch_tree.specs.declared.node.Node.TheVariants as node
-use Rattle.branch_tree.specs.Trees.{Tree, leaf, split, pre_order, root_box, below, above, IsSplit}
-use Rattle.branch_tree.specs.Ranges.{IsTreeInRange, IsLeafInRange, HasPricesOf}
+use Rattle.certificate_tree.specs.declared.node.Node.{Node}
+use Rattle.certificate_tree.specs.declared.node.Node.TheVariants as node
+use Rattle.certificate_tree.specs.Trees.{Tree, leaf, split, pre_order, root_box, below, above, IsSplit}
+use Rattle.certificate_tree.specs.Ranges.{IsTreeInRange, IsLeafInRange, HasPricesOf}
 use Rattle.certificate_text.specs.Text.{limit_lines, tail_lines, ex_line, entry_lines, list_lines, node_line}
 use Rattle.certificate_text.specs.Text.{tree_lines}
 use Rattle.certificate_text.specs.Grammar.{EntryKey, KeyBelow, tail_key, ex_key, before_entries, Place, lists, nodes}

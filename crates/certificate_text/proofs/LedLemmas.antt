@@ -18,11 +18,12 @@ use Rattle.certificate_lines.specs.declared.line.Version.TheVariants.{One, Two}
 use Rattle.certificate_lines.specs.declared.line.Bound.{Bound}
 use Rattle.certificate_lines.specs.declared.line.CertificateLine.{CertificateLine}
 use Rattle.certificate_lines.specs.declared.line.CertificateLine.TheVariants as line
-use Rattle.branch_tree.specs.declared.node.Node.{Node}
-use Rattle.branch_tree.specs.declared.node.Node.TheVariants as node
-use Rattle.branch_tree.specs.declared.certificate.Certificate.{Certificate}
-use Rattle.branch_tree.specs.Trees.{Tree, leaf, split, pre_order, root_box, below, above, IsSplit}
-use Rattle.branch_tree.specs.Ranges.{IsTreeInRange, IsLeafInRange, AreNodesOf, HasPricesOf, IsBoundInRange, IsInRange}
+use Rattle.certificate_tree.specs.declared.node.Node.{Node}
+use Rattle.certificate_tree.specs.declared.node.Node.TheVariants as node
+use Rattle.certificate_tree.specs.declared.certificate.Certificate.{Certificate}
+use Rattle.certificate_tree.specs.Trees.{Tree, leaf, split, pre_order, root_box, below, above, IsSplit}
+use Rattle.certificate_tree.specs.Ranges.{IsTreeInRange, IsLeafInRange, AreNodesOf, HasPricesOf, IsBoundInRange}
+use Rattle.certificate_tree.specs.Ranges.{IsInRange}
 use Rattle.certificate_text.specs.Text.{entry_lines, list_lines, node_line, tree_lines, certificate_lines}
 use Rattle.certificate_text.specs.Grammar.{EntryKey, KeyBelow, up_key, lo_key, tail_key, ex_key, before_entries, bound}
 use Rattle.certificate_text.specs.Grammar.{count, lists, nodes, Stands, IsLimitPrice, Leads}

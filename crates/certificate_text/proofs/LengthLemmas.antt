@@ -24,11 +24,11 @@ use Rattle.certificate_lines.specs.declared.line.Side.TheVariants.{Over, Under}
 use Rattle.certificate_lines.specs.declared.line.CertificateLine.{CertificateLine}
 use Rattle.certificate_lines.specs.declared.line.CertificateLine.TheVariants as line
 use Rattle.certificate_lines.specs.Spelling.{word, words}
-use Rattle.branch_tree.specs.declared.node.Node.{Node}
-use Rattle.branch_tree.specs.declared.node.Node.TheVariants as node
-use Rattle.branch_tree.specs.declared.certificate.Certificate.{Certificate}
-use Rattle.branch_tree.specs.Trees.{root_box}
-use Rattle.branch_tree.specs.Ranges.{IsLeafInRange, IsBoundInRange, IsInRange}
+use Rattle.certificate_tree.specs.declared.node.Node.{Node}
+use Rattle.certificate_tree.specs.declared.node.Node.TheVariants as node
+use Rattle.certificate_tree.specs.declared.certificate.Certificate.{Certificate}
+use Rattle.certificate_tree.specs.Trees.{root_box}
+use Rattle.certificate_tree.specs.Ranges.{IsLeafInRange, IsBoundInRange, IsInRange}
 use Rattle.certificate_text.specs.Text.{limit_lines, tail_lines, ex_line, entry_lines, list_lines, node_line}
 use Rattle.certificate_text.specs.Text.{tree_lines, line_text, text_of_lines}
 use Rattle.certificate_text.specs.Grammar.{IsLimitPrice}

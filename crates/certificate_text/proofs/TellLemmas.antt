@@ -9,8 +9,8 @@ use Rattle.lagrange_bound.specs.declared.ex_price.ExPrice.{ExPrice}
 use Rattle.lagrange_bound.specs.Prices.{PriceList, IsPriceList}
 use Rattle.certificate_lines.specs.declared.line.CertificateLine.{CertificateLine}
 use Rattle.certificate_lines.specs.declared.line.CertificateLine.TheVariants as line
-use Rattle.branch_tree.specs.declared.node.Node.{Node}
-use Rattle.branch_tree.specs.declared.node.Node.TheVariants as node
+use Rattle.certificate_tree.specs.declared.node.Node.{Node}
+use Rattle.certificate_tree.specs.declared.node.Node.TheVariants as node
 use Rattle.certificate_text.specs.Text.{limit_lines, tail_lines, ex_line, entry_lines, list_lines, node_line}
 use Rattle.certificate_text.specs.Text.{tree_lines}
 use Rattle.certificate_text.specs.Laws.{LinesTell}

@@ -7,8 +7,8 @@ use Rattle.certificate_lines.specs.declared.line.Version.{Version}
 use Rattle.certificate_lines.specs.declared.line.Version.TheVariants.{Two}
 use Rattle.certificate_lines.specs.declared.line.CertificateLine.{CertificateLine}
 use Rattle.certificate_lines.specs.declared.line.CertificateLine.TheVariants as line
-use Rattle.branch_tree.specs.Trees.{below, above, IsSplit, root_box}
-use Rattle.branch_tree.specs.Ranges.{IsBoundInRange}
+use Rattle.certificate_tree.specs.Trees.{below, above, IsSplit, root_box}
+use Rattle.certificate_tree.specs.Ranges.{IsBoundInRange}
 
 -- What entries are ordered by: first the kind, counted from 1 as up, lo, tail, ex, then the
 -- first two numbers, of which a tail has one.

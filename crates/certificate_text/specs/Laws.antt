@@ -9,8 +9,8 @@ use Rattle.lagrange_bound.specs.Changes.{with_up, with_lo, with_tail, IsExSet, I
 use Rattle.certificate_lines.specs.declared.line.CertificateLine.{CertificateLine}
 use Rattle.certificate_lines.specs.declared.line.CertificateLine.TheVariants as line
 use Rattle.certificate_lines.specs.Spelling.{IsLine}
-use Rattle.branch_tree.specs.declared.certificate.Certificate.{Certificate}
-use Rattle.branch_tree.specs.Ranges.{IsInRange}
+use Rattle.certificate_tree.specs.declared.certificate.Certificate.{Certificate}
+use Rattle.certificate_tree.specs.Ranges.{IsInRange}
 use Rattle.certificate_text.specs.Text.{entry_lines, certificate_lines, text_of_lines, certificate_text}
 use Rattle.certificate_text.specs.Grammar.{EntryKey, KeyBelow, up_key, lo_key, tail_key, ex_key, before_entries, title}
 use Rattle.certificate_text.specs.Grammar.{nodes, Leads}

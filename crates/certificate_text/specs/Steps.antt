@@ -6,7 +6,7 @@ use Rattle.certificate_lines.specs.declared.line.Side.{Side}
 use Rattle.certificate_lines.specs.declared.line.Side.TheVariants.{Over, Under}
 use Rattle.certificate_lines.specs.declared.line.CertificateLine.{CertificateLine}
 use Rattle.certificate_lines.specs.declared.line.CertificateLine.TheVariants as line
-use Rattle.branch_tree.specs.declared.certificate.Certificate.{Certificate}
+use Rattle.certificate_tree.specs.declared.certificate.Certificate.{Certificate}
 use Rattle.certificate_text.specs.Text.{limit_lines}
 
 -- the prices on the upper or on the lower limits

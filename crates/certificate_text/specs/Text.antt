@@ -10,9 +10,9 @@ use Rattle.lagrange_bound.specs.Prices.{PriceList}
 use Rattle.certificate_lines.specs.declared.line.CertificateLine.{CertificateLine}
 use Rattle.certificate_lines.specs.declared.line.CertificateLine.TheVariants as line
 use Rattle.certificate_lines.specs.Spelling.{spelling}
-use Rattle.branch_tree.specs.declared.node.Node.{Node}
-use Rattle.branch_tree.specs.declared.node.Node.TheVariants as node
-use Rattle.branch_tree.specs.declared.certificate.Certificate.{Certificate}
+use Rattle.certificate_tree.specs.declared.node.Node.{Node}
+use Rattle.certificate_tree.specs.declared.node.Node.TheVariants as node
+use Rattle.certificate_tree.specs.declared.certificate.Certificate.{Certificate}
 
 -- the lines of the prices on limits from place k on, those that aren't 0: by resource, then period
 unfoldable pub limit_lines : (ℕ → ℕ → ℕ → CertificateLine) → (periods : ℕ) → (k : ℕ) → List ℕ → List CertificateLine

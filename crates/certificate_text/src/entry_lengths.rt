@@ -9,7 +9,7 @@ ghost use Rattle.certificate_text.specs.Steps.{limit_table, limit_form, limit_of
 ghost use Rattle.certificate_text.specs.Lengths.{counted_length};
 
 use crate::line_lengths::{ex_length, limit_length, word_length};
-use branch_tree::Side;
+use certificate_tree::Side;
 use instance_model::Instance;
 use lagrange_bound::{ExPrice, Prices, Tail};
 

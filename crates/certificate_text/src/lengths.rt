@@ -2,14 +2,14 @@
 ghost use Rattle.std.specs.Prelude.{◌≡◌, All, map};
 ghost use Rattle.std.specs.List.{flat_map};
 ghost use Rattle.lagrange_bound.specs.Prices.{IsPriceList};
-ghost use Rattle.branch_tree.specs.Ranges.{IsInRange};
+ghost use Rattle.certificate_tree.specs.Ranges.{IsInRange};
 ghost use Rattle.certificate_text.specs.Text.{text_of_lines, list_lines, node_line, tree_lines, certificate_text};
 ghost use Rattle.certificate_text.specs.Steps.{header_lines};
 ghost use Rattle.certificate_text.specs.Lengths.{counted_length};
 
 use crate::entry_lengths::entries_length;
 use crate::line_lengths::{bound_length, count_length, node_length, title_length};
-use branch_tree::{Certificate, Node};
+use certificate_tree::{Certificate, Node};
 use instance_model::Instance;
 use lagrange_bound::Prices;
 

@@ -6,7 +6,7 @@ ghost use Rattle.certificate_text.specs.Text.{line_text, node_line, ex_line};
 ghost use Rattle.certificate_text.specs.Steps.{limit_form};
 ghost use Rattle.certificate_lines.specs.declared.line.CertificateLine.{CertificateLine};
 
-use branch_tree::{Bound, Node, Side, Version};
+use certificate_tree::{Bound, Node, Side, Version};
 use fixed_num::Line;
 use lagrange_bound::ExPrice;
 

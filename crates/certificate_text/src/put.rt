@@ -4,8 +4,8 @@ ghost use Rattle.plan_desk.specs.Written.{WritesText};
 ghost use Rattle.certificate_text.specs.Text.{text_of_lines, node_line, ex_line};
 ghost use Rattle.certificate_text.specs.Steps.{limit_form};
 
-use branch_tree::Node;
 use certificate_lines::{CertificateLine, Side, write_line};
+use certificate_tree::Node;
 use lagrange_bound::ExPrice;
 use plan_desk::{Desk, Failed};
 

@@ -3,14 +3,14 @@ ghost use Rattle.std.specs.Prelude.{[], ◌∷◌, ◌++◌, length, map, All, I
 ghost use Rattle.std.specs.List.{flat_map};
 ghost use Rattle.plan_desk.specs.Written.{WritesText};
 ghost use Rattle.lagrange_bound.specs.Prices.{IsPriceList};
-ghost use Rattle.branch_tree.specs.Ranges.{IsInRange};
+ghost use Rattle.certificate_tree.specs.Ranges.{IsInRange};
 ghost use Rattle.certificate_text.specs.Text.{text_of_lines, list_lines, node_line, tree_lines, certificate_text};
 ghost use Rattle.certificate_text.specs.Steps.{header_lines};
 
 use crate::entries::write_entries;
 use crate::put::{line_of_node, put_line};
-use branch_tree::{Certificate, Node};
 use certificate_lines::CertificateLine;
+use certificate_tree::{Certificate, Node};
 use instance_model::Instance;
 use lagrange_bound::Prices;
 use plan_desk::{Desk, Failed};

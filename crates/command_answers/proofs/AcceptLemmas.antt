@@ -5,9 +5,9 @@ use Rattle.instance_model.specs.Tables.{Tables}
 use Rattle.instance_model.specs.Fitting.{IsFitting}
 use Rattle.instance_model.specs.Exact.{CostIsJustAboveScore}
 use Rattle.lagrange_bound.specs.Goals.{risk_base, risk_value}
-use Rattle.branch_tree.specs.declared.certificate.Certificate.{Certificate}
-use Rattle.branch_tree.specs.Validity.{IsFirstFailing}
-use Rattle.branch_tree.specs.Laws.{ValidBoundsPlans, NodesAreOneTree}
+use Rattle.certificate_tree.specs.declared.certificate.Certificate.{Certificate}
+use Rattle.certificate_tree.specs.Validity.{IsFirstFailing}
+use Rattle.certificate_tree.specs.Laws.{ValidBoundsPlans, NodesAreOneTree}
 use Rattle.certificate_check.specs.declared.verdict.CertVerdict.TheVariants.{Valid, LeafFails}
 use Rattle.certificate_check.proofs.VerdictLemmas.{one_verdict}
 use Rattle.certificate_text.specs.Text.{certificate_text}

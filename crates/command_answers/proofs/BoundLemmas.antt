@@ -15,9 +15,9 @@ use Rattle.instance_model.proofs.RuleLemmas.{first_start_rule-none, IsFeasible-f
 use Rattle.lagrange_bound.specs.Goals.{risk_value}
 use Rattle.certificate_lines.specs.declared.line.Bound.{Bound}
 use Rattle.certificate_lines.specs.declared.line.Bound.TheVariants.{Least}
-use Rattle.branch_tree.specs.declared.certificate.Certificate.{Certificate}
-use Rattle.branch_tree.specs.Holding.{IsAtLeast}
-use Rattle.branch_tree.specs.Validity.{BoundsPlans}
+use Rattle.certificate_tree.specs.declared.certificate.Certificate.{Certificate}
+use Rattle.certificate_tree.specs.Holding.{IsAtLeast}
+use Rattle.certificate_tree.specs.Validity.{BoundsPlans}
 use Rattle.plan_changes.specs.Changes.{changes_of, change_value, BoundsCountChanges}
 use Rattle.command_frame.proofs.OpeningLemmas.{opening_from}
 use Rattle.command_answers.specs.Check.{IsKeptPlan, BoundsEveryPlan, exact_cost, IsBest, IsAccepted}

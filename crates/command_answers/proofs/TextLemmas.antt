@@ -3,14 +3,14 @@ use Rattle.std.proofs.Common.{◌≡◌, ◌≤◌, refl, sym, length}
 use Rattle.instance_model.specs.declared.limits.Limits.{Limits}
 use Rattle.instance_model.specs.Tables.{Tables}
 use Rattle.instance_model.specs.Fitting.{IsFitting}
-use Rattle.branch_tree.specs.declared.certificate.Certificate.{Certificate}
-use Rattle.branch_tree.specs.Ranges.{IsInRange}
+use Rattle.certificate_tree.specs.declared.certificate.Certificate.{Certificate}
+use Rattle.certificate_tree.specs.Ranges.{IsInRange}
 use Rattle.certificate_text.specs.Text.{certificate_text}
 use Rattle.certificate_text.specs.Laws.{TextsTell}
-use Rattle.branch_certificate.specs.declared.fault.CertFault.{CertFault}
-use Rattle.branch_certificate.specs.declared.fault.CertFault.TheVariants.{Cut, BadLine, Bounds, Memory}
-use Rattle.branch_certificate.specs.Faults.{HasCertFault}
-use Rattle.branch_certificate.proofs.CompleteLemmas.{no_fault}
+use Rattle.certificate_read.specs.declared.fault.CertFault.{CertFault}
+use Rattle.certificate_read.specs.declared.fault.CertFault.TheVariants.{Cut, BadLine, Bounds, Memory}
+use Rattle.certificate_read.specs.Faults.{HasCertFault}
+use Rattle.certificate_read.proofs.CompleteLemmas.{no_fault}
 use Rattle.command_frame.specs.Bytes.{SpellsOne}
 
 module _ (limits : Limits) (inst : Tables) (fit : IsFitting inst) (cert : Certificate) (in_range : IsInRange inst cert)

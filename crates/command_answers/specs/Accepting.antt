@@ -4,9 +4,9 @@ use Rattle.instance_model.specs.declared.limits.Limits.{Limits}
 use Rattle.instance_model.specs.Limits.{standard_limits}
 use Rattle.instance_model.specs.Tables.{Tables}
 use Rattle.lagrange_bound.specs.Goals.{risk_base, risk_value}
-use Rattle.branch_tree.specs.declared.certificate.Certificate.{Certificate}
-use Rattle.branch_tree.specs.Ranges.{IsInRange}
-use Rattle.branch_tree.specs.Validity.{IsValid}
+use Rattle.certificate_tree.specs.declared.certificate.Certificate.{Certificate}
+use Rattle.certificate_tree.specs.Ranges.{IsInRange}
+use Rattle.certificate_tree.specs.Validity.{IsValid}
 use Rattle.certificate_text.specs.Text.{certificate_text}
 use Rattle.command_frame.specs.Reports.{accepted_report}
 use Rattle.command_frame.specs.Ending.{reply}

@@ -6,8 +6,8 @@ use Rattle.instance_model.specs.Tables.{Tables}
 use Rattle.instance_model.specs.Rules.{KeepsRules}
 use Rattle.certificate_lines.specs.declared.line.Bound.{Bound}
 use Rattle.certificate_lines.specs.declared.line.Bound.TheVariants.{NoPlan, Least}
-use Rattle.branch_tree.specs.declared.certificate.Certificate.{Certificate}
-use Rattle.branch_tree.specs.Validity.{IsValid, IsFirstFailing}
+use Rattle.certificate_tree.specs.declared.certificate.Certificate.{Certificate}
+use Rattle.certificate_tree.specs.Validity.{IsValid, IsFirstFailing}
 use Rattle.plan_changes.specs.Changes.{changes_of, change_base, change_value, least_changes}
 use Rattle.command_frame.specs.Lines.{numbered_line, failing_leaf_line}
 use Rattle.command_frame.specs.Reports.{rounded_line}

@@ -1,7 +1,7 @@
 //! Which certificates `check` and `audit` accept. The functions do nothing: each contract is the law.
 ghost use Rattle.command_answers.specs.Accepting.{ShortValidIsAcceptable, ShortValidIsAuditable};
 
-use branch_certificate::{nodes_are_one_tree, texts_tell, valid_bounds_plans};
+use certificate_read::{nodes_are_one_tree, texts_tell, valid_bounds_plans};
 use instance_model::Instance;
 use lagrange_bound::RiskGoal;
 use plan_changes::{ChangeGoal, bounds_count_changes};

@@ -1,9 +1,9 @@
 //! The line of the least number of changes.
 ghost use Rattle.std.specs.Prelude.{◌≡◌, ◌++◌, OnOk};
-ghost use Rattle.branch_tree.specs.Ranges.{IsBoundInRange};
+ghost use Rattle.certificate_tree.specs.Ranges.{IsBoundInRange};
 ghost use Rattle.command_answers.specs.Audit.{least_line};
 
-use branch_certificate::Bound;
+use certificate_read::Bound;
 use command_frame::{Text, push_numbered};
 use plan_changes::least_changes;
 use std::alloc::AllocError;

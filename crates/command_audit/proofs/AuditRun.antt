@@ -4,7 +4,7 @@ use Rattle.plan_desk.specs.Desk.{Shown}
 use Rattle.plan_desk.specs.Contents.{Says, KeepsFiles}
 use Rattle.instance_model.specs.declared.limits.Limits.{Limits}
 use Rattle.instance_model.specs.Tables.{Tables}
-use Rattle.branch_tree.specs.declared.certificate.Certificate.{Certificate}
+use Rattle.certificate_tree.specs.declared.certificate.Certificate.{Certificate}
 use Rattle.command_frame.specs.Sources.{Source}
 use Rattle.command_frame.specs.Ending.{Answer, Ends}
 use Rattle.command_frame.specs.Bytes.{TakesOne, RefusesInstance, Spells, RefusesPlan, SpellsCertificate, SpellsOne}

@@ -3,7 +3,7 @@
 ghost use Rattle.std.specs.Prelude.{◌≡◌, ◌≤◌, length, IfOk, IfErr, OnOk};
 ghost use Rattle.instance_model.specs.Limits.{standard_limits};
 ghost use Rattle.instance_shape.specs.Ranges.{AreStandard};
-ghost use Rattle.branch_tree.specs.Ranges.{IsInRange};
+ghost use Rattle.certificate_tree.specs.Ranges.{IsInRange};
 ghost use Rattle.plan_desk.specs.Contents.{OnlyReads};
 ghost use Rattle.command_frame.specs.Sources.{source_view};
 ghost use Rattle.command_frame.specs.Ending.{reply};
@@ -13,8 +13,8 @@ ghost use Rattle.command_audit.specs.Auditing.{RunsAudit};
 ghost use Rattle.command_answers.specs.Audit.{Audits, AnswersAudit};
 
 use crate::report::audited_text;
-use branch_certificate::Certificate;
 use certificate_check::{CertVerdict, check_for};
+use certificate_read::Certificate;
 use command_frame::{
     Refusal, Report, Source, certificate_of, instance_of, leaf_text, plan_of, say_report,
 };

@@ -1,9 +1,9 @@
 //! The report on an accepted certificate.
 ghost use Rattle.std.specs.Prelude.{◌≡◌, IfOk};
-ghost use Rattle.branch_tree.specs.Ranges.{IsBoundInRange};
+ghost use Rattle.certificate_tree.specs.Ranges.{IsBoundInRange};
 ghost use Rattle.command_answers.specs.Audit.{audited_report};
 
-use branch_certificate::Bound;
+use certificate_read::Bound;
 use command_answers::push_least;
 use command_frame::{Text, push_rounded};
 use instance_model::Instance;

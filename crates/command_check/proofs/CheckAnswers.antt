@@ -4,7 +4,7 @@ use Rattle.instance_model.specs.declared.limits.Limits.{Limits}
 use Rattle.instance_model.specs.Tables.{Tables}
 use Rattle.instance_model.specs.Rules.{first_rule, KeepsRules}
 use Rattle.instance_model.specs.declared.rule.Rule.{Rule}
-use Rattle.branch_tree.specs.declared.certificate.Certificate.{Certificate}
+use Rattle.certificate_tree.specs.declared.certificate.Certificate.{Certificate}
 use Rattle.command_frame.specs.Lines.{failing_leaf_line}
 use Rattle.command_frame.specs.Reports.{infeasible_report}
 use Rattle.command_frame.specs.Ending.{reply, IsOneAnswer}

@@ -14,8 +14,8 @@ use Rattle.instance_model.proofs.PlanLemmas.{RunsAreAllowed-from_none}
 use Rattle.plan_score.specs.Values.{values_of}
 use Rattle.plan_score.specs.declared.values.Values.{Values}
 use Rattle.lagrange_bound.specs.Goals.{risk_base, risk_value}
-use Rattle.branch_tree.specs.declared.certificate.Certificate.{Certificate}
-use Rattle.branch_tree.specs.Validity.{IsValid, IsFirstFailing, BoundsPlans}
+use Rattle.certificate_tree.specs.declared.certificate.Certificate.{Certificate}
+use Rattle.certificate_tree.specs.Validity.{IsValid, IsFirstFailing, BoundsPlans}
 use Rattle.certificate_check.specs.declared.verdict.CertVerdict.{CertVerdict}
 use Rattle.certificate_check.specs.declared.verdict.CertVerdict.TheVariants.{Valid, LeafFails}
 use Rattle.certificate_check.specs.Verdicts.{IsVerdict}

@@ -8,8 +8,8 @@ use Rattle.instance_model.specs.Rules.{KeepsRules}
 use Rattle.lagrange_bound.specs.Goals.{risk_base, risk_value}
 use Rattle.certificate_lines.specs.declared.line.Bound.{Bound}
 use Rattle.certificate_lines.specs.declared.line.Bound.TheVariants.{NoPlan}
-use Rattle.branch_tree.specs.declared.certificate.Certificate.{Certificate}
-use Rattle.branch_tree.specs.Validity.{IsValid, IsFirstFailing}
+use Rattle.certificate_tree.specs.declared.certificate.Certificate.{Certificate}
+use Rattle.certificate_tree.specs.Validity.{IsValid, IsFirstFailing}
 use Rattle.command_frame.specs.Sources.{Source}
 use Rattle.command_frame.specs.Ending.{Answer, Ends}
 use Rattle.command_frame.specs.Bytes.{TakesOne, RefusesInstance, Spells, RefusesPlan, SpellsCertificate, SpellsOne}

@@ -11,8 +11,8 @@ use Rattle.instance_model.specs.Rules.{first_rule, KeepsRules}
 use Rattle.instance_model.specs.declared.rule.Rule.{Rule}
 use Rattle.lagrange_bound.specs.Goals.{risk_base, risk_value}
 use Rattle.certificate_lines.specs.declared.line.Bound.TheVariants.{NoPlan, Least}
-use Rattle.branch_tree.specs.declared.certificate.Certificate.{Certificate}
-use Rattle.branch_tree.specs.Validity.{IsValid, IsFirstFailing}
+use Rattle.certificate_tree.specs.declared.certificate.Certificate.{Certificate}
+use Rattle.certificate_tree.specs.Validity.{IsValid, IsFirstFailing}
 use Rattle.command_frame.specs.Sources.{Source}
 use Rattle.command_frame.specs.Lines.{failing_leaf_line}
 use Rattle.command_frame.specs.Reports.{infeasible_report, accepted_report}

@@ -2,7 +2,7 @@
 use Rattle.std.specs.Prelude.{◌≡◌, ℕ, ◌<◌, ◌^◌, ℤ, List, Option, option_map, IfSome, unsigned_abs}
 use Rattle.instance_model.specs.Tables.{Tables}
 use Rattle.instance_model.specs.Values.{score_of}
-use Rattle.branch_tree.specs.declared.certificate.Certificate.{Certificate as CertificateData}
+use Rattle.certificate_tree.specs.declared.certificate.Certificate.{Certificate as CertificateData}
 use Rattle.command_check.specs.declared.check.Given.{Given}
 use Rattle.command_check.specs.declared.check.Given.TheVariants.{Kept, Broken as BrokenRule}
 use Rattle.command_frame.specs.Ending.{reply}

@@ -4,7 +4,7 @@ ghost use Rattle.std.specs.Prelude.{◌≡◌, ◌<◌, ◌≤◌, ◌^◌, leng
 ghost use Rattle.std.specs.Prelude.{unsigned_abs};
 ghost use Rattle.instance_model.specs.Limits.{standard_limits};
 ghost use Rattle.instance_shape.specs.Ranges.{AreStandard};
-ghost use Rattle.branch_tree.specs.Ranges.{IsInRange};
+ghost use Rattle.certificate_tree.specs.Ranges.{IsInRange};
 ghost use Rattle.plan_desk.specs.Contents.{OnlyReads};
 ghost use Rattle.command_frame.specs.Sources.{source_view};
 ghost use Rattle.command_frame.specs.Ending.{reply};
@@ -14,8 +14,8 @@ ghost use Rattle.command_answers.specs.Check.{Checks, AnswersCheck};
 ghost use Rattle.command_frame.specs.Refusals.{IsDueAs, CountsRefusal};
 ghost use Rattle.command_check.specs.Standing.{StandsAs, ChecksFor};
 
-use branch_certificate::Certificate;
 use certificate_check::{CertVerdict, check};
+use certificate_read::Certificate;
 use command_frame::{
     Refusal, Report, Source, accepted_text, certificate_of, given_plan_of, infeasible_text,
     instance_of, leaf_text, say_report,

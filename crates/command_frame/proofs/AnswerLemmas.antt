@@ -7,7 +7,7 @@ use Rattle.instance_model.specs.declared.limits.Limits.{Limits}
 use Rattle.instance_model.specs.Tables.{Tables}
 use Rattle.instance_model.specs.declared.rule.Rule.{Rule}
 use Rattle.instance_shape.proofs.OneAnswer.{one_answer}
-use Rattle.branch_tree.specs.declared.certificate.Certificate.{Certificate}
+use Rattle.certificate_tree.specs.declared.certificate.Certificate.{Certificate}
 use Rattle.command_frame.specs.Lines.{instance_fault_line, plan_fault_line, script_fault_line, certificate_fault_line}
 use Rattle.command_frame.specs.Ending.{Answer, reply, IsOneAnswer}
 use Rattle.command_frame.specs.Bytes.{Takes, TakesOne, IsRefusedInstance, RefusesInstance, Spells, IsRefusedPlan}

@@ -4,10 +4,10 @@ use Rattle.std.specs.Prelude.{Result, Ok, Err}
 use Rattle.plan_desk.specs.Desk.{Shown}
 use Rattle.instance_model.specs.declared.limits.Limits.{Limits}
 use Rattle.instance_model.specs.Tables.{Tables}
-use Rattle.branch_tree.specs.declared.certificate.Certificate.{Certificate}
-use Rattle.branch_certificate.specs.declared.fault.CertFault.{CertFault}
-use Rattle.branch_certificate.specs.declared.fault.CertFault.TheVariants.{Memory}
-use Rattle.branch_certificate.specs.Faults.{IsTextOf, HasCertFault}
+use Rattle.certificate_tree.specs.declared.certificate.Certificate.{Certificate}
+use Rattle.certificate_read.specs.declared.fault.CertFault.{CertFault}
+use Rattle.certificate_read.specs.declared.fault.CertFault.TheVariants.{Memory}
+use Rattle.certificate_read.specs.Faults.{IsTextOf, HasCertFault}
 use Rattle.command_frame.specs.Lines.{read_line}
 use Rattle.command_frame.specs.Ending.{Answer, reply}
 use Rattle.command_frame.specs.Bytes.{Spells, SpellsOne, HasOneFault, RefusesCertificate}

@@ -6,7 +6,7 @@ use Rattle.plan_desk.specs.Contents.{TellsSuch}
 use Rattle.plan_moves.specs.declared.script_line.ScriptLine.{ScriptLine}
 use Rattle.instance_model.specs.declared.limits.Limits.{Limits}
 use Rattle.instance_model.specs.Tables.{Tables}
-use Rattle.branch_tree.specs.declared.certificate.Certificate.{Certificate}
+use Rattle.certificate_tree.specs.declared.certificate.Certificate.{Certificate}
 use Rattle.command_frame.specs.Sources.{Source}
 use Rattle.command_frame.specs.Ending.{Answer}
 use Rattle.command_frame.specs.Bytes.{Takes, TakesOne, RefusesInstance, Spells, RefusesPlan, SpellsScript}

@@ -11,7 +11,7 @@ use Rattle.instance_model.proofs.EntryLemmas.{is_allowed_facts}
 use Rattle.instance_model.proofs.FitLemmas.{tmax_small}
 use Rattle.plan_text.specs.Spelling.{line_text, plan_text}
 use Rattle.plan_text.proofs.WrittenLemmas.{plan_text_spells}
-use Rattle.branch_tree.proofs.Refuting.{feasible_allowed}
+use Rattle.certificate_tree.proofs.Refuting.{feasible_allowed}
 use Rattle.command_frame.specs.Bytes.{Spells}
 use Rattle.command_frame.specs.Writing.{IsWritablePlan}
 

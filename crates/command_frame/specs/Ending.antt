@@ -97,8 +97,8 @@ pub data SaysUnwritten (word : ℕ) (stopped new : Shown) : Type 0 where
 
 -- An answer was due, its first n files were written whole, and the writing of the next one stopped at a call that
 -- failed; the files behind it are untouched. Nothing was said but the line of that file, or a first part of it. The
--- desk may have shown `before` as the writing began, by when no call had failed, and `stopped` as it stopped, by when one
--- had.
+-- desk may have shown `before` as the writing began, by when no call had failed, and `stopped` as it stopped, by when
+-- one had.
 --
 -- No answer that writes no file is such: there is no file to stop at, as `StopsWrites [] n` holds of no n. So a command
 -- whose answers write none ends in one of the other two ways.

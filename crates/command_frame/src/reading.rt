@@ -3,7 +3,7 @@ ghost use Rattle.std.specs.Prelude.{◌≡◌, ◌≤◌, [], length, All, optio
 ghost use Rattle.instance_shape.specs.Ranges.{AreStandard};
 ghost use Rattle.plan_desk.specs.Desk.{ShowsSame, after_take_in};
 ghost use Rattle.plan_moves.specs.Scripts.{NamesKnown};
-ghost use Rattle.branch_tree.specs.Ranges.{IsInRange};
+ghost use Rattle.certificate_tree.specs.Ranges.{IsInRange};
 ghost use Rattle.plan_desk.specs.Contents.{OnlyReads};
 ghost use Rattle.command_frame.specs.Sources.{source_view};
 ghost use Rattle.command_frame.specs.Files.{ReadsBytes, ReadsInstance, ReadsPlan, ReadsScript, ReadsGiven};
@@ -13,7 +13,7 @@ ghost use Rattle.command_frame.specs.Refusals.{IsGivenCause, IsCertificateCause,
 
 use crate::refusal::Refusal;
 use crate::source::Source;
-use branch_certificate::{CertFault, Certificate, read_certificate};
+use certificate_read::{CertFault, Certificate, read_certificate};
 use fixed_num::Fixed;
 use instance_model::{Instance, Limits};
 use instance_read::{StreamFault, read_instance_from};

@@ -1,14 +1,14 @@
 //! The reports on plans.
 ghost use Rattle.std.specs.Prelude.{◌≡◌, ◌<◌, ◌≤◌, ◌^◌, ◌++◌, ℕ, List, Option, Some, IfOk, IfSome, OnOk, length, ℤ};
 ghost use Rattle.std.specs.Prelude.{codes, unsigned_abs};
-ghost use Rattle.branch_tree.specs.Ranges.{IsBoundInRange};
+ghost use Rattle.certificate_tree.specs.Ranges.{IsBoundInRange};
 ghost use Rattle.command_frame.specs.Reports.{values_report, infeasible_report, score_line, ranges_text, range_line};
 ghost use Rattle.command_frame.specs.Reports.{rounded_line, numbered, band_text, rule_text, pair_text, NamesOf};
 ghost use Rattle.command_frame.specs.Reports.{bound_line, fixed_line, cost_line, bound_lines, bound_text, bound_cost};
 ghost use Rattle.command_frame.specs.Reports.{bound_or_none_line, gap_line, score_and_gap, gap_text, accepted_text};
 
 use crate::text::Text;
-use branch_certificate::Bound;
+use certificate_read::Bound;
 use fixed_num::floor_div;
 use instance_model::Instance;
 use plan_score::{Rule, Values};

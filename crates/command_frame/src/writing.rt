@@ -3,14 +3,14 @@ ghost use Rattle.std.specs.Prelude.{◌≡◌, ◌<◌, ◌^◌, length, All};
 ghost use Rattle.plan_moves.specs.Scripts.{NamesKnown, line_of};
 ghost use Rattle.plan_text.specs.Spelling.{plan_text};
 ghost use Rattle.move_script.specs.Spelling.{HasSmallStart, moves_text};
-ghost use Rattle.branch_tree.specs.Ranges.{IsInRange};
+ghost use Rattle.certificate_tree.specs.Ranges.{IsInRange};
 ghost use Rattle.certificate_text.specs.Text.{certificate_text};
 ghost use Rattle.plan_desk.specs.Contents.{KeepsFiles};
 ghost use Rattle.command_frame.specs.Writing.{PutsFile, SaysWritten};
 
 use crate::report::Report;
 use crate::saying::{say, say_numbered};
-use branch_certificate::{Certificate, write_certificate};
+use certificate_read::{Certificate, write_certificate};
 use instance_model::Instance;
 use move_script::write_moves;
 use plan_desk::{Desk, Failed};

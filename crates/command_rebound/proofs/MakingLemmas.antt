@@ -7,7 +7,7 @@ use Rattle.plan_desk.specs.Contents.{OnlyReads, KeepsFiles}
 use Rattle.instance_model.specs.declared.limits.Limits.{Limits}
 use Rattle.instance_model.specs.Limits.{standard_limits}
 use Rattle.instance_model.specs.Tables.{Tables}
-use Rattle.branch_tree.specs.declared.certificate.Certificate.{Certificate}
+use Rattle.certificate_tree.specs.declared.certificate.Certificate.{Certificate}
 use Rattle.certificate_text.specs.Text.{certificate_text}
 use Rattle.certificate_text.proofs.KeyLemmas.{below_or_not}
 use Rattle.certificate_text.specs.Lengths.{counted}

@@ -2,8 +2,8 @@
 use Rattle.std.proofs.Common.{◌≡◌, ◌<◌, ◌≤◌, ℕ, List, [], ◌∷◌, length, sym, ap, subst, arith, refl}
 use Rattle.instance_model.specs.declared.limits.Limits.{Limits}
 use Rattle.instance_model.specs.Tables.{Tables}
-use Rattle.branch_tree.specs.declared.certificate.Certificate.{Certificate}
-use Rattle.branch_tree.proofs.OneTree.{nodes_are_one_tree}
+use Rattle.certificate_tree.specs.declared.certificate.Certificate.{Certificate}
+use Rattle.certificate_tree.proofs.OneTree.{nodes_are_one_tree}
 use Rattle.certificate_text.specs.Text.{certificate_text}
 use Rattle.band_rebound.specs.declared.rebounded.Rebounded.{Rebounded}
 use Rattle.band_rebound.specs.Rebounds.{IsReboundOf}

@@ -5,9 +5,9 @@ use Rattle.plan_desk.specs.Contents.{KeepsFiles}
 use Rattle.instance_model.specs.declared.limits.Limits.{Limits}
 use Rattle.instance_model.specs.Tables.{Tables}
 use Rattle.lagrange_bound.specs.Goals.{risk_base, risk_value}
-use Rattle.branch_tree.specs.declared.certificate.Certificate.{Certificate}
-use Rattle.branch_tree.specs.Ranges.{IsInRange}
-use Rattle.branch_tree.specs.Validity.{IsValid}
+use Rattle.certificate_tree.specs.declared.certificate.Certificate.{Certificate}
+use Rattle.certificate_tree.specs.Ranges.{IsInRange}
+use Rattle.certificate_tree.specs.Validity.{IsValid}
 use Rattle.band_rebound.specs.Rebinding.{IsNoLower}
 use Rattle.band_rebound.specs.Rebounds.{IsReboundOf}
 use Rattle.command_frame.specs.Sources.{Source}

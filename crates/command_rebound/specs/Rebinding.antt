@@ -8,8 +8,8 @@ use Rattle.plan_desk.specs.Contents.{TellsSuch, HoldsBytes, Says}
 use Rattle.instance_model.specs.declared.limits.Limits.{Limits}
 use Rattle.instance_model.specs.Tables.{Tables}
 use Rattle.lagrange_bound.specs.Goals.{risk_base, risk_value}
-use Rattle.branch_tree.specs.declared.certificate.Certificate.{Certificate}
-use Rattle.branch_tree.specs.Validity.{IsValid}
+use Rattle.certificate_tree.specs.declared.certificate.Certificate.{Certificate}
+use Rattle.certificate_tree.specs.Validity.{IsValid}
 use Rattle.certificate_text.specs.Text.{certificate_text}
 use Rattle.band_rebound.specs.declared.rebounded.Rebounded.{Rebounded}
 use Rattle.band_rebound.specs.Rebinding.{IsNoLower}

@@ -1,11 +1,11 @@
 //! What is made of an instance and a certificate.
 ghost use Rattle.std.specs.Prelude.{◌≡◌, IfOk};
-ghost use Rattle.branch_tree.specs.Ranges.{IsInRange};
+ghost use Rattle.certificate_tree.specs.Ranges.{IsInRange};
 ghost use Rattle.command_rebound.specs.Rebinding.{rebound_report};
 ghost use Rattle.command_rebound.specs.Made.{IsMade};
 
 use band_rebound::{Rebounded, rebound};
-use branch_certificate::Certificate;
+use certificate_read::Certificate;
 use command_answers::valid_is_accepted;
 use command_frame::{Text, push_bound_or_none, push_numbered, push_rounded};
 use instance_model::Instance;

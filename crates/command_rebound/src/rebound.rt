@@ -2,7 +2,7 @@
 ghost use Rattle.std.specs.Prelude.{◌≡◌, ◌≤◌, ℕ, List, IfOk, IfErr, OnOk};
 ghost use Rattle.instance_model.specs.Limits.{standard_limits};
 ghost use Rattle.instance_shape.specs.Ranges.{AreStandard};
-ghost use Rattle.branch_tree.specs.Ranges.{IsInRange};
+ghost use Rattle.certificate_tree.specs.Ranges.{IsInRange};
 ghost use Rattle.plan_desk.specs.Contents.{OnlyReads};
 ghost use Rattle.command_frame.specs.Sources.{source_view};
 ghost use Rattle.command_frame.specs.Files.{reading};
@@ -11,7 +11,7 @@ ghost use Rattle.command_rebound.specs.Rebinding.{AnswersRebound, RunsRebound};
 ghost use Rattle.command_rebound.specs.Made.{AreRead, IsMade, TellsRebound};
 
 use crate::making::{Made, make};
-use branch_certificate::Certificate;
+use certificate_read::Certificate;
 use certificate_text::text_length;
 use command_frame::{
     MEMORY_LINE, Refusal, Source, WRITE_WORDS, certificate_of, instance_of, put_certificate,

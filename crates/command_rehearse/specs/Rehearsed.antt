@@ -7,7 +7,7 @@ use Rattle.instance_model.specs.Rules.{IsFeasible}
 use Rattle.plan_moves.specs.declared.change.Change.{Change}
 use Rattle.local_search.specs.Descents.{plan_key}
 use Rattle.lagrange_bound.specs.Goals.{risk_base, risk_value}
-use Rattle.branch_tree.specs.Validity.{IsValid}
+use Rattle.certificate_tree.specs.Validity.{IsValid}
 use Rattle.branch_search.specs.declared.tree_end.TreeEnd.{TreeEnd}
 use Rattle.branch_search.specs.Searched.{IsSearched}
 use Rattle.command_answers.specs.Check.{BoundsEveryPlan}

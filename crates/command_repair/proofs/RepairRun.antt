@@ -10,7 +10,7 @@ use Rattle.instance_model.specs.Limits.{standard_limits}
 use Rattle.instance_model.specs.Tables.{Tables}
 use Rattle.certificate_lines.specs.declared.line.Bound.{Bound}
 use Rattle.certificate_lines.specs.declared.line.Bound.TheVariants.{NoPlan, Least}
-use Rattle.branch_tree.specs.declared.certificate.Certificate.{Certificate}
+use Rattle.certificate_tree.specs.declared.certificate.Certificate.{Certificate}
 use Rattle.certificate_text.specs.Text.{certificate_text}
 use Rattle.command_frame.specs.Sources.{Source}
 use Rattle.command_frame.specs.Ending.{Writing, Answer, files_of, reply, Ends}

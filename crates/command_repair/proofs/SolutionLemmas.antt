@@ -10,11 +10,11 @@ use Rattle.instance_model.proofs.RuleLemmas.{KeepsRules-from}
 use Rattle.lagrange_bound.specs.Prices.{PriceList, IsPriceList}
 use Rattle.certificate_lines.specs.declared.line.Bound.{Bound}
 use Rattle.certificate_lines.specs.declared.line.Bound.TheVariants.{NoPlan, Least}
-use Rattle.branch_tree.specs.declared.node.Node.TheVariants.{Empty}
-use Rattle.branch_tree.specs.declared.certificate.Certificate.{Certificate}
-use Rattle.branch_tree.specs.Trees.{leaf, root_box}
-use Rattle.branch_tree.specs.Ranges.{HasPricesOf, IsInRange}
-use Rattle.branch_tree.specs.Validity.{CertLeafHolds}
+use Rattle.certificate_tree.specs.declared.node.Node.TheVariants.{Empty}
+use Rattle.certificate_tree.specs.declared.certificate.Certificate.{Certificate}
+use Rattle.certificate_tree.specs.Trees.{leaf, root_box}
+use Rattle.certificate_tree.specs.Ranges.{HasPricesOf, IsInRange}
+use Rattle.certificate_tree.specs.Validity.{CertLeafHolds}
 use Rattle.branch_search.specs.Best.{IsFeasiblePlan}
 use Rattle.certificate_text.specs.Laws.{TextsFitFiles}
 use Rattle.plan_changes.specs.Changes.{change_base, change_value}

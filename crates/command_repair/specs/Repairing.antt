@@ -10,7 +10,7 @@ use Rattle.instance_model.specs.Tables.{Tables}
 use Rattle.instance_model.specs.Rules.{KeepsRules}
 use Rattle.plan_text.specs.Spelling.{plan_text}
 use Rattle.certificate_lines.specs.declared.line.Bound.TheVariants.{NoPlan, Least}
-use Rattle.branch_tree.specs.declared.certificate.Certificate.{Certificate}
+use Rattle.certificate_tree.specs.declared.certificate.Certificate.{Certificate}
 use Rattle.certificate_text.specs.Text.{certificate_text}
 use Rattle.plan_changes.specs.Changes.{changes_of}
 use Rattle.command_frame.specs.Sources.{Source}

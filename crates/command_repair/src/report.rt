@@ -4,7 +4,7 @@ ghost use Rattle.plan_changes.specs.Changes.{changes_of};
 ghost use Rattle.command_repair.specs.Repairing.{counts_text, repaired_report, nothing_report, none_report};
 ghost use Rattle.command_repair.specs.Made.{repaired_text};
 
-use branch_certificate::{Bound, Certificate};
+use certificate_read::{Bound, Certificate};
 use command_answers::push_least;
 use command_frame::{Text, push_numbered, push_rounded};
 use descent_ends::split_count;

@@ -1,12 +1,12 @@
 //! What is answered to an instance and a plan.
 ghost use Rattle.std.specs.Prelude.{◌≤◌, ℕ, IfOk};
-ghost use Rattle.branch_tree.specs.Ranges.{IsBoundInRange};
+ghost use Rattle.certificate_tree.specs.Ranges.{IsBoundInRange};
 ghost use Rattle.descent_ends.specs.Openings.{IsWithoutStart};
 ghost use Rattle.fewest_changes.specs.Openings.{IsKeptOpening};
 ghost use Rattle.command_repair.specs.Made.{CanReport, IsReportOf, IsSolution};
 
 use crate::report::{none_text, nothing_text, repaired_text};
-use branch_certificate::{Bound, Certificate};
+use certificate_read::{Bound, Certificate};
 use certificate_text::texts_are_short;
 use command_answers::valid_is_audited;
 use command_frame::Report;

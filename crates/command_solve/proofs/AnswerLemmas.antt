@@ -8,7 +8,7 @@ use Rattle.instance_model.specs.Rules.{IsFeasible}
 use Rattle.lagrange_bound.specs.Prices.{PriceList}
 use Rattle.lagrange_bound.specs.Goals.{risk_base, risk_value}
 use Rattle.certificate_lines.specs.declared.line.Bound.TheVariants.{NoPlan, Least}
-use Rattle.branch_tree.specs.Trees.{leaves, root_box}
+use Rattle.certificate_tree.specs.Trees.{leaves, root_box}
 use Rattle.plan_moves.specs.declared.change.Change.{Change}
 use Rattle.branch_search.specs.Best.{IsFeasiblePlan, IsBestOver, IsNoWorse, bound_of}
 use Rattle.branch_search.specs.Searched.{IsAmong, IsLeastOf, IsUnfinishedLeaf, IsSearched}

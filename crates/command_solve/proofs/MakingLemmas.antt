@@ -8,8 +8,8 @@ use Rattle.instance_model.specs.Keys.{IsOpening}
 use Rattle.lagrange_bound.specs.Prices.{PriceList, IsPriceList}
 use Rattle.lagrange_bound.specs.Goals.{risk_base, risk_value}
 use Rattle.lagrange_bound.specs.Worth.{WorthBoundsPlans}
-use Rattle.branch_tree.specs.Ranges.{IsInRange}
-use Rattle.branch_tree.specs.Validity.{IsValid}
+use Rattle.certificate_tree.specs.Ranges.{IsInRange}
+use Rattle.certificate_tree.specs.Validity.{IsValid}
 use Rattle.certificate_text.specs.Laws.{TextsFitFiles}
 use Rattle.price_ladder.specs.Raised.{IsRaised, root_worth, least_total}
 use Rattle.branch_search.specs.declared.tree_end.TreeEnd.{TreeEnd}

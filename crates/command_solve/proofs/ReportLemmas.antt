@@ -8,7 +8,7 @@ use Rattle.plan_score.specs.declared.values.Values.{Values}
 use Rattle.plan_score.specs.declared.verdict.Verdict.{Verdict}
 use Rattle.plan_score.specs.declared.verdict.Verdict.TheVariants.{Feasible}
 use Rattle.plan_moves.specs.declared.change.Change.{Change}
-use Rattle.branch_tree.specs.declared.certificate.Certificate.{Certificate}
+use Rattle.certificate_tree.specs.declared.certificate.Certificate.{Certificate}
 use Rattle.instance_model.specs.Values.{score_of}
 use Rattle.command_frame.specs.Reports.{score_line, bound_line, gap_line, ranges_text}
 use Rattle.command_answers.specs.Evaluate.{EnclosesEveryReading}

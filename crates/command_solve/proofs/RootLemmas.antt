@@ -11,13 +11,13 @@ use Rattle.lagrange_bound.specs.Goals.{risk_base, risk_value}
 use Rattle.lagrange_bound.specs.Boxes.{IsPlanIn}
 use Rattle.lagrange_bound.specs.Worth.{WorthBoundsPlans}
 use Rattle.certificate_lines.specs.declared.line.Bound.TheVariants.{Least}
-use Rattle.branch_tree.specs.declared.node.Node.{Node}
-use Rattle.branch_tree.specs.declared.node.Node.TheVariants.{Cost}
-use Rattle.branch_tree.specs.declared.certificate.Certificate.{Certificate}
-use Rattle.branch_tree.specs.Trees.{Tree, leaf, split, leaves, below, above, root_box}
-use Rattle.branch_tree.specs.Holding.{list_at}
-use Rattle.branch_tree.proofs.RootLemmas.{root_at}
-use Rattle.branch_tree.proofs.Refuting.{feasible_allowed}
+use Rattle.certificate_tree.specs.declared.node.Node.{Node}
+use Rattle.certificate_tree.specs.declared.node.Node.TheVariants.{Cost}
+use Rattle.certificate_tree.specs.declared.certificate.Certificate.{Certificate}
+use Rattle.certificate_tree.specs.Trees.{Tree, leaf, split, leaves, below, above, root_box}
+use Rattle.certificate_tree.specs.Holding.{list_at}
+use Rattle.certificate_tree.proofs.RootLemmas.{root_at}
+use Rattle.certificate_tree.proofs.Refuting.{feasible_allowed}
 use Rattle.branch_search.specs.Splits.{split_boxes}
 use Rattle.branch_search.specs.Best.{IsBestOver}
 use Rattle.branch_search.specs.Boxes.{worth_by}

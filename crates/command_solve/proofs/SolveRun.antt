@@ -12,7 +12,7 @@ use Rattle.instance_model.specs.Tables.{Tables}
 use Rattle.plan_moves.specs.declared.change.Change.{Change}
 use Rattle.certificate_lines.specs.declared.line.Bound.{Bound}
 use Rattle.certificate_lines.specs.declared.line.Bound.TheVariants.{NoPlan, Least}
-use Rattle.branch_tree.specs.declared.certificate.Certificate.{Certificate}
+use Rattle.certificate_tree.specs.declared.certificate.Certificate.{Certificate}
 use Rattle.certificate_text.specs.Text.{certificate_text}
 use Rattle.command_frame.specs.Sources.{Source}
 use Rattle.command_frame.specs.Reports.{accepted_report}

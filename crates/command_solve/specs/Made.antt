@@ -10,8 +10,8 @@ use Rattle.plan_moves.specs.Scripts.{NamesKnown, line_of}
 use Rattle.move_script.specs.Spelling.{HasSmallStart}
 use Rattle.certificate_lines.specs.declared.line.Bound.{Bound}
 use Rattle.certificate_lines.specs.declared.line.Bound.TheVariants.{NoPlan, Least}
-use Rattle.branch_tree.specs.declared.certificate.Certificate.{Certificate}
-use Rattle.branch_tree.specs.Ranges.{IsInRange}
+use Rattle.certificate_tree.specs.declared.certificate.Certificate.{Certificate}
+use Rattle.certificate_tree.specs.Ranges.{IsInRange}
 use Rattle.branch_search.specs.declared.tree_end.TreeEnd.{TreeEnd}
 use Rattle.branch_search.specs.Best.{IsFeasiblePlan}
 use Rattle.command_frame.specs.declared.report.Report.{Report}

@@ -8,7 +8,7 @@ use Rattle.plan_moves.specs.declared.change.Change.{Change}
 use Rattle.lagrange_bound.specs.Prices.{PriceList}
 use Rattle.lagrange_bound.specs.Goals.{risk_base, risk_value}
 use Rattle.certificate_lines.specs.declared.line.Bound.TheVariants.{NoPlan, Least}
-use Rattle.branch_tree.specs.Trees.{leaves, root_box}
+use Rattle.certificate_tree.specs.Trees.{leaves, root_box}
 use Rattle.price_ladder.specs.Raised.{IsRaised, root_worth, least_total}
 use Rattle.branch_search.specs.declared.tree_end.TreeEnd.{TreeEnd}
 use Rattle.branch_search.specs.Searched.{IsSearched, IsUnfinishedLeaf}

@@ -15,7 +15,7 @@ use Rattle.plan_moves.specs.declared.change.Change.{Change}
 use Rattle.plan_moves.specs.Scripts.{line_of}
 use Rattle.move_script.specs.Spelling.{moves_text, IsScript}
 use Rattle.certificate_lines.specs.declared.line.Bound.TheVariants.{NoPlan, Least}
-use Rattle.branch_tree.specs.declared.certificate.Certificate.{Certificate}
+use Rattle.certificate_tree.specs.declared.certificate.Certificate.{Certificate}
 use Rattle.certificate_text.specs.Text.{certificate_text}
 use Rattle.branch_search.specs.declared.tree_end.TreeEnd.{TreeEnd}
 use Rattle.command_frame.specs.Sources.{Source}

@@ -1,6 +1,6 @@
 //! What is answered to an instance.
 ghost use Rattle.std.specs.Prelude.{◌≤◌, ◌^◌, ℕ, IfOk, unsigned_abs};
-ghost use Rattle.branch_tree.specs.Ranges.{IsBoundInRange};
+ghost use Rattle.certificate_tree.specs.Ranges.{IsBoundInRange};
 ghost use Rattle.branch_search.specs.Best.{IsFeasiblePlan};
 ghost use Rattle.instance_model.specs.Keys.{IsOpening};
 ghost use Rattle.descent_ends.specs.Openings.{IsWithoutStart};
@@ -8,8 +8,8 @@ ghost use Rattle.command_solve.specs.Made.{CanReport, ReportsPlan, IsReportOf, I
 
 use crate::making::make;
 use crate::report::{found_text, none_text, nothing_text};
-use branch_certificate::{Bound, Certificate};
 use branch_search::TreeEnd;
+use certificate_read::{Bound, Certificate};
 use certificate_text::texts_are_short;
 use command_answers::valid_is_accepted;
 use command_frame::Report;

@@ -76,8 +76,8 @@ fn tell<D: Desk>(inst: &Instance, files: &SolveFiles<'_>, solution: &Solution, d
     say_written(desk, wrote, &solution.report)
 }
 
-/// Writes the certificate, the trail and, if there is one, the plan. The error is the word of the file that could not be
-/// written.
+/// Writes the certificate, the trail and, if there is one, the plan. The error is the word of the file that could not
+/// be written.
 fn write_files<D: Desk>(
     inst: &Instance,
     files: &SolveFiles<'_>,

@@ -6,7 +6,7 @@ use Rattle.instance_model.specs.Tables.{Tables, tmax, is_allowed}
 use Rattle.instance_model.specs.Keys.{IsOpening}
 use Rattle.instance_model.proofs.EntryLemmas.{is_allowed_facts}
 use Rattle.duration_calendar.specs.Calendar.{IsAllowedIn, IsFirstAllowed}
-use Rattle.branch_tree.proofs.RootLemmas.{le_or_lt}
+use Rattle.certificate_tree.proofs.RootLemmas.{le_or_lt}
 use Rattle.descent_ends.specs.Openings.{IsWithoutStart}
 
 -- these are the least allowed starts of the first i interventions

@@ -4,11 +4,11 @@ use Rattle.std.proofs.Common.{length-append, zero-add}
 use Rattle.std.proofs.lemmas.List.{take_more}
 use Rattle.instance_model.specs.Tables.{Tables}
 use Rattle.lagrange_bound.specs.declared.span.Span.{Span}
-use Rattle.branch_tree.specs.declared.node.Node.{Node}
-use Rattle.branch_tree.specs.declared.node.Node.TheVariants.{Split, Cost, Point, Band, Excl, Empty}
-use Rattle.branch_tree.specs.declared.certificate.Certificate.{Certificate}
-use Rattle.branch_tree.specs.Trees.{Tree, leaf, split, pre_order, below, above, root_box}
-use Rattle.branch_tree.specs.Ranges.{IsTreeInRange, IsTreeOf}
+use Rattle.certificate_tree.specs.declared.node.Node.{Node}
+use Rattle.certificate_tree.specs.declared.node.Node.TheVariants.{Split, Cost, Point, Band, Excl, Empty}
+use Rattle.certificate_tree.specs.declared.certificate.Certificate.{Certificate}
+use Rattle.certificate_tree.specs.Trees.{Tree, leaf, split, pre_order, below, above, root_box}
+use Rattle.certificate_tree.specs.Ranges.{IsTreeInRange, IsTreeOf}
 use Rattle.branch_search.specs.Splits.{split_boxes}
 use Rattle.descent_ends.specs.Turns.{split_count}
 

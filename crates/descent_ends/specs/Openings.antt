@@ -4,8 +4,8 @@ use Rattle.instance_model.specs.Tables.{Tables, is_allowed}
 use Rattle.instance_model.specs.Keys.{IsOpening}
 use Rattle.certificate_lines.specs.declared.line.Bound.TheVariants.{NoPlan}
 use Rattle.certificate_lines.specs.declared.line.Version.TheVariants.{Two}
-use Rattle.branch_tree.specs.declared.node.Node.TheVariants.{Empty}
-use Rattle.branch_tree.specs.declared.certificate.Certificate.{Certificate}
+use Rattle.certificate_tree.specs.declared.node.Node.TheVariants.{Empty}
+use Rattle.certificate_tree.specs.declared.certificate.Certificate.{Certificate}
 use Rattle.descent_ends.specs.declared.opening.Opening.{Opening}
 use Rattle.descent_ends.specs.declared.opening.Opening.TheVariants.{From, Without}
 

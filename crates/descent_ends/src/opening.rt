@@ -2,7 +2,7 @@
 ghost use Rattle.std.specs.Prelude.{◌≡◌, IfOk};
 ghost use Rattle.descent_ends.specs.Openings.{OpensAs, empty_certificate};
 
-use branch_tree::{Bound, Certificate, Node, Nodes, PriceLists, Version};
+use certificate_tree::{Bound, Certificate, Node, Nodes, PriceLists, Version};
 use duration_calendar::first_allowed;
 use instance_model::{Instance, Starts};
 use std::alloc::{AllocError, Global};

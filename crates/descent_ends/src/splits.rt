@@ -2,7 +2,7 @@
 ghost use Rattle.std.specs.Prelude.{◌≡◌, ◌≤◌, [], ◌∷◌};
 ghost use Rattle.descent_ends.specs.Turns.{split_count};
 
-use branch_tree::Node;
+use certificate_tree::Node;
 
 /// How many nodes are splits.
 pub fn split_count(nodes: &[Node]) -> u64

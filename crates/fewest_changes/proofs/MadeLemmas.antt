@@ -11,9 +11,9 @@ use Rattle.instance_model.proofs.RuleLemmas.{KeepsRules-from}
 use Rattle.plan_moves.specs.declared.change.Change.{Change}
 use Rattle.certificate_lines.specs.declared.line.Bound.{Bound}
 use Rattle.certificate_lines.specs.declared.line.Bound.TheVariants.{NoPlan, Least}
-use Rattle.branch_tree.specs.Ranges.{IsInRange}
-use Rattle.branch_tree.specs.Validity.{IsValid, BoundsPlans}
-use Rattle.branch_tree.specs.Laws.{ValidBoundsPlans}
+use Rattle.certificate_tree.specs.Ranges.{IsInRange}
+use Rattle.certificate_tree.specs.Validity.{IsValid, BoundsPlans}
+use Rattle.certificate_tree.specs.Laws.{ValidBoundsPlans}
 use Rattle.branch_search.specs.declared.tree_end.TreeEnd.{TreeEnd}
 use Rattle.branch_search.specs.Best.{IsFeasiblePlan, IsBestOver, IsNoWorse}
 use Rattle.branch_search.specs.Searched.{IsSearched}

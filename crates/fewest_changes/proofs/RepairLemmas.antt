@@ -9,11 +9,11 @@ use Rattle.instance_model.specs.Rules.{IsFeasible}
 use Rattle.lagrange_bound.specs.declared.span.Span.{Span}
 use Rattle.certificate_lines.specs.declared.line.Bound.{Bound}
 use Rattle.certificate_lines.specs.declared.line.Bound.TheVariants.{NoPlan, Least}
-use Rattle.branch_tree.specs.declared.node.Node.{Node}
-use Rattle.branch_tree.specs.declared.node.Node.TheVariants.{Split, Cost, Point, Band, Excl, Empty}
-use Rattle.branch_tree.specs.Trees.{Leaf, leaves, root_box}
-use Rattle.branch_tree.specs.Holding.{IsAtLeast}
-use Rattle.branch_tree.specs.Validity.{BoundsPlans}
+use Rattle.certificate_tree.specs.declared.node.Node.{Node}
+use Rattle.certificate_tree.specs.declared.node.Node.TheVariants.{Split, Cost, Point, Band, Excl, Empty}
+use Rattle.certificate_tree.specs.Trees.{Leaf, leaves, root_box}
+use Rattle.certificate_tree.specs.Holding.{IsAtLeast}
+use Rattle.certificate_tree.specs.Validity.{BoundsPlans}
 use Rattle.branch_search.specs.declared.tree_end.TreeEnd.{TreeEnd}
 use Rattle.branch_search.specs.Best.{IsBestOver, IsNoWorse, bound_of}
 use Rattle.branch_search.specs.Searched.{IsBounding, IsAmong, IsLeastOf, IsUnfinishedLeaf, IsSearched}

@@ -8,10 +8,10 @@ use Rattle.plan_moves.specs.declared.change.Change.{Change}
 use Rattle.certificate_lines.specs.declared.line.Bound.{Bound}
 use Rattle.certificate_lines.specs.declared.line.Bound.TheVariants.{NoPlan, Least}
 use Rattle.certificate_lines.specs.declared.line.Version.TheVariants.{Two}
-use Rattle.branch_tree.specs.declared.certificate.Certificate.{Certificate}
-use Rattle.branch_tree.specs.Trees.{Tree, leaves, root_box}
-use Rattle.branch_tree.specs.Ranges.{IsTreeOf, IsInRange}
-use Rattle.branch_tree.specs.Validity.{CertLeafHolds, IsValid}
+use Rattle.certificate_tree.specs.declared.certificate.Certificate.{Certificate}
+use Rattle.certificate_tree.specs.Trees.{Tree, leaves, root_box}
+use Rattle.certificate_tree.specs.Ranges.{IsTreeOf, IsInRange}
+use Rattle.certificate_tree.specs.Validity.{CertLeafHolds, IsValid}
 use Rattle.branch_search.specs.Splits.{split_boxes}
 use Rattle.branch_search.specs.Best.{IsBestOver}
 use Rattle.branch_search.specs.Searched.{IsSplitBox, IsBounding, IsAmong, IsLeastOf, IsUnfinishedLeaf}

@@ -6,7 +6,7 @@ ghost use Rattle.fewest_changes.specs.Repaired.{IsBackOf, IsMadeRepair};
 
 use crate::incumbent::incumbent_of;
 use branch_search::{TreeEnd, search};
-use branch_tree::{Certificate, valid_bounds_plans};
+use certificate_tree::{Certificate, valid_bounds_plans};
 use instance_model::{Instance, Starts};
 use plan_changes::{ChangeGoal, bounds_count_changes, give_back, old_starts_are_no_changes};
 use quantile_index::Row;

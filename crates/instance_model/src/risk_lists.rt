@@ -85,8 +85,8 @@ impl RiskLists {
         Ok(())
     }
 
-    /// Adds a number to the last list; `rounded` says whether reading has changed it. Where there is no list, nothing is
-    /// added.
+    /// Adds a number to the last list; `rounded` says whether reading has changed it. Where there is no list, nothing
+    /// is added.
     pub fn add(&mut self, number: Fixed, rounded: bool) -> Result<(), AllocError>
         ensures ok { OnOk result (self.new ≡ add_to_last number rounded self.old) }
         ensures err { OnErr result (self.new ≡ self.old) }

@@ -51,7 +51,7 @@ fn all_cells(
     ensures { IfOk result
         (λ v. v.items
         ≡ all_kept periods durations.now (map string_bytes resources.now.texts.items)
-            (map workload_view workloads.now)) }
+        (map workload_view workloads.now)) }
 {
     let mut cells = Vec::new(alloc);
     for workload in workloads {

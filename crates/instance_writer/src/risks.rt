@@ -1,7 +1,8 @@
 //! Risks are put out.
 //!
-//! The walk over periods and starts is like that of the workloads, and stands apart: a start is put out here where its run
-//! holds the period, and there where it has a workload too, and each asks before a key is put whether anything follows.
+//! The walk over periods and starts is like that of the workloads, and stands apart: a start is put out here where its
+//! run holds the period, and there where it has a workload too, and each asks before a key is put whether anything
+//! follows.
 ghost use Rattle.std.specs.Prelude.{◌≡◌, ◌+◌, ◌<◌, ◌≤◌, decimal, length, is_some, IsTrue};
 ghost use Rattle.fixed_num.specs.Sums.{list_of};
 ghost use Rattle.json_laws.specs.Spelling.{spell};

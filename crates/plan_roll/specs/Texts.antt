@@ -19,8 +19,8 @@ pub record HasSmallBands (inst : Tables) : Type 0 where
   pub upper : All (λ z. unsigned_abs z < 10 ^ 20) inst.upper
   pub lower : All (λ z. unsigned_abs z < 10 ^ 20) inst.lower
 
--- What the text of the rolled instance is read as: under all limits that the instance is within, and with each slack, it
--- is the rolled one of the instance whose bands are widened by that slack.
+-- What the text of the rolled instance is read as: under all limits that the instance is within, and with each slack,
+-- it is the rolled one of the instance whose bands are widened by that slack.
 abbrev pub TextIsRead : Tables → List (Option ℕ) → ℕ → Type 0
 TextIsRead inst plan period =
     (limits : Limits) (slack : ℤ) → IsWithin limits inst

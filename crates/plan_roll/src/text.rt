@@ -24,8 +24,8 @@ pub fn rolled_length(inst: &Instance, plan: &[Option<u32>], period: u32) -> u64
 /// Writes the text of the rolled instance to the end of the file that is open, in one pass. Takes no memory.
 ///
 /// Where no band limit reaches 10^20 in absolute value, the text is read as the rolled instance (`read`); the bands of
-/// an instance that was read without a slack are such (`read_again`). A plan of the rolled one is feasible exactly where
-/// it is feasible for the instance and goes on with the plan so far, with the same score (`plans`).
+/// an instance that was read without a slack are such (`read_again`). A plan of the rolled one is feasible exactly
+/// where it is feasible for the instance and goes on with the plan so far, with the same score (`plans`).
 #[tactic(auto, unfolding(crate::specs::Texts::rolled_text))]
 pub fn write_rolled<D: Desk>(
     inst: &Instance,

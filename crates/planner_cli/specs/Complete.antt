@@ -8,7 +8,7 @@ use Rattle.std.specs.Prelude.{ℕ, List, [], ◌∷◌, Option}
 use Rattle.plan_desk.specs.Desk.{Shown}
 use Rattle.instance_model.specs.declared.limits.Limits.{Limits}
 use Rattle.instance_model.specs.Tables.{Tables}
-use Rattle.branch_tree.specs.declared.certificate.Certificate.{Certificate}
+use Rattle.certificate_tree.specs.declared.certificate.Certificate.{Certificate}
 use Rattle.instance_gen.specs.Drawn.{drawn_tables}
 use Rattle.command_frame.specs.Sources.{Source}
 use Rattle.command_frame.specs.Files.{TellsInstance, TellsPlan, TellsCertificate}

@@ -8,7 +8,7 @@ use Rattle.instance_model.specs.Tables.{Tables}
 use Rattle.lagrange_bound.specs.Prices.{PriceList, IsPriceList, zero_list}
 use Rattle.lagrange_bound.specs.Boxes.{HasStarts}
 use Rattle.lagrange_bound.specs.Worth.{price_total}
-use Rattle.branch_tree.specs.Trees.{root_box}
+use Rattle.certificate_tree.specs.Trees.{root_box}
 use Rattle.price_ladder.specs.Steps.{IsLadderStep}
 use Rattle.price_ladder.specs.Raised.{root_worth, least_total, least_gain, IsRaised}
 use Rattle.price_ladder.specs.Tried.{IsTried}

@@ -22,10 +22,10 @@ use Rattle.lagrange_bound.specs.Worth.{band_share, band_part, limit_share, fixed
 use Rattle.lagrange_bound.specs.Worth.{worth_of}
 use Rattle.lagrange_bound.proofs.BaseLemmas.{sum_below-idle}
 use Rattle.lagrange_bound.proofs.WorthLemmas.{in_starts}
-use Rattle.branch_tree.specs.Trees.{root_box}
-use Rattle.branch_tree.specs.Loads.{greatest_over}
-use Rattle.branch_tree.proofs.RootLemmas.{root_at}
-use Rattle.branch_tree.proofs.StartLemmas.{greatest_over_ge}
+use Rattle.certificate_tree.specs.Trees.{root_box}
+use Rattle.certificate_tree.specs.Loads.{greatest_over}
+use Rattle.certificate_tree.proofs.RootLemmas.{root_at}
+use Rattle.certificate_tree.proofs.StartLemmas.{greatest_over_ge}
 use Rattle.price_ladder.specs.Raised.{root_worth, root_starts, least_total, greatest_total, least_gain, enough_worth}
 
 -- ---- the box of all starts holds a plan of allowed starts

@@ -9,10 +9,10 @@ use borrow.Author.Differences.{same_in, at_most_in, lt-true, lt-false, le_out}
 use Rattle.instance_model.specs.Tables.{Tables, tmax, is_allowed}
 use Rattle.lagrange_bound.specs.Boxes.{span_of, starts_in}
 use Rattle.lagrange_bound.proofs.WorthLemmas.{in_starts}
-use Rattle.branch_tree.specs.Trees.{root_box}
-use Rattle.branch_tree.specs.Loads.{greatest_over}
-use Rattle.branch_tree.proofs.RootLemmas.{root_at}
-use Rattle.branch_tree.proofs.StartLemmas.{greatest_over_ge}
+use Rattle.certificate_tree.specs.Trees.{root_box}
+use Rattle.certificate_tree.specs.Loads.{greatest_over}
+use Rattle.certificate_tree.proofs.RootLemmas.{root_at}
+use Rattle.certificate_tree.proofs.StartLemmas.{greatest_over_ge}
 use Rattle.price_ladder.specs.Raised.{root_starts}
 
 -- z is the value of f at a place from 1 to m that passes, and no place before n that passes has a greater one

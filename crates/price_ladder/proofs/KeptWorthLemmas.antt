@@ -24,8 +24,8 @@ use Rattle.lagrange_bound.specs.Changes.{with_tail}
 use Rattle.lagrange_bound.specs.Worth.{fixed_part, worth_of, price_of, band_part, ex_part}
 use Rattle.lagrange_bound.specs.Goals.{risk_base}
 use Rattle.lagrange_bound.proofs.WorthLemmas.{in_starts}
-use Rattle.branch_tree.specs.Trees.{root_box}
-use Rattle.branch_tree.proofs.RootLemmas.{root_at}
+use Rattle.certificate_tree.specs.Trees.{root_box}
+use Rattle.certificate_tree.proofs.RootLemmas.{root_at}
 use Rattle.price_ladder.specs.declared.place.Place.{Place}
 use Rattle.price_ladder.specs.declared.place.Place.TheVariants.{Upper, Lower, Excluded}
 use Rattle.price_ladder.specs.Places.{IsPlace, value_at, IsWithValue}

@@ -8,8 +8,8 @@ use Rattle.lagrange_bound.specs.Prices.{PriceList, IsPriceList, zero_list}
 use Rattle.lagrange_bound.specs.Goals.{risk_base}
 use Rattle.lagrange_bound.specs.Boxes.{span_of, starts_in}
 use Rattle.lagrange_bound.specs.Worth.{worth_of}
-use Rattle.branch_tree.specs.Trees.{root_box}
-use Rattle.branch_tree.specs.Loads.{greatest_over}
+use Rattle.certificate_tree.specs.Trees.{root_box}
+use Rattle.certificate_tree.specs.Loads.{greatest_over}
 use Rattle.price_ladder.specs.Steps.{IsLadderStep}
 
 -- the worth of the box of all starts

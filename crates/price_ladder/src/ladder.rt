@@ -4,7 +4,7 @@ ghost use Rattle.instance_model.specs.Tables.{Tables};
 ghost use Rattle.instance_model.specs.Plans.{AreAllowedStarts};
 ghost use Rattle.lagrange_bound.specs.Prices.{PriceList, IsPriceList};
 ghost use Rattle.lagrange_bound.specs.Boxes.{HasStarts};
-ghost use Rattle.branch_tree.specs.Trees.{root_box};
+ghost use Rattle.certificate_tree.specs.Trees.{root_box};
 ghost use Rattle.price_ladder.specs.Places.{IsPlace, IsWithValue};
 ghost use Rattle.price_ladder.specs.Steps.{IsTailStep};
 ghost use Rattle.price_ladder.specs.Raised.{root_worth};

@@ -3,7 +3,7 @@ ghost use Rattle.std.specs.Prelude.{◌≡◌, ◌<◌, ◌≤◌, ◌*◌, ◌^
 ghost use Rattle.instance_model.specs.Plans.{AreAllowedStarts};
 ghost use Rattle.lagrange_bound.specs.Prices.{zero_list};
 ghost use Rattle.lagrange_bound.specs.Goals.{risk_base};
-ghost use Rattle.branch_tree.specs.Loads.{greatest_over};
+ghost use Rattle.certificate_tree.specs.Loads.{greatest_over};
 ghost use Rattle.price_ladder.specs.Raised.{root_starts, greatest_total, least_gain};
 
 use crate::root::root_worth;

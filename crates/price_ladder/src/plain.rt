@@ -5,7 +5,7 @@ ghost use Rattle.lagrange_bound.specs.Prices.{IsPriceList, IsTail, tail_of, zero
 ghost use Rattle.lagrange_bound.specs.Changes.{with_tail};
 ghost use Rattle.lagrange_bound.specs.Boxes.{HasStarts};
 ghost use Rattle.lagrange_bound.specs.Worth.{price_total};
-ghost use Rattle.branch_tree.specs.Trees.{root_box};
+ghost use Rattle.certificate_tree.specs.Trees.{root_box};
 ghost use Rattle.price_ladder.specs.Raised.{root_worth, least_total, IsRaised};
 ghost use Rattle.price_ladder.specs.Tried.{IsTried};
 

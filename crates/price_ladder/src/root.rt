@@ -2,10 +2,10 @@
 ghost use Rattle.std.specs.Prelude.{◌≡◌, ◌<◌, ◌^◌, IfOk, unsigned_abs};
 ghost use Rattle.lagrange_bound.specs.Prices.{IsPriceList};
 ghost use Rattle.lagrange_bound.specs.Boxes.{HasStarts};
-ghost use Rattle.branch_tree.specs.Trees.{root_box};
+ghost use Rattle.certificate_tree.specs.Trees.{root_box};
 ghost use Rattle.price_ladder.specs.Raised.{root_worth};
 
-use branch_tree::BoxPath;
+use certificate_tree::BoxPath;
 use instance_model::Instance;
 use lagrange_bound::{Prices, RiskGoal, tabulate, worth};
 use std::alloc::{AllocError, Global};

@@ -6,7 +6,7 @@ ghost use Rattle.std.specs.Prelude.{◌<◌, ◌≤◌, length, IfOk, OnOk};
 ghost use Rattle.instance_model.specs.Plans.{AreAllowedStarts};
 ghost use Rattle.lagrange_bound.specs.Prices.{IsPriceList};
 ghost use Rattle.lagrange_bound.specs.Boxes.{HasStarts};
-ghost use Rattle.branch_tree.specs.Trees.{root_box};
+ghost use Rattle.certificate_tree.specs.Trees.{root_box};
 ghost use Rattle.price_ladder.specs.Steps.{IsLadderStep};
 ghost use Rattle.price_ladder.specs.Tried.{IsTried, IsStepAmong, IsAnyTailStep, IsLimitIn, IsLimitOf, IsLimit};
 ghost use Rattle.price_ladder.specs.Tried.{IsExcludedIn, IsExcludedOf, IsExcluded};

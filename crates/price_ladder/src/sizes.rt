@@ -1,9 +1,9 @@
-//! The steps at one place: by each power of ten, up and down. The two stand apart, as one ends at the greatest price and
-//! the other at 0.
+//! The steps at one place: by each power of ten, up and down. The two stand apart, as one ends at the greatest price
+//! and the other at 0.
 ghost use Rattle.std.specs.Prelude.{◌≡◌, ◌≤◌, IfOk, OnOk};
 ghost use Rattle.lagrange_bound.specs.Prices.{IsPriceList};
 ghost use Rattle.lagrange_bound.specs.Boxes.{HasStarts};
-ghost use Rattle.branch_tree.specs.Trees.{root_box};
+ghost use Rattle.certificate_tree.specs.Trees.{root_box};
 ghost use Rattle.price_ladder.specs.Places.{IsPlace};
 ghost use Rattle.price_ladder.specs.Steps.{IsStepAt};
 ghost use Rattle.price_ladder.specs.Tried.{IsTried, IsMoreBy, IsLessBy, IsChangedBy};

@@ -140,7 +140,7 @@ fn take_text(
         ≡ first_flaw (key_faults limits.now spot (texts_of texts.old.texts.items) at (string_bytes key))) }
     ensures added { IfOk result (λ r. r ≡ None
         → texts_of texts.new.texts.items
-            ≡ texts_of texts.old.texts.items ++ key_of (shape.kind_of spot) (string_bytes key)) }
+        ≡ texts_of texts.old.texts.items ++ key_of (shape.kind_of spot) (string_bytes key)) }
 {
     let flaw = new_text_flaw(limits, spot, texts.len(), key.as_str());
     let new = add_text(texts, key)?;

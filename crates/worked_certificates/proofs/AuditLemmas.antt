@@ -3,11 +3,11 @@ use Rattle.std.proofs.Common.{◌≡◌, ℕ, ◌⊎◌, inl, inr, List, sym, �
 use Rattle.std.specs.Prelude.{Result, Ok, Err}
 use Rattle.instance_model.specs.Tables.{Tables}
 use Rattle.lagrange_bound.specs.Goals.{risk_base, risk_value}
-use Rattle.branch_tree.specs.declared.certificate.Certificate.{Certificate}
-use Rattle.branch_tree.specs.Validity.{IsValid, IsFirstFailing}
-use Rattle.branch_certificate.specs.declared.fault.CertFault.{CertFault}
-use Rattle.branch_certificate.specs.declared.fault.CertFault.TheVariants.{Memory}
-use Rattle.branch_certificate.specs.Faults.{IsTextOf}
+use Rattle.certificate_tree.specs.declared.certificate.Certificate.{Certificate}
+use Rattle.certificate_tree.specs.Validity.{IsValid, IsFirstFailing}
+use Rattle.certificate_read.specs.declared.fault.CertFault.{CertFault}
+use Rattle.certificate_read.specs.declared.fault.CertFault.TheVariants.{Memory}
+use Rattle.certificate_read.specs.Faults.{IsTextOf}
 use Rattle.certificate_check.specs.declared.verdict.CertVerdict.{CertVerdict}
 use Rattle.certificate_check.specs.declared.verdict.CertVerdict.TheVariants.{Valid, LeafFails}
 use Rattle.certificate_check.specs.Verdicts.{IsVerdict}

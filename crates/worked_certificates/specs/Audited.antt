@@ -4,7 +4,7 @@ use Rattle.instance_model.specs.Tables.{Tables}
 use Rattle.instance_model.specs.Values.{score_of}
 use Rattle.instance_model.specs.Rules.{KeepsRules}
 use Rattle.certificate_lines.specs.declared.line.Bound.{Bound}
-use Rattle.branch_tree.specs.Holding.{IsAtLeast}
+use Rattle.certificate_tree.specs.Holding.{IsAtLeast}
 use Rattle.worked_certificates.specs.declared.audit.Audit.{Audit}
 use Rattle.worked_certificates.specs.declared.audit.Audit.TheVariants.{Proved, LeafFails}
 

@@ -2,16 +2,16 @@
 
 ghost use Rattle.std.specs.Prelude.{◌≡◌, ◌⊎◌, ℕ, Ok, Err, IfOk};
 ghost use Rattle.lagrange_bound.specs.Goals.{risk_base, risk_value};
-ghost use Rattle.branch_tree.specs.declared.certificate.Certificate.{Certificate};
-ghost use Rattle.branch_tree.specs.Validity.{IsValid, IsFirstFailing};
-ghost use Rattle.branch_certificate.specs.declared.fault.CertFault.{CertFault};
-ghost use Rattle.branch_certificate.specs.declared.fault.CertFault.TheVariants.{Memory};
-ghost use Rattle.branch_certificate.specs.Faults.{HasCertFault, IsTextOf};
+ghost use Rattle.certificate_tree.specs.declared.certificate.Certificate.{Certificate};
+ghost use Rattle.certificate_tree.specs.Validity.{IsValid, IsFirstFailing};
+ghost use Rattle.certificate_read.specs.declared.fault.CertFault.{CertFault};
+ghost use Rattle.certificate_read.specs.declared.fault.CertFault.TheVariants.{Memory};
+ghost use Rattle.certificate_read.specs.Faults.{HasCertFault, IsTextOf};
 ghost use Rattle.worked_certificates.specs.declared.audit.Audit.TheVariants.{Proved, LeafFails};
 ghost use Rattle.worked_certificates.specs.Audited.{BoundsKeptPlans, IfProved};
 
-use branch_certificate::{Bound, CertFault, read_certificate};
 use certificate_check::{CertVerdict, check};
+use certificate_read::{Bound, CertFault, read_certificate};
 use instance_model::Instance;
 use std::alloc::Global;
 

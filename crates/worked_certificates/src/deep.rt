@@ -3,7 +3,7 @@
 
 use crate::Audit;
 use crate::given::audited;
-use branch_certificate::Bound;
+use certificate_read::Bound;
 use std::alloc::{AllocError, Global};
 use std::process::Abort;
 use std::test::Fail;

@@ -7,7 +7,7 @@ use crate::deep::{STARTS, audit_bound, certificate_text, due, is_due, least};
 use crate::given::{fails_at, is_proved};
 use crate::written::is_rewritten;
 use crate::{Audit, audit_text};
-use branch_certificate::Bound;
+use certificate_read::Bound;
 use duration_calendar::{in_run, run};
 use fixed_num::Steps;
 use instance_gen::{drawn_instance, generate};

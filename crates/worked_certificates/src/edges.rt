@@ -5,7 +5,7 @@
 
 use crate::Audit;
 use crate::given::{apart, audited, fails_at, floor, is_proved, skewed};
-use branch_certificate::Bound;
+use certificate_read::Bound;
 use std::alloc::{AllocError, Global};
 use std::process::Abort;
 use std::test::Fail;

@@ -3,7 +3,7 @@
 //! Each text stands in a function of its own: a proof goes through a literal wherever it is written.
 
 use crate::{Audit, audit_text};
-use branch_certificate::{Bound, CertFault};
+use certificate_read::{Bound, CertFault};
 use fixed_num::Fixed;
 use instance_model::{Instance, Limits};
 use instance_read::{InstanceFault, read_instance};

@@ -3,7 +3,7 @@
 use crate::Audit;
 use crate::edges::audit_bound;
 use crate::given::{apart, audited, fails_at, floor, is_proved};
-use branch_certificate::Bound;
+use certificate_read::Bound;
 use std::alloc::Global;
 use std::process::Abort;
 use std::test::Fail;

@@ -2,7 +2,7 @@
 
 use crate::Audit;
 use crate::given::{apart, audited, fails_at, is_proved};
-use branch_certificate::{Bound, CertFault};
+use certificate_read::{Bound, CertFault};
 use std::alloc::{AllocError, Global};
 use std::process::Abort;
 use std::test::Fail;

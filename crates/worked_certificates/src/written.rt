@@ -1,10 +1,10 @@
 //! Certificates written as they were read.
 
-ghost use Rattle.branch_tree.specs.Ranges.{IsInRange};
+ghost use Rattle.certificate_tree.specs.Ranges.{IsInRange};
 
 use crate::given::{apart, instance};
 use crate::texts::whole;
-use branch_certificate::{Certificate, read_certificate, write_certificate};
+use certificate_read::{Certificate, read_certificate, write_certificate};
 use instance_model::Instance;
 use plan_desk::{Desk, DeskCall, Failed, MemDesk};
 use std::alloc::Global;

@@ -7,9 +7,9 @@ use Rattle.instance_model.proofs.EntryLemmas.{is_allowed_facts}
 use Rattle.lagrange_bound.specs.Prices.{PriceList, IsPriceList}
 use Rattle.lagrange_bound.specs.Goals.{risk_base, risk_value}
 use Rattle.lagrange_bound.specs.Worth.{WorthBoundsPlans}
-use Rattle.branch_tree.specs.Trees.{root_box}
-use Rattle.branch_tree.proofs.RootLemmas.{root_at}
-use Rattle.branch_tree.proofs.Refuting.{feasible_allowed}
+use Rattle.certificate_tree.specs.Trees.{root_box}
+use Rattle.certificate_tree.proofs.RootLemmas.{root_at}
+use Rattle.certificate_tree.proofs.Refuting.{feasible_allowed}
 use Rattle.price_ladder.specs.Raised.{root_worth}
 use Rattle.worked_ladders.specs.Bounding.{BoundsScores}
 

@@ -5,7 +5,7 @@ ghost use Rattle.lagrange_bound.specs.Prices.{IsPriceList};
 ghost use Rattle.price_ladder.specs.Raised.{root_worth, least_total};
 ghost use Rattle.worked_ladders.specs.Bounding.{BoundsScores, IsRaisedWorth};
 
-use branch_tree::BoxPath;
+use certificate_tree::BoxPath;
 use instance_model::Instance;
 use lagrange_bound::{Prices, RiskGoal, tabulate, worth, worth_bounds_plans};
 use price_ladder::raise_plainly;

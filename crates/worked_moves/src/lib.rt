@@ -1,6 +1,6 @@
 //! Kept plans, what is kept of their risks, loads and exclusions, and descents from them with their scripts, on small
-//! instances; rows of sums, and the trail: the tests of `local_search`, `plan_moves` and the crates that these stand on.
-//! And a law of descents.
+//! instances; rows of sums, and the trail: the tests of `local_search`, `plan_moves` and the crates that these stand
+//! on. And a law of descents.
 #![tactic(auto)]
 
 #[cfg(test)]

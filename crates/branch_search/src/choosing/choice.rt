@@ -4,8 +4,8 @@ ghost use Rattle.std.specs.Prelude.{◌≡◌, ℕ, ◌<◌, ◌≤◌, length, 
 ghost use Rattle.instance_model.specs.Tables.{tmax};
 ghost use Rattle.lagrange_bound.specs.Boxes.{IsBox, span_of};
 ghost use Rattle.lagrange_bound.specs.Tabulated.{IsPricedBox};
-ghost use Rattle.branch_tree.specs.Trees.{IsSplit};
-ghost use Rattle.branch_tree.specs.Holding.{IsSingle};
+ghost use Rattle.certificate_tree.specs.Trees.{IsSplit};
+ghost use Rattle.certificate_tree.specs.Holding.{IsSingle};
 ghost use Rattle.box_state.specs.KeptLoads.{IsOver};
 ghost use Rattle.branch_search.specs.Tasks.{free_task};
 ghost use Rattle.branch_search.specs.Settled.{IsImprovedIn};

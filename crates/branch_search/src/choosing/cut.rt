@@ -10,7 +10,7 @@ use crate::choosing::place_loads::{PlaceCell, load_in, place_of, places};
 use crate::choosing::separation::{meets_at, signed};
 use crate::choosing::start_prices::{is_allowed, least_price, load_at, price_at};
 use box_state::BoxLoads;
-use branch_tree::Side;
+use certificate_tree::Side;
 use duration_calendar::run;
 use instance_model::Instance;
 use lagrange_bound::{PriceTable, Span};

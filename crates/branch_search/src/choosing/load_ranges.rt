@@ -30,8 +30,8 @@ pub(crate) struct Numbered {
     pub(crate) number: usize,
 }
 
-/// The ranges of loads of all interventions, by intervention, then place, their numbers by place, then intervention, and
-/// the intervals that they were taken over.
+/// The ranges of loads of all interventions, by intervention, then place, their numbers by place, then intervention,
+/// and the intervals that they were taken over.
 #[derive(Drop)]
 pub(crate) struct LoadRanges {
     cells: Vec<PlaceCell>,

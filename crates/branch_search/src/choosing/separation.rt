@@ -9,7 +9,7 @@ use crate::choosing::load_ranges::{LoadRange, LoadRanges};
 use crate::choosing::member::{Member, member_of};
 use crate::choosing::place_loads::{PlaceCell, load_in, place_of};
 use box_state::BoxLoads;
-use branch_tree::Side;
+use certificate_tree::Side;
 use duration_calendar::{Window, meets_in, run};
 use instance_model::Instance;
 use lagrange_bound::{PriceTable, Span};
@@ -164,8 +164,8 @@ impl CoverRoom {
         )
     }
 
-    /// An intervention by its range of loads in a place, where another start of its interval is better there, and where it
-    /// may become a member.
+    /// An intervention by its range of loads in a place, where another start of its interval is better there, and where
+    /// it may become a member.
     fn member_by(&mut self, view: &PlanView<'_>, range: &LoadRange, side: Side) -> Option<Member> {
         let cells = view.ranges.loads_of(range);
         let load = load_in(cells, view.plan.start(range.i));
@@ -331,8 +331,8 @@ fn separate_bands(
     Ok(())
 }
 
-/// Takes in the cover of exclusion `e`, where the plan breaks it: both of its interventions are needed for a cover, where
-/// they can leave each other.
+/// Takes in the cover of exclusion `e`, where the plan breaks it: both of its interventions are needed for a cover,
+/// where they can leave each other.
 fn separate_exclusion(
     view: &PlanView<'_>,
     room: &mut CoverRoom,

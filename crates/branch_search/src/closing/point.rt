@@ -2,8 +2,8 @@
 ghost use Rattle.std.specs.Prelude.{◌≡◌, map, Some, length, IsTrue, IfOk, OnOk, ◌↔◌};
 ghost use Rattle.lagrange_bound.specs.Boxes.{IsBox};
 ghost use Rattle.instance_model.specs.Rules.{IsFeasible};
-ghost use Rattle.branch_tree.specs.Trees.{AreStartsIn};
-ghost use Rattle.branch_tree.specs.Holding.{IsSingle, first_starts};
+ghost use Rattle.certificate_tree.specs.Trees.{AreStartsIn};
+ghost use Rattle.certificate_tree.specs.Holding.{IsSingle, first_starts};
 ghost use Rattle.branch_search.specs.Best.{IsReached};
 ghost use Rattle.branch_search.specs.Searched.{IsPointLeaf};
 ghost use Rattle.branch_search.specs.Tasks.{free_task};

@@ -9,7 +9,7 @@ ghost use Rattle.branch_search.specs.Refuting.{IsEmptyIn, IsRefuting};
 
 use crate::splitting::CurrentBox;
 use box_state::{Band, holding_exclusion, holding_exclusion_by, others_are_kept};
-use branch_tree::{Node, has_start};
+use certificate_tree::{Node, has_start};
 use instance_model::Instance;
 use lagrange_bound::Span;
 

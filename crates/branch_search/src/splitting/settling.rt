@@ -1,8 +1,8 @@
 //! The leaf of a new box: a refuting one, that of a single plan, or one that waits.
 ghost use Rattle.std.specs.Prelude.{IfOk, OnOk, IfSome, IfNone};
 ghost use Rattle.lagrange_bound.specs.Boxes.{IsBox};
-ghost use Rattle.branch_tree.specs.Trees.{IsSplit, root_box};
-ghost use Rattle.branch_tree.specs.Holding.{IsSingle};
+ghost use Rattle.certificate_tree.specs.Trees.{IsSplit, root_box};
+ghost use Rattle.certificate_tree.specs.Holding.{IsSingle};
 ghost use Rattle.branch_search.specs.Boxes.{IsUnrefuted};
 ghost use Rattle.branch_search.specs.Refuting.{IsRefuting};
 ghost use Rattle.branch_search.specs.CurrentBoxes.{IsCurrentBox, IsPartedBy};
@@ -15,7 +15,7 @@ use crate::best::Best;
 use crate::choosing::{Chooser, choose};
 use crate::closing::{Worths, greatest_worth, is_single, refuting_leaf, refuting_part, take_point};
 use crate::splitting::current_box::CurrentBox;
-use branch_tree::{BoxPath, Node, parts_are_boxes};
+use certificate_tree::{BoxPath, Node, parts_are_boxes};
 use instance_model::Instance;
 use lagrange_bound::{Goal, Prices, Span};
 use std::alloc::{AllocError, Global};

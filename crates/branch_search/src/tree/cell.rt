@@ -2,7 +2,7 @@
 ghost use Rattle.std.specs.Prelude.{◌≡◌, ◌<◌, length, OnOk};
 ghost use Rattle.branch_search.specs.Growing.{split_cells};
 
-use branch_tree::Node;
+use certificate_tree::Node;
 use std::alloc::AllocError;
 
 /// A node, the number of the split that it is a part of, and for a split the number of its left part.

@@ -9,7 +9,7 @@ use crate::best::Best;
 use crate::splitting::left_worth;
 use crate::tree::growth::Growth;
 use crate::tree::nodes::nodes_of;
-use branch_tree::{Bound, Certificate, Nodes, PriceLists, Version};
+use certificate_tree::{Bound, Certificate, Nodes, PriceLists, Version};
 use instance_model::Starts;
 use lagrange_bound::Prices;
 use std::alloc::{AllocError, Global};

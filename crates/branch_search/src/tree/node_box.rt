@@ -1,13 +1,13 @@
 //! The box of a number, made afresh by the way up to the root.
 ghost use Rattle.std.specs.Prelude.{◌≡◌, ℕ, ◌<◌, ◌≤◌, List, length, IfOk};
 ghost use Rattle.lagrange_bound.specs.declared.span.Span.{Span};
-ghost use Rattle.branch_tree.specs.declared.node.Node.TheVariants.{Split};
-ghost use Rattle.branch_tree.specs.Trees.{root_box};
+ghost use Rattle.certificate_tree.specs.declared.node.Node.TheVariants.{Split};
+ghost use Rattle.certificate_tree.specs.Trees.{root_box};
 ghost use Rattle.branch_search.specs.Growing.{AreBoxesOf, box_at};
 ghost use Rattle.branch_search.specs.Climbing.{narrowed};
 
 use crate::tree::cell::Cell;
-use branch_tree::{BoxPath, Node};
+use certificate_tree::{BoxPath, Node};
 use instance_model::Instance;
 use lagrange_bound::Span;
 use std::alloc::{AllocError, Global};

@@ -4,7 +4,7 @@ ghost use Rattle.branch_search.specs.Growing.{node_at};
 ghost use Rattle.branch_search.specs.Shapes.{Shape, numbers, IsShapeOf};
 
 use crate::tree::cell::Cell;
-use branch_tree::Node;
+use certificate_tree::Node;
 use std::alloc::{AllocError, Global};
 
 /// The nodes, each split before its left part, and that before its right part.

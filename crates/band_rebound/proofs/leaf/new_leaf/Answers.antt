@@ -1,7 +1,7 @@
 use Rattle.std.proofs.Common.{ℤ, [], ◌∷◌, Some, refl, sym, ◌∙◌, ap, subst, arith}
 use Rattle.std.proofs.lemmas.Bool.{false≢true}
 use Rattle.fixed_num.proofs.SignedLemmas.{back_from_abs}
-use Rattle.branch_tree.specs.declared.node.Node.TheVariants.{Cost}
+use Rattle.certificate_tree.specs.declared.node.Node.TheVariants.{Cost}
 use Rattle.band_rebound.specs.Rebinding.Becomes.{empty, same, cost}
 use Rattle.band_rebound.specs.Steps.{IsNewLeaf}
 use Rattle.band_rebound.proofs.LeafLemmas.{held_none, point_made}

@@ -1,9 +1,9 @@
 use Rattle.std.proofs.Common.{List, get_or, subst, arith}
 use Rattle.std.proofs.lemmas.List.{get_or_default}
 use Rattle.lagrange_bound.specs.declared.span.Span.{Span}
-use Rattle.branch_tree.specs.declared.node.Node.{Node}
-use Rattle.branch_tree.specs.declared.node.Node.TheVariants.{Split}
-use Rattle.branch_tree.specs.Trees.{root_box}
+use Rattle.certificate_tree.specs.declared.node.Node.{Node}
+use Rattle.certificate_tree.specs.declared.node.Node.TheVariants.{Split}
+use Rattle.certificate_tree.specs.Trees.{root_box}
 use Rattle.band_rebound.specs.Steps.{counts_of, IsNewLeaf}
 use Rattle.band_rebound.proofs.WalkLemmas.{start_at, zero_counts, leaf_at, leaf_step, split_step, grown}
 use Rattle.band_rebound.proofs.walk.grow.Goals as goal

@@ -1,5 +1,5 @@
 use Rattle.std.proofs.Common.{ℕ, ◌<◌}
-use Rattle.branch_tree.specs.Holding.{ExclHolds}
+use Rattle.certificate_tree.specs.Holding.{ExclHolds}
 use Rattle.box_state.proofs.exclusions.holding_exclusion.Given as goal
 
 abbrev pub invariant-loop-e : goal.invariant-loop-e

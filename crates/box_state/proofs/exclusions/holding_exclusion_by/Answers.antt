@@ -1,7 +1,7 @@
 use Rattle.std.proofs.Common.{◌≡◌, ℕ, ◌<◌, ◌⊎◌, inl, inr, sym, ◌∙◌, subst, arith, get_or}
 use Rattle.std.proofs.Math.Nat.{eq-or-lt_of_le}
 use Rattle.std.proofs.lemmas.Bool.{false≢true}
-use Rattle.branch_tree.specs.Holding.{ExclHolds}
+use Rattle.certificate_tree.specs.Holding.{ExclHolds}
 use Rattle.box_state.proofs.ExclusionLemmas.{index_long, named_is, named_within, none_by}
 use Rattle.box_state.proofs.exclusions.holding_exclusion_by.Goals as goal
 

@@ -1,5 +1,5 @@
 use Rattle.std.proofs.Common.{ℕ, ◌<◌, get_or}
-use Rattle.branch_tree.specs.Holding.{ExclHolds}
+use Rattle.certificate_tree.specs.Holding.{ExclHolds}
 use Rattle.box_state.proofs.exclusions.holding_exclusion_by.Given as goal
 
 abbrev pub invariant-loop-e : goal.invariant-loop-e

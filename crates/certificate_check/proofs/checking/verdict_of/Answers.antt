@@ -2,12 +2,12 @@ use Rattle.std.proofs.Common.{List, [], ◌∷◌, length, sym, ◌∙◌, subst
 use Rattle.std.proofs.lemmas.Bool.{false≢true}
 use Rattle.std.proofs.lemmas.List.{get_or_default}
 use Rattle.lagrange_bound.specs.declared.span.Span.{Span}
-use Rattle.branch_tree.specs.declared.node.Node.{Node}
-use Rattle.branch_tree.specs.declared.node.Node.TheVariants.{Split}
-use Rattle.branch_tree.specs.Walk.{first_box}
-use Rattle.branch_tree.specs.Trees.{leaves, root_box}
-use Rattle.branch_tree.specs.Holding.{LeafHolds}
-use Rattle.branch_tree.specs.Validity.{CertLeafHolds}
+use Rattle.certificate_tree.specs.declared.node.Node.{Node}
+use Rattle.certificate_tree.specs.declared.node.Node.TheVariants.{Split}
+use Rattle.certificate_tree.specs.Walk.{first_box}
+use Rattle.certificate_tree.specs.Trees.{leaves, root_box}
+use Rattle.certificate_tree.specs.Holding.{LeafHolds}
+use Rattle.certificate_tree.specs.Validity.{CertLeafHolds}
 use Rattle.certificate_check.proofs.FlatLemmas.{flat_leaves}
 use Rattle.certificate_check.proofs.StepLemmas.{leaf_step, split_step, fails_first, all_hold, more_hold, still_some}
 use Rattle.certificate_check.proofs.StepLemmas.{flat_ended, flat_past, start_at, tree_leaves}

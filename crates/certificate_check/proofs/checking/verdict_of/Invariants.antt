@@ -1,6 +1,6 @@
 use Rattle.std.proofs.Common.{◌≡◌, ℕ, ◌<◌, [], ◌∷◌, length, get_or}
-use Rattle.branch_tree.specs.Trees.{Leaf, root_box}
-use Rattle.branch_tree.specs.Validity.{CertLeafHolds}
+use Rattle.certificate_tree.specs.Trees.{Leaf, root_box}
+use Rattle.certificate_tree.specs.Validity.{CertLeafHolds}
 use Rattle.certificate_check.proofs.FlatLemmas.{flat_leaves}
 use Rattle.certificate_check.proofs.StepLemmas.{IsAt}
 use Rattle.certificate_check.proofs.checking.verdict_of.Given as goal

@@ -4,7 +4,7 @@ use Rattle.plan_desk.specs.Written.Way.{writing}
 use Rattle.plan_desk.proofs.Written.{put, respelled}
 use Rattle.lagrange_bound.specs.Prices.{PriceList}
 use Rattle.certificate_lines.specs.declared.line.CertificateLine.{CertificateLine}
-use Rattle.branch_tree.specs.declared.node.Node.{Node}
+use Rattle.certificate_tree.specs.declared.node.Node.{Node}
 use Rattle.certificate_text.specs.Text.{list_lines, text_of_lines, tree_lines}
 use Rattle.certificate_text.specs.Steps.{header_lines}
 use Rattle.certificate_text.proofs.WriteLemmas.{lines_cut, lines_last}

@@ -2,7 +2,7 @@ use Rattle.std.proofs.Common.{rules, ◌∙◌, [], ◌∷◌, ◌+◌, ◌++◌
 use Rattle.plan_desk.specs.Written.Way.{writing}
 use Rattle.plan_desk.proofs.Written.{begins}
 use Rattle.certificate_lines.specs.declared.line.CertificateLine.{CertificateLine}
-use Rattle.branch_tree.specs.declared.node.Node.TheVariants.{Split}
+use Rattle.certificate_tree.specs.declared.node.Node.TheVariants.{Split}
 use Rattle.certificate_text.specs.Text.{node_line}
 use Rattle.certificate_text.proofs.WriteLemmas.{step_on, step_stops, map_step, map_rest}
 use Rattle.certificate_text.proofs.write.write_nodes.Goals as goal

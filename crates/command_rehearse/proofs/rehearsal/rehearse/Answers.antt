@@ -4,7 +4,7 @@ use Rattle.instance_model.specs.declared.key.Key.{Key}
 use Rattle.instance_model.specs.Rules.{IsFeasible}
 use Rattle.plan_moves.specs.declared.change.Change.{Change}
 use Rattle.plan_moves.specs.KeptPlans.{KeptPlans, present}
-use Rattle.branch_tree.specs.declared.node.Node.{Node}
+use Rattle.certificate_tree.specs.declared.node.Node.{Node}
 use Rattle.descent_ends.specs.Ends.{end_of}
 use Rattle.descent_ends.specs.Turns.{split_count}
 use Rattle.descent_ends.proofs.EndLemmas.{end_is, instance_is, is_trail, present_feasible}

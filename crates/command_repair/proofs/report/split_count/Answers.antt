@@ -1,5 +1,5 @@
 use Rattle.std.proofs.Common.{arith}
-use Rattle.branch_tree.specs.declared.node.Node.TheVariants.{Split}
+use Rattle.certificate_tree.specs.declared.node.Node.TheVariants.{Split}
 use Rattle.descent_ends.proofs.SplitLemmas.{split_more}
 use Rattle.command_repair.proofs.report.split_count.Goals as goal
 

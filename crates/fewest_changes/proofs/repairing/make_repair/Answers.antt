@@ -1,5 +1,5 @@
 use Rattle.std.proofs.Common.{List, Option, ℕ, subst}
-use Rattle.branch_tree.specs.Laws.{ValidBoundsPlans}
+use Rattle.certificate_tree.specs.Laws.{ValidBoundsPlans}
 use Rattle.plan_changes.specs.Changes.{change_base, change_value}
 use Rattle.fewest_changes.proofs.IncumbentLemmas.{given_plan}
 use Rattle.fewest_changes.proofs.MadeLemmas.{found_for, is_made}

@@ -2,7 +2,7 @@ use Rattle.std.proofs.Common.{◌≡◌, ◌*◌, ◌≤◌, unsigned_abs}
 use Rattle.fixed_num.specs.Sums.{sum_below}
 use Rattle.lagrange_bound.specs.Prices.{zero_list}
 use Rattle.lagrange_bound.specs.Goals.{risk_base}
-use Rattle.branch_tree.specs.Loads.{greatest_over}
+use Rattle.certificate_tree.specs.Loads.{greatest_over}
 use Rattle.price_ladder.specs.Raised.{root_starts}
 use Rattle.price_ladder.proofs.least_gain.greatest_total.Given as goal
 

@@ -2,9 +2,9 @@ use Rattle.std.proofs.Common.{◌≡◌, ◌∙◌, sym, ap, subst, arith, List}
 use Rattle.fixed_num.proofs.SignedLemmas.{back_from_abs}
 use Rattle.lagrange_bound.specs.declared.span.Span.{Span}
 use Rattle.lagrange_bound.specs.Tabulated.{IsPricedBox, worth_in}
-use Rattle.branch_tree.specs.Trees.{root_box}
-use Rattle.branch_tree.specs.Walk.{first_box}
-use Rattle.branch_tree.proofs.RootLemmas.{root_is_box}
+use Rattle.certificate_tree.specs.Trees.{root_box}
+use Rattle.certificate_tree.specs.Walk.{first_box}
+use Rattle.certificate_tree.proofs.RootLemmas.{root_is_box}
 use Rattle.price_ladder.proofs.GainLemmas.{root_has_starts}
 use Rattle.worked_ladders.proofs.bound.root_worth.Goals as goal
 

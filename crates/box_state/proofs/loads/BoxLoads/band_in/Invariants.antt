@@ -1,6 +1,6 @@
 use Rattle.std.proofs.Common.{ℕ, ◌<◌, ◌≤◌}
 use Rattle.certificate_lines.specs.declared.line.Side.{Side}
-use Rattle.branch_tree.specs.Holding.{IsOffLimit}
+use Rattle.certificate_tree.specs.Holding.{IsOffLimit}
 use Rattle.box_state.proofs.loads.BoxLoads.band_in.Given as goal
 
 abbrev pub invariant-loop-c : goal.invariant-loop-c

@@ -1,7 +1,7 @@
 use Rattle.std.proofs.Common.{◌≡◌, ℕ, ◌<◌, ◌≤◌, ◌⊎◌, inl, inr, sym, subst, arith}
 use Rattle.std.proofs.Math.Nat.{eq-or-lt_of_le}
 use Rattle.certificate_lines.specs.declared.line.Side.{Side}
-use Rattle.branch_tree.specs.Holding.{IsOffLimit}
+use Rattle.certificate_tree.specs.Holding.{IsOffLimit}
 use Rattle.box_state.proofs.loads.BoxLoads.band_off.Goals as goal
 
 pub loop-t-preserved : goal.loop-t-preserved

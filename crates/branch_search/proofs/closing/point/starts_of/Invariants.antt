@@ -1,5 +1,5 @@
 use Rattle.std.proofs.Common.{◌≡◌, take}
-use Rattle.branch_tree.specs.Holding.{first_starts}
+use Rattle.certificate_tree.specs.Holding.{first_starts}
 use Rattle.branch_search.proofs.closing.point.starts_of.Given as goal
 
 abbrev pub invariant-loop-span : goal.invariant-loop-span

@@ -1,5 +1,5 @@
 use Rattle.std.proofs.Common.{◌∙◌, sym, subst}
-use Rattle.branch_tree.specs.Trees.{AreStartsIn}
+use Rattle.certificate_tree.specs.Trees.{AreStartsIn}
 use Rattle.branch_search.proofs.SettleLemmas.{first_starts_in}
 use Rattle.branch_search.proofs.closing.point.take_point.Goals as goal
 

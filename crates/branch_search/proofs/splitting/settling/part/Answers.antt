@@ -1,5 +1,5 @@
 use Rattle.std.proofs.Common.{rules}
-use Rattle.branch_tree.specs.Trees.{IsSplit}
+use Rattle.certificate_tree.specs.Trees.{IsSplit}
 use Rattle.branch_search.specs.Tasks.{free_task}
 use Rattle.branch_search.specs.Valued.{plan_in}
 use Rattle.branch_search.proofs.LeafLemmas.{parts_after}

@@ -1,7 +1,7 @@
 use Rattle.std.proofs.Common.{◌∙◌, sym, subst, arith, Option, IfSome, IfNone}
 use Rattle.fixed_num.proofs.SignedLemmas.{back_from_abs}
 use Rattle.std.proofs.lemmas.Bool.{false≢true}
-use Rattle.branch_tree.specs.declared.node.Node.{Node}
+use Rattle.certificate_tree.specs.declared.node.Node.{Node}
 use Rattle.branch_search.specs.Boxes.{IsUnrefuted}
 use Rattle.branch_search.specs.Refuting.{IsRefuting}
 use Rattle.branch_search.specs.Tasks.{free_task}

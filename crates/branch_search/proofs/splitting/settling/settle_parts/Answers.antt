@@ -1,7 +1,7 @@
 use Rattle.std.proofs.Common.{◌≡◌, ◌∙◌, ap, subst, set, List, ◌+◌}
 use Rattle.lagrange_bound.specs.declared.span.Span.{Span}
 use Rattle.lagrange_bound.specs.Boxes.{span_of}
-use Rattle.branch_tree.specs.Trees.{below, above}
+use Rattle.certificate_tree.specs.Trees.{below, above}
 use Rattle.branch_search.specs.Tasks.{free_task}
 use Rattle.branch_search.specs.Valued.{plan_in}
 use Rattle.branch_search.specs.Settled.{IsLeafOf, IsImprovedIn}

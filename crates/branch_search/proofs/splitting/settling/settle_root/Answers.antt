@@ -1,8 +1,8 @@
 use Rattle.std.proofs.Common.{◌∙◌, ap, sym, subst, List}
 use Rattle.lagrange_bound.specs.declared.span.Span.{Span}
 use Rattle.lagrange_bound.specs.Boxes.{IsBox}
-use Rattle.branch_tree.specs.Walk.{first_box}
-use Rattle.branch_tree.proofs.RootLemmas.{root_is_box}
+use Rattle.certificate_tree.specs.Walk.{first_box}
+use Rattle.certificate_tree.proofs.RootLemmas.{root_is_box}
 use Rattle.branch_search.specs.Tasks.{free_task}
 use Rattle.branch_search.specs.Settled.{IsLeafOf, IsImprovedIn}
 use Rattle.branch_search.specs.Valued.{plan_in}

@@ -2,7 +2,7 @@ use Rattle.std.proofs.Common.{◌∙◌, ap, sym, subst, refl, arith, List, leng
 use Rattle.std.specs.Prelude.{option_map}
 use Rattle.lagrange_bound.specs.declared.span.Span.{Span}
 use Rattle.lagrange_bound.specs.Boxes.{IsBox}
-use Rattle.branch_tree.specs.Holding.{IsSingle}
+use Rattle.certificate_tree.specs.Holding.{IsSingle}
 use Rattle.branch_search.specs.declared.tree.cell.Cell.{Cell}
 use Rattle.branch_search.specs.Boxes.{IsUnrefuted}
 use Rattle.branch_search.specs.Tasks.{task_of, free_task}

@@ -1,5 +1,0 @@
-use Rattle.branch_tree.proofs.OneTree.{nodes_are_one_tree as law}
-use Rattle.branch_tree.proofs.laws.nodes_are_one_tree.Goals as goal
-
-pub returns : goal.returns
-returns c = law

@@ -1,5 +1,0 @@
-use Rattle.branch_tree.proofs.RootLemmas.{parts_are_boxes as law}
-use Rattle.branch_tree.proofs.laws.parts_are_boxes.Goals as goal
-
-pub returns : goal.returns
-returns c = law

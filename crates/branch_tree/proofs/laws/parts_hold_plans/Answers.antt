@@ -1,5 +1,0 @@
-use Rattle.branch_tree.proofs.RootLemmas.{parts_hold_plans as law}
-use Rattle.branch_tree.proofs.laws.parts_hold_plans.Goals as goal
-
-pub returns : goal.returns
-returns c = law

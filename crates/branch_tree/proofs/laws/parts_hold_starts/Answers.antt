@@ -1,5 +1,0 @@
-use Rattle.branch_tree.proofs.LeafLemmas.{parts_hold_starts as law}
-use Rattle.branch_tree.proofs.laws.parts_hold_starts.Goals as goal
-
-pub returns : goal.returns
-returns c = law

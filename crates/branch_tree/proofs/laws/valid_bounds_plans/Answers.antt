@@ -1,6 +1,0 @@
-use Rattle.branch_tree.proofs.Soundness.{valid_bounds_plans as law}
-use Rattle.branch_tree.proofs.laws.valid_bounds_plans.Goals as goal
-
-pub returns : goal.returns
-returns g c =
-    law (g.G.Goal.base_gives c.args.goal.now) (g.G.Goal.value_gives c.args.goal.now) c.worth_bounds_plans.ensures

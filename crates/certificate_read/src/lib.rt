@@ -1,0 +1,30 @@
+//! Certificates read from their texts.
+//!
+//! `certificate_text` is the one text of a certificate, and `HasCertFault` says which fault a text has that is none.
+#![tactic(auto)]
+
+mod entry;
+mod fault;
+mod fits;
+mod header;
+mod key;
+mod laws;
+mod lines;
+mod lists;
+mod node;
+mod nodes;
+mod read;
+mod refusal;
+
+pub use certificate_text::{
+    entries_grow, lead_to_certificates, lines_are_cut_one_way, texts_lead, texts_tell,
+    write_certificate, zeros_have_no_entry,
+};
+pub use certificate_tree::{
+    Bound, BoxPath, Certificate, Node, Nodes, PriceLists, Side, Version, band_holds, excl_holds,
+    has_start, has_starts, nodes_are_one_tree, parts_are_boxes, parts_hold_plans,
+    valid_bounds_plans,
+};
+pub use fault::CertFault;
+pub use laws::texts_are_told;
+pub use read::read_certificate;
