@@ -1,4 +1,4 @@
--- `check` accepts each valid certificate whose text is short.
+-- `check` accepts each valid certificate whose text is within the limit of certificate files.
 use Rattle.std.proofs.Common.{◌≡◌, ℕ, refl, None}
 use Rattle.instance_model.specs.declared.limits.Limits.{Limits}
 use Rattle.instance_model.specs.Tables.{Tables}
@@ -17,10 +17,10 @@ use Rattle.command_answers.specs.Check.{IsAccepted}
 use Rattle.command_answers.specs.Check.Checks.{accepted}
 use Rattle.command_answers.proofs.BoundLemmas.{bounds_every}
 use Rattle.command_answers.proofs.TextLemmas.{spells}
-use Rattle.command_answers.specs.Accepting.{IsShortValid, ShortValidIsAcceptable}
+use Rattle.command_answers.specs.Accepting.{IsValidWithin, ValidWithinIsAcceptable}
 
 module _ (limits : Limits) (inst : Tables) (fit : IsFitting inst) (cert : Certificate)
-    (good : IsShortValid limits inst cert) where
+    (good : IsValidWithin limits inst cert) where
   none_fails : NodesAreOneTree → (n : ℕ) → IsFirstFailing risk_base risk_value inst cert n → ⊥
   none_fails law n first = never (one_verdict law risk_base risk_value inst cert Valid (LeafFails n) good.valid first)
     where
@@ -38,10 +38,10 @@ module _ (limits : Limits) (inst : Tables) (fit : IsFitting inst) (cert : Certif
   }
 
 pub acceptable : (inst : Tables) → IsFitting inst → CostIsJustAboveScore inst → NodesAreOneTree → TextsTell
-    → ValidBoundsPlans risk_base risk_value → ShortValidIsAcceptable inst
+    → ValidBoundsPlans risk_base risk_value → ValidWithinIsAcceptable inst
 acceptable inst fit costs one tell law limits cert good =
     let all = is_accepted limits inst fit cert good costs one law in
-    let text = spells limits inst fit cert good.in_range good.short tell in
+    let text = spells limits inst fit cert good.in_range good.within tell in
     record {
       checkable = record {
         in_range = good.in_range;

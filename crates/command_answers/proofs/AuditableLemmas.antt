@@ -1,5 +1,5 @@
 -- `audit` accepts each valid certificate whose text is short.
-use Rattle.std.proofs.Common.{◌≡◌, ℕ, List, Option, refl}
+use Rattle.std.proofs.Common.{◌≡◌, ℕ, List, Option, refl, arith}
 use Rattle.instance_model.specs.Limits.{standard_limits}
 use Rattle.instance_model.specs.Tables.{Tables}
 use Rattle.instance_model.specs.Fitting.{IsFitting}
@@ -38,9 +38,10 @@ pub auditable : (inst : Tables) (old : List (Option ℕ)) → IsFitting inst →
     → ValidBoundsPlans (change_base old) (change_value old) → BoundsCountChanges → ShortValidIsAuditable inst old
 auditable inst old fit one tell law counts cert good =
     let all = is_audited inst fit old cert good one law counts in
-    let text = spells standard_limits inst fit cert good.in_range good.short tell in
+    let text = spells standard_limits inst fit cert good.in_range (omega (arith, good.short)) tell in
     record {
       in_range = good.in_range;
       accepted = stands (certificate_text inst cert) cert _ refl text (accepted all);
       bounds = all.bounds;
+      short = good.short;
     }

@@ -1,5 +1,5 @@
 -- Certificates that `check` without a plan accepts, and those that `audit` does.
-use Rattle.std.specs.Prelude.{ℕ, ◌≤◌, List, length, Option, None}
+use Rattle.std.specs.Prelude.{ℕ, ◌<◌, ◌≤◌, List, length, Option, None}
 use Rattle.instance_model.specs.declared.limits.Limits.{Limits}
 use Rattle.instance_model.specs.Limits.{standard_limits}
 use Rattle.instance_model.specs.Tables.{Tables}
@@ -24,11 +24,16 @@ pub record IsCheckable (limits : Limits) (inst : Tables) (cert : Certificate) : 
       (reply 0 (accepted_report inst cert.bound None))
   pub bounds : BoundsEveryPlan inst cert.bound
 
--- a valid certificate whose text is within the limit of certificate files
-pub record IsShortValid (limits : Limits) (inst : Tables) (cert : Certificate) : Type 0 where
+-- the same of a certificate whose text is shorter than the limit of certificate files
+pub record IsShortCheckable (limits : Limits) (inst : Tables) (cert : Certificate) : Type 0 where
+  pub checkable : IsCheckable limits inst cert
+  pub short : length (certificate_text inst cert) < limits.certificate_bytes
+
+-- a valid certificate whose text is within that limit, so that it may be read
+pub record IsValidWithin (limits : Limits) (inst : Tables) (cert : Certificate) : Type 0 where
   pub in_range : IsInRange inst cert
   pub valid : IsValid risk_base risk_value inst cert
-  pub short : length (certificate_text inst cert) ≤ limits.certificate_bytes
+  pub within : length (certificate_text inst cert) ≤ limits.certificate_bytes
 
 -- `check` without a plan accepts a certificate and its text
 pub record IsAcceptable (limits : Limits) (inst : Tables) (cert : Certificate) : Type 0 where
@@ -36,25 +41,26 @@ pub record IsAcceptable (limits : Limits) (inst : Tables) (cert : Certificate) :
   pub accepted : IsAccepted inst None cert
 
 -- it does so for each of those
-abbrev pub ShortValidIsAcceptable : Tables → Type 0
-ShortValidIsAcceptable inst =
-    (limits : Limits) (cert : Certificate) → IsShortValid limits inst cert → IsAcceptable limits inst cert
+abbrev pub ValidWithinIsAcceptable : Tables → Type 0
+ValidWithinIsAcceptable inst =
+    (limits : Limits) (cert : Certificate) → IsValidWithin limits inst cert → IsAcceptable limits inst cert
 
 -- ---- `audit`
 
--- `audit` accepts the text of the certificate for this instance and plan; the certificate is in range, and its bound
--- holds for every plan
+-- `audit` accepts the text of the certificate for this instance and plan, and it is shorter than the limit of
+-- certificate files; the certificate is in range, and its bound holds for every plan
 pub record IsAuditable (limits : Limits) (inst : Tables) (old : List (Option ℕ)) (cert : Certificate) : Type 0 where
   pub in_range : IsInRange inst cert
   pub accepted : OnCertificate limits inst by_bytes 4 (certificate_text inst cert) (Audits inst old)
       (reply 0 (audited_report inst cert.bound))
   pub bounds : BoundsEveryRepair inst old cert.bound
+  pub short : length (certificate_text inst cert) < limits.certificate_bytes
 
--- a valid certificate whose text is within the limit of certificate files
+-- a valid certificate whose text is shorter than the limit of certificate files
 pub record IsShortValidFor (inst : Tables) (old : List (Option ℕ)) (cert : Certificate) : Type 0 where
   pub in_range : IsInRange inst cert
   pub valid : IsValidFor inst old cert
-  pub short : length (certificate_text inst cert) ≤ standard_limits.certificate_bytes
+  pub short : length (certificate_text inst cert) < standard_limits.certificate_bytes
 
 -- `audit` accepts each of those and its text
 abbrev pub ShortValidIsAuditable : Tables → List (Option ℕ) → Type 0

@@ -1,5 +1,5 @@
 //! Which certificates `check` and `audit` accept. The functions do nothing: each contract is the law.
-ghost use Rattle.command_answers.specs.Accepting.{ShortValidIsAcceptable, ShortValidIsAuditable};
+ghost use Rattle.command_answers.specs.Accepting.{ValidWithinIsAcceptable, ShortValidIsAuditable};
 
 use certificate_read::{nodes_are_one_tree, texts_tell, valid_bounds_plans};
 use instance_model::Instance;
@@ -9,7 +9,7 @@ use plan_changes::{ChangeGoal, bounds_count_changes};
 /// `check` without a plan accepts each valid certificate of this instance whose text is within the limit of certificate
 /// files.
 pub fn valid_is_accepted(inst: &Instance)
-    ensures { ShortValidIsAcceptable inst.now }
+    ensures { ValidWithinIsAcceptable inst.now }
 {
     inst.fits();
     inst.cost_is_just_above_score();
@@ -18,7 +18,7 @@ pub fn valid_is_accepted(inst: &Instance)
     valid_bounds_plans(&RiskGoal);
 }
 
-/// `audit` accepts each valid certificate of this instance and these old starts whose text is within the limit of
+/// `audit` accepts each valid certificate of this instance and these old starts whose text is shorter than the limit of
 /// certificate files.
 pub fn valid_is_audited(inst: &Instance, goal: &ChangeGoal)
     ensures { ShortValidIsAuditable inst.now goal.now }

@@ -66,7 +66,7 @@ module _ (limits : Limits) (inst : Tables) (cert : Certificate) (out : List ℕ)
     is = is.is;
     valid = is.valid;
     checkable = (is.acceptable limits made.rebounded.cert
-        (record { in_range = is.in_range; valid = is.valid; short = within })).checkable;
+        (record { in_range = is.in_range; valid = is.valid; within = within })).checkable;
     no_lower = is.no_lower;
     within = within;
   })

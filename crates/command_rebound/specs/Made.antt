@@ -16,7 +16,7 @@ use Rattle.command_frame.specs.Ending.{Answer}
 use Rattle.command_frame.specs.Files.{ReadsInstance, ReadsCertificate}
 use Rattle.command_frame.specs.Refusals.{SaysOrFails}
 use Rattle.command_frame.specs.Writing.{TellsAnswer}
-use Rattle.command_answers.specs.Accepting.{ShortValidIsAcceptable}
+use Rattle.command_answers.specs.Accepting.{ValidWithinIsAcceptable}
 use Rattle.command_rebound.specs.declared.making.Made.{Made}
 use Rattle.command_rebound.specs.Rebinding.{rebound_report, Rebinds}
 
@@ -33,7 +33,7 @@ pub record IsMade (inst : Tables) (cert : Certificate) (made : Made) : Type 0 wh
   pub in_range : IsInRange inst made.rebounded.cert
   pub valid : IsValid risk_base risk_value inst made.rebounded.cert
   pub no_lower : IsValid risk_base risk_value inst cert → IsNoLower cert.bound made.rebounded.cert.bound
-  pub acceptable : ShortValidIsAcceptable inst
+  pub acceptable : ValidWithinIsAcceptable inst
   pub text : made.report ≡ rebound_report inst made.rebounded
 
 -- an answer to an instance and a certificate was told, or memory ran out before the file was opened

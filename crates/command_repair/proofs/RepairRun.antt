@@ -188,6 +188,7 @@ module _ (limits : Limits) (source : Source) (name : List ℕ) (files : RepairFi
         repaired = is;
         readable = readable;
         bounds = subst (BoundsEveryRepair read.inst read.plan) is.bound_is good.bounds;
+        short = good.short;
         cert_held = held.0;
         out_held = held.1;
         accepted = audits read.inst read.plan read.reads.bytes read.reads_plan.bytes cert (Least bound) read.reads.such
@@ -202,6 +203,7 @@ module _ (limits : Limits) (source : Source) (name : List ℕ) (files : RepairFi
         made = made;
         nothing = is;
         bounds = subst (BoundsEveryRepair read.inst read.plan) is.bound_is good.bounds;
+        short = good.short;
         cert_held = one_held (cert_write read.inst files cert).file writes;
         accepted = audits read.inst read.plan read.reads.bytes read.reads_plan.bytes cert (Least bound) read.reads.such
             read.reads_plan.such good is.bound_is;
@@ -213,6 +215,7 @@ module _ (limits : Limits) (source : Source) (name : List ℕ) (files : RepairFi
         cert = cert;
         bound_is = is;
         no_plan = good.bounds.none is;
+        short = good.short;
         made = inl made;
         cert_held = one_held (cert_write read.inst files cert).file writes;
         accepted = audits read.inst read.plan read.reads.bytes read.reads_plan.bytes cert NoPlan read.reads.such
@@ -225,6 +228,7 @@ module _ (limits : Limits) (source : Source) (name : List ℕ) (files : RepairFi
         cert = empty_certificate i;
         bound_is = refl;
         no_plan = good.bounds.none refl;
+        short = good.short;
         made = inr (i, without, refl);
         cert_held = one_held (cert_write read.inst files (empty_certificate i)).file writes;
         accepted = audits read.inst read.plan read.reads.bytes read.reads_plan.bytes (empty_certificate i) NoPlan

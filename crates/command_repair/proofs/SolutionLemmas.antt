@@ -83,10 +83,10 @@ module _ (inst : Tables) (old : List (Option ℕ)) (turns : ℕ) (few : turns �
       (All-nil (λ (list : PriceList). length list.ex ≤ 400))
 
   pub short_valid : TextsFitFiles → IsShortValidFor inst old cert
-  short_valid short = record {
+  short_valid texts = record {
     in_range = is.in_range;
     valid = is.valid;
-    short = short inst cert fit is.in_range lists_few ex_few (omega (arith, is.nodes, few));
+    short = texts inst cert fit is.in_range lists_few ex_few (omega (arith, is.nodes, few));
   }
 
   pub can_report : CanReport plan cert.bound

@@ -2,7 +2,7 @@
 --
 -- `old` and `new` are what the desk shows before and after a run. Values, worths and bounds are 10^18 for each change
 -- from the plan that was read, and worths are by the list of zeros.
-use Rattle.std.specs.Prelude.{◌≡◌, ◌≢◌, ◌⊎◌, ℕ, ℤ, List, [], ◌∷◌, ◌++◌, length, map, Option, Some, None, codes}
+use Rattle.std.specs.Prelude.{◌≡◌, ◌≢◌, ◌⊎◌, ℕ, ◌<◌, ℤ, List, [], ◌∷◌, ◌++◌, length, map, Option, Some, None, codes}
 use Rattle.plan_desk.specs.Desk.{Shown}
 use Rattle.plan_desk.specs.Contents.{TellsSuch, HoldsBytes, Says}
 use Rattle.instance_model.specs.declared.limits.Limits.{Limits}
@@ -148,6 +148,7 @@ pub record ReportsRepaired (limits : Limits) (source : Source) (plan_name : List
   pub repaired : IsRepaired read.inst read.plan turns plan bound cert
   pub readable : IsReadable limits read.inst plan
   pub bounds : BoundsEveryRepair read.inst read.plan (Least bound)
+  pub short : length (certificate_text read.inst cert) < limits.certificate_bytes
   pub cert_held : HoldsBytes new files.cert (certificate_text read.inst cert)
   pub out_held : HoldsBytes new files.out (plan_text read.inst.names plan)
   pub accepted : AnswersAudit limits by_bytes source.slack read.reads.bytes read.reads_plan.bytes
@@ -163,6 +164,7 @@ pub record ReportsNothing (limits : Limits) (source : Source) (plan_name : List 
   pub made : IsRepairOf read.inst read.plan turns None cert
   pub nothing : IsNothing read.inst read.plan turns bound cert made
   pub bounds : BoundsEveryRepair read.inst read.plan (Least bound)
+  pub short : length (certificate_text read.inst cert) < limits.certificate_bytes
   pub cert_held : HoldsBytes new files.cert (certificate_text read.inst cert)
   pub accepted : AnswersAudit limits by_bytes source.slack read.reads.bytes read.reads_plan.bytes
       (certificate_text read.inst cert) (reply 0 (audited_report read.inst (Least bound)))
@@ -176,6 +178,7 @@ pub record ReportsNone (limits : Limits) (source : Source) (plan_name : List ℕ
   pub cert : Certificate
   pub bound_is : cert.bound ≡ NoPlan
   pub no_plan : (starts : List ℕ) → AreKeptStarts read.inst starts → ⊥
+  pub short : length (certificate_text read.inst cert) < limits.certificate_bytes
   pub made : IsRepairOf read.inst read.plan turns None cert
       ⊎ ((i : ℕ) × IsWithoutStart read.inst i × (cert ≡ empty_certificate i))
   pub cert_held : HoldsBytes new files.cert (certificate_text read.inst cert)

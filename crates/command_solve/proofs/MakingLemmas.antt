@@ -1,15 +1,17 @@
 -- What a descent, a price list and a search made.
-use Rattle.std.proofs.Common.{◌≡◌, ℕ, ◌+◌, ◌*◌, ◌≤◌, sym, ap, subst, arith, ◌≤ℤ◌, List, [], length}
+use Rattle.std.proofs.Common.{◌≡◌, ℕ, ◌+◌, ◌*◌, ◌<◌, ◌≤◌, sym, ap, subst, arith, ◌≤ℤ◌, List, [], length}
 use Rattle.std.proofs.Common.{Option, Some, All, false}
 use Rattle.std.proofs.lemmas.List.Elements.{All-nil, All-cons}
+use Rattle.instance_model.specs.Limits.{standard_limits}
 use Rattle.instance_model.specs.Tables.{Tables}
 use Rattle.instance_model.specs.Fitting.{IsFitting}
 use Rattle.instance_model.specs.Keys.{IsOpening}
 use Rattle.lagrange_bound.specs.Prices.{PriceList, IsPriceList}
 use Rattle.lagrange_bound.specs.Goals.{risk_base, risk_value}
-use Rattle.lagrange_bound.specs.Worth.{WorthBoundsPlans}
+use Rattle.lagrange_bound.specs.Worth.{price_total, WorthBoundsPlans}
 use Rattle.certificate_tree.specs.Ranges.{IsInRange}
 use Rattle.certificate_tree.specs.Validity.{IsValid}
+use Rattle.certificate_text.specs.Text.{certificate_text}
 use Rattle.certificate_text.specs.Laws.{TextsFitFiles}
 use Rattle.price_ladder.specs.Raised.{IsRaised, root_worth, least_total}
 use Rattle.branch_search.specs.declared.tree_end.TreeEnd.{TreeEnd}
@@ -26,6 +28,7 @@ pub record AreRaised (inst : Tables) (starts : List ℕ) (prices : PriceList) : 
   pub in_range : IsPriceList inst prices
   pub raised : IsRaised inst starts prices
   pub not_below_zeros : least_total inst ≤ℤ root_worth inst prices
+  pub small : price_total prices ≤ 40_000_000_000
   pub few_exclusions : length prices.ex ≤ 400
 
 -- what `search` says of its answer
@@ -52,8 +55,11 @@ module _ (inst : Tables) (fit : IsFitting inst) (turns : ℕ) (few : turns ≤ 1
       (All-cons (λ (list : PriceList). length list.ex ≤ 400) prices [] raised.few_exclusions
       (All-nil (λ (list : PriceList). length list.ex ≤ 400)))
 
+  is_short : TextsFitFiles → length (certificate_text inst answer.cert) < standard_limits.certificate_bytes
+  is_short texts = texts inst answer.cert fit made.in_range lists_few ex_few (omega (arith, made.nodes, few))
+
   pub is_made : WorthBoundsPlans risk_base risk_value → TextsFitFiles → IsMade inst turns descended.moves answer
-  is_made law short = record {
+  is_made law texts = record {
     solved = record {
       opening = opening;
       trail = record { opens = opens; descent = end.descent };
@@ -61,6 +67,8 @@ module _ (inst : Tables) (fit : IsFitting inst) (turns : ℕ) (few : turns ≤ 1
       priced = record {
         raised = subst (λ (plan : List ℕ). IsRaised inst plan prices) end.end raised.raised;
         not_below_zeros = raised.not_below_zeros;
+        small = raised.small;
+        few_exclusions = raised.few_exclusions;
       };
       given = given;
       is_given = subst (λ (plan : List ℕ). IsGiven inst plan given) end.end is_given;
@@ -71,8 +79,9 @@ module _ (inst : Tables) (fit : IsFitting inst) (turns : ℕ) (few : turns ≤ 1
     cert = record {
       in_range = made.in_range;
       valid = made.valid;
-      short = short inst answer.cert fit made.in_range lists_few ex_few (omega (arith, made.nodes, few));
+      within = omega (arith, is_short texts);
     };
+    short = is_short texts;
     changes_are = record {
       known = known_changes inst opening descended.moves end.descent.lower;
       small = small_changes inst opening descended.moves fit end.descent.lower;

@@ -1,5 +1,5 @@
 -- What was made of an instance is an answer to it.
-use Rattle.std.proofs.Common.{◌≡◌, ℕ, ◌≤◌, refl, sym, subst, arith, ℤ, pos, ◌-ℤ◌, List, [], ◌∷◌}
+use Rattle.std.proofs.Common.{◌≡◌, ℕ, ◌<◌, ◌≤◌, refl, sym, subst, arith, ℤ, pos, ◌-ℤ◌, List, [], ◌∷◌}
 use Rattle.std.proofs.Common.{length, map, Option, Some, None}
 use Rattle.std.specs.Prelude.{IfSome}
 use Rattle.fixed_num.proofs.SignedLemmas.{signed_arith}
@@ -21,6 +21,7 @@ use Rattle.certificate_tree.specs.declared.certificate.Certificate.{Certificate}
 use Rattle.certificate_tree.specs.Trees.{leaf, root_box}
 use Rattle.certificate_tree.specs.Ranges.{HasPricesOf, IsInRange}
 use Rattle.certificate_tree.specs.Validity.{CertLeafHolds}
+use Rattle.certificate_text.specs.Text.{certificate_text}
 use Rattle.certificate_text.specs.Laws.{TextsFitFiles}
 use Rattle.branch_search.specs.declared.tree_end.TreeEnd.{TreeEnd}
 use Rattle.command_frame.specs.declared.report.Report.{Report}
@@ -29,7 +30,7 @@ use Rattle.command_answers.proofs.BoundLemmas.{best_plan}
 use Rattle.descent_ends.specs.Openings.{IsWithoutStart, empty_certificate}
 use Rattle.command_solve.specs.Solving.{SolveFiles, none_report, cert_write, trail_write, IsReplayable, IsFound, Solves}
 use Rattle.command_solve.specs.Solving.Solves.{found, nothing, none, no_start}
-use Rattle.command_answers.specs.Accepting.{IsShortValid, IsAcceptable}
+use Rattle.command_answers.specs.Accepting.{IsShortCheckable, IsValidWithin, IsAcceptable}
 use Rattle.command_solve.specs.Made.{AreWritable, IsMade, CanReport, IsReportOf}
 use Rattle.command_solve.specs.Made.{plan_writes, IsSolution}
 use Rattle.command_frame.specs.Writing.{IsWritablePlan}
@@ -106,6 +107,9 @@ module _ (inst : Tables) (turns : ℕ) (changes : List Change) (answer : TreeEnd
               (nothing_between (score_of inst (map Some plan)) b e);
         }
 
+    checkable : IsShortCheckable standard_limits inst answer.cert
+    checkable = record { checkable = good.checkable; short = made.short }
+
     module _ (files : SolveFiles) (report : Report) where
       solves_at : (best : Option (List ℕ)) (bound : Bound) → answer.best ≡ best → answer.cert.bound ≡ bound
           → IsReportOf inst best bound answer.cert changes report
@@ -116,7 +120,7 @@ module _ (inst : Tables) (turns : ℕ) (changes : List Change) (answer : TreeEnd
           })
       solves_at (Some plan) (Least b) is bound_is r =
           spoken inst files turns _ 0 _ report r.status_is r.text_is
-          (found changes answer plan b solved (is_found plan b is bound_is) good.checkable
+          (found changes answer plan b solved (is_found plan b is bound_is) checkable
           (replayable inst changes fit made.changes_are)
           (evaluable inst plan fit
           (best_feasible inst solved.prices solved.given turns answer solved.searched plan is) r.encloses))
@@ -124,11 +128,11 @@ module _ (inst : Tables) (turns : ℕ) (changes : List Change) (answer : TreeEnd
       solves_at None (Least b) is bound_is r =
           spoken inst files turns _ 9 _ report r.status_is r.text_is
           (nothing changes answer b solved
-          (is_nothing inst turns changes answer b solved made.enough is bound_is) good.checkable
+          (is_nothing inst turns changes answer b solved made.enough is bound_is) checkable
           (replayable inst changes fit made.changes_are))
       solves_at None NoPlan is bound_is r =
           spoken inst files turns _ 10 _ report r.status_is r.text_is
-          (none changes answer solved (record { best = is; bound_is = bound_is }) good.checkable
+          (none changes answer solved (record { best = is; bound_is = bound_is }) checkable
           (replayable inst changes fit made.changes_are))
 
     pub is_solution : (report : Report) → IsReportOf inst answer.best answer.cert.bound answer.cert changes report
@@ -159,7 +163,13 @@ module _ (inst : Tables) (i : ℕ) (without : IsWithoutStart inst i) where
     tree = (leaf (Empty i), record { order = refl; in_range = without.number });
   }
 
-  pub empty_is_good : TextsFitFiles → IsFitting inst → IsShortValid standard_limits inst (empty_certificate i)
+  pub empty_is_short : TextsFitFiles → IsFitting inst
+      → length (certificate_text inst (empty_certificate i)) < standard_limits.certificate_bytes
+  empty_is_short law fit =
+      law inst (empty_certificate i) fit empty_in_range (omega arith)
+      (All-nil (λ (prices : PriceList). length prices.ex ≤ 400)) (omega arith)
+
+  pub empty_is_good : TextsFitFiles → IsFitting inst → IsValidWithin standard_limits inst (empty_certificate i)
   empty_is_good law fit = record {
     in_range = empty_in_range;
     valid = record {
@@ -169,8 +179,7 @@ module _ (inst : Tables) (i : ℕ) (without : IsWithoutStart inst i) where
           (record { box = root_box inst; node = Empty i }) [] (λ s start. without.none s start.allowed)
           (All-nil (CertLeafHolds risk_base risk_value inst (empty_certificate i)));
     };
-    short = law inst (empty_certificate i) fit empty_in_range (omega arith)
-        (All-nil (λ (prices : PriceList). length prices.ex ≤ 400)) (omega arith);
+    within = omega (arith, empty_is_short law fit);
   }
 
   no_changes : AreWritable inst []
@@ -179,7 +188,7 @@ module _ (inst : Tables) (i : ℕ) (without : IsWithoutStart inst i) where
     small = All-nil HasSmallStart;
   }
 
-  pub no_start_solution : IsAcceptable standard_limits inst (empty_certificate i) → (cert : Certificate)
+  pub no_start_solution : IsShortCheckable standard_limits inst (empty_certificate i) → (cert : Certificate)
       (changes : List Change) (text : List ℕ) → cert ≡ empty_certificate i → changes ≡ [] → text ≡ none_report inst
       cert changes
       → (turns : ℕ) → IsSolution inst turns (record {
@@ -202,4 +211,4 @@ module _ (inst : Tables) (i : ℕ) (without : IsWithoutStart inst i) where
         text = text;
         writes = cert_write inst files cert ∷ trail_write inst files changes ∷ [];
       })
-      at files = rw (said, is, none_made) (no_start i without good.checkable)
+      at files = rw (said, is, none_made) (no_start i without good)

@@ -38,7 +38,7 @@ use Rattle.command_frame.proofs.HoldLemmas.{IsNoneOf, named_output, named_after,
 use Rattle.command_frame.proofs.HoldLemmas.{others_stopped}
 use Rattle.command_frame.proofs.OutputLemmas.{same_holding}
 use Rattle.command_answers.specs.Check.{IsKeptPlan, BoundsEveryPlan, AnswersCheck}
-use Rattle.command_answers.specs.Accepting.{IsCheckable}
+use Rattle.command_answers.specs.Accepting.{IsShortCheckable}
 use Rattle.descent_ends.specs.Turns.{AreEnough}
 use Rattle.descent_ends.specs.Openings.{IsWithoutStart, empty_certificate}
 use Rattle.command_solve.specs.Solving.{SolveFiles, AreDistinct, cert_write, trail_write, plan_write}
@@ -163,18 +163,18 @@ module _ (limits : Limits) (source : Source) (files : SolveFiles) (turns : ℕ) 
   -- `check` with the same instance and slack accepts the certificate
   checks : (inst : Tables) (bytes : List ℕ) (cert : Certificate) (bound : Bound)
       → TakesOne limits source.slack bytes inst
-      → IsCheckable limits inst cert → cert.bound ≡ bound
+      → IsShortCheckable limits inst cert → cert.bound ≡ bound
       → AnswersCheck limits by_bytes source.slack bytes None (certificate_text inst cert)
       (reply 0 (accepted_report inst bound None))
   checks inst bytes cert bound takes checkable is =
       subst (λ (b : Bound). AnswersCheck limits by_bytes source.slack bytes None (certificate_text inst cert)
       (reply 0 (accepted_report inst b None))) is
-      (stands bytes inst (reply 0 (accepted_report inst cert.bound None)) refl takes checkable.accepted)
+      (stands bytes inst (reply 0 (accepted_report inst cert.bound None)) refl takes checkable.checkable.accepted)
 
   -- no plan keeps the rules where the bound is none
-  no_kept : (inst : Tables) (cert : Certificate) → IsCheckable limits inst cert → cert.bound ≡ NoPlan
+  no_kept : (inst : Tables) (cert : Certificate) → IsShortCheckable limits inst cert → cert.bound ≡ NoPlan
       → (plan : List (Option ℕ)) → IsKeptPlan inst plan → ⊥
-  no_kept inst cert checkable is = checkable.bounds.none is
+  no_kept inst cert checkable is = checkable.checkable.bounds.none is
 
   solved_behind : (inst : Tables) (a : Answer) → ReadsInstance limits source old inst
       → Solves limits inst files turns a → new.output ≡ (after_writes (files_of a.writes) old).output
@@ -193,7 +193,8 @@ module _ (limits : Limits) (source : Source) (files : SolveFiles) (turns : ℕ) 
         solved = solved;
         found = is_found;
         keeps = evaluable.keeps;
-        bounds = subst (BoundsEveryPlan inst) is_found.bound_is checkable.bounds;
+        bounds = subst (BoundsEveryPlan inst) is_found.bound_is checkable.checkable.bounds;
+        short = checkable.short;
         cert_held = held.0;
         trail_held = held.1;
         plan_held = held.2;
@@ -213,7 +214,8 @@ module _ (limits : Limits) (source : Source) (files : SolveFiles) (turns : ℕ) 
         bound = bound;
         solved = solved;
         nothing = is_nothing;
-        bounds = subst (BoundsEveryPlan inst) is_nothing.bound_is checkable.bounds;
+        bounds = subst (BoundsEveryPlan inst) is_nothing.bound_is checkable.checkable.bounds;
+        short = checkable.short;
         cert_held = held.0;
         trail_held = held.1;
         accepted = checks inst reads.bytes answer.cert (Least bound) reads.such checkable is_nothing.bound_is;
@@ -230,6 +232,7 @@ module _ (limits : Limits) (source : Source) (files : SolveFiles) (turns : ℕ) 
         changes = changes;
         bound_is = is_none.bound_is;
         no_plan = no_kept inst answer.cert checkable is_none.bound_is;
+        short = checkable.short;
         cert_held = held.0;
         trail_held = held.1;
         accepted = checks inst reads.bytes answer.cert NoPlan reads.such checkable is_none.bound_is;
@@ -246,6 +249,7 @@ module _ (limits : Limits) (source : Source) (files : SolveFiles) (turns : ℕ) 
         changes = [];
         bound_is = refl;
         no_plan = no_kept inst (empty_certificate i) checkable refl;
+        short = checkable.short;
         cert_held = held.0;
         trail_held = held.1;
         accepted = checks inst reads.bytes (empty_certificate i) NoPlan reads.such checkable refl;

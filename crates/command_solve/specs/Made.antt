@@ -12,6 +12,7 @@ use Rattle.certificate_lines.specs.declared.line.Bound.{Bound}
 use Rattle.certificate_lines.specs.declared.line.Bound.TheVariants.{NoPlan, Least}
 use Rattle.certificate_tree.specs.declared.certificate.Certificate.{Certificate}
 use Rattle.certificate_tree.specs.Ranges.{IsInRange}
+use Rattle.certificate_text.specs.Text.{certificate_text}
 use Rattle.branch_search.specs.declared.tree_end.TreeEnd.{TreeEnd}
 use Rattle.branch_search.specs.Best.{IsFeasiblePlan}
 use Rattle.command_frame.specs.declared.report.Report.{Report}
@@ -21,7 +22,7 @@ use Rattle.command_frame.specs.Ending.{Writing, Answer}
 use Rattle.command_frame.specs.Refusals.{IsReport, SaysOrFails}
 use Rattle.command_frame.specs.Writing.{IsWritablePlan, TellsAnswer}
 use Rattle.command_answers.specs.Evaluate.{EnclosesEveryReading}
-use Rattle.command_answers.specs.Accepting.{IsShortValid}
+use Rattle.command_answers.specs.Accepting.{IsValidWithin}
 use Rattle.command_solve.specs.declared.solution.Solution.{Solution}
 use Rattle.command_solve.specs.declared.solve.SolveFiles.{SolveFiles as SolveNames}
 use Rattle.descent_ends.specs.Turns.{AreEnough}
@@ -40,7 +41,8 @@ pub record AreWritable (inst : Tables) (changes : List Change) : Type 0 where
 pub record IsMade (inst : Tables) (turns : ℕ) (changes : List Change) (answer : TreeEnd) : Type 0 where
   pub solved : IsSolved inst turns changes answer
   pub enough : AreEnough inst turns → answer.unfinished ≡ false
-  pub cert : IsShortValid standard_limits inst answer.cert
+  pub cert : IsValidWithin standard_limits inst answer.cert
+  pub short : length (certificate_text inst answer.cert) < standard_limits.certificate_bytes
   pub changes_are : AreWritable inst changes
 
 -- ---- the report

@@ -7,6 +7,7 @@ use Rattle.instance_model.specs.Rules.{IsFeasible}
 use Rattle.plan_moves.specs.declared.change.Change.{Change}
 use Rattle.lagrange_bound.specs.Prices.{PriceList}
 use Rattle.lagrange_bound.specs.Goals.{risk_base, risk_value}
+use Rattle.lagrange_bound.specs.Worth.{price_total}
 use Rattle.certificate_lines.specs.declared.line.Bound.TheVariants.{NoPlan, Least}
 use Rattle.certificate_tree.specs.Trees.{leaves, root_box}
 use Rattle.price_ladder.specs.Raised.{IsRaised, root_worth, least_total}
@@ -17,10 +18,13 @@ use Rattle.descent_ends.specs.Turns.{split_count, AreEnough}
 
 -- ---- the price list
 
--- the price list of the certificate: it is raised for a plan, and its worth is at least that of zeros
+-- The price list of the certificate: it is raised for a plan, and its worth is at least that of zeros. Its numbers add
+-- up to at most 4 * 10^10, and it has at most 400 prices of exclusions.
 pub record IsPriced (inst : Tables) (end : List ℕ) (prices : PriceList) : Type 0 where
   pub raised : IsRaised inst end prices
   pub not_below_zeros : least_total inst ≤ℤ root_worth inst prices
+  pub small : price_total prices ≤ 40_000_000_000
+  pub few_exclusions : length prices.ex ≤ 400
 
 -- ---- the search
 

@@ -1,8 +1,8 @@
 -- The command `solve`: the answers to an instance, what stands behind each, and what a run promises.
 --
 -- `old` and `new` are what the desk shows before and after a run. Worths, scores and bounds are in parts of 10^-18.
-use Rattle.std.specs.Prelude.{◌≡◌, ◌≢◌, ◌⊎◌, ℕ, ℤ, ◌-ℤ◌, ◌<ℤ◌, List, [], ◌∷◌, ◌++◌, length, map, Option, Some, None}
-use Rattle.std.specs.Prelude.{codes}
+use Rattle.std.specs.Prelude.{◌≡◌, ◌≢◌, ◌⊎◌, ℕ, ◌<◌, ℤ, ◌-ℤ◌, ◌<ℤ◌, List, [], ◌∷◌, ◌++◌, length, map, Option, Some}
+use Rattle.std.specs.Prelude.{None, codes}
 use Rattle.plan_desk.specs.Desk.{Shown}
 use Rattle.plan_desk.specs.Contents.{TellsSuch, HoldsBytes, Says}
 use Rattle.instance_model.specs.declared.limits.Limits.{Limits}
@@ -30,7 +30,7 @@ use Rattle.command_frame.specs.Files.{SaysUnread, SaysRefusal, TellsMissing, Tel
 use Rattle.command_frame.specs.Outputs.{holding, OpensSearched}
 use Rattle.command_answers.specs.Evaluate.{Judges, AnswersEvaluate}
 use Rattle.command_answers.specs.Check.{IsKeptPlan, BoundsEveryPlan, IsBest, AnswersCheck}
-use Rattle.command_answers.specs.Accepting.{IsCheckable}
+use Rattle.command_answers.specs.Accepting.{IsShortCheckable}
 use Rattle.descent_ends.specs.Openings.{IsWithoutStart, empty_certificate}
 use Rattle.descent_ends.specs.Turns.{split_count, AreEnough}
 use Rattle.command_solve.specs.Solved.{IsSolved, IsNothing, IsNone}
@@ -117,7 +117,7 @@ pub record IsFound (inst : Tables) (turns : ℕ) (answer : TreeEnd) (plan : List
 -- to an instance: what is written, and what is said
 pub data Solves (limits : Limits) (inst : Tables) (files : SolveFiles) (turns : ℕ) : Answer → Type 0 where
   found : (changes : List Change) (answer : TreeEnd) (plan : List ℕ) (bound : ℤ) → IsSolved inst turns changes answer
-      → IsFound inst turns answer plan bound → IsCheckable limits inst answer.cert → IsReplayable inst changes
+      → IsFound inst turns answer plan bound → IsShortCheckable limits inst answer.cert → IsReplayable inst changes
       → IsEvaluable limits inst plan
       → Solves limits inst files turns (record {
         status = 0;
@@ -125,7 +125,7 @@ pub data Solves (limits : Limits) (inst : Tables) (files : SolveFiles) (turns : 
         writes = cert_write inst files answer.cert ∷ trail_write inst files changes ∷ plan_write inst files plan ∷ [];
       })
   nothing : (changes : List Change) (answer : TreeEnd) (bound : ℤ) (solved : IsSolved inst turns changes answer)
-      → IsNothing inst turns changes answer bound solved → IsCheckable limits inst answer.cert
+      → IsNothing inst turns changes answer bound solved → IsShortCheckable limits inst answer.cert
       → IsReplayable inst changes
       → Solves limits inst files turns (record {
         status = 9;
@@ -133,13 +133,13 @@ pub data Solves (limits : Limits) (inst : Tables) (files : SolveFiles) (turns : 
         writes = cert_write inst files answer.cert ∷ trail_write inst files changes ∷ [];
       })
   none : (changes : List Change) (answer : TreeEnd) → IsSolved inst turns changes answer → IsNone answer
-      → IsCheckable limits inst answer.cert → IsReplayable inst changes
+      → IsShortCheckable limits inst answer.cert → IsReplayable inst changes
       → Solves limits inst files turns (record {
         status = 10;
         text = none_report inst answer.cert changes;
         writes = cert_write inst files answer.cert ∷ trail_write inst files changes ∷ [];
       })
-  no_start : (i : ℕ) → IsWithoutStart inst i → IsCheckable limits inst (empty_certificate i)
+  no_start : (i : ℕ) → IsWithoutStart inst i → IsShortCheckable limits inst (empty_certificate i)
       → Solves limits inst files turns (record {
         status = 10;
         text = none_report inst (empty_certificate i) [];
@@ -159,7 +159,8 @@ DueSolve limits source files turns old at =
 -- ---- what stands behind each status
 
 -- 0: the instance file was read, a plan, a certificate and a trail were written, and the report was said. `check` with
--- the same instance and slack accepts the certificate, and `evaluate` finds the plan feasible.
+-- the same instance and slack accepts the certificate, which is shorter than the limit of certificate files, and
+-- `evaluate` finds the plan feasible.
 pub record ReportsFound (limits : Limits) (source : Source) (files : SolveFiles) (turns : ℕ) (old new : Shown)
     : Type 0 where
   pub inst : Tables
@@ -172,6 +173,7 @@ pub record ReportsFound (limits : Limits) (source : Source) (files : SolveFiles)
   pub found : IsFound inst turns answer plan bound
   pub keeps : KeepsRules inst (map Some plan)
   pub bounds : BoundsEveryPlan inst (Least bound)
+  pub short : length (certificate_text inst answer.cert) < limits.certificate_bytes
   pub cert_held : HoldsBytes new files.cert (certificate_text inst answer.cert)
   pub trail_held : HoldsBytes new files.trail (moves_text inst.names changes)
   pub plan_held : HoldsBytes new files.plan (plan_text inst.names plan)
@@ -194,6 +196,7 @@ pub record ReportsNothing (limits : Limits) (source : Source) (files : SolveFile
   pub solved : IsSolved inst turns changes answer
   pub nothing : IsNothing inst turns changes answer bound solved
   pub bounds : BoundsEveryPlan inst (Least bound)
+  pub short : length (certificate_text inst answer.cert) < limits.certificate_bytes
   pub cert_held : HoldsBytes new files.cert (certificate_text inst answer.cert)
   pub trail_held : HoldsBytes new files.trail (moves_text inst.names changes)
   pub accepted : AnswersCheck limits by_bytes source.slack reads.bytes None (certificate_text inst answer.cert)
@@ -211,6 +214,7 @@ pub record ReportsNone (limits : Limits) (source : Source) (files : SolveFiles) 
   pub changes : List Change
   pub bound_is : cert.bound ≡ NoPlan
   pub no_plan : (plan : List (Option ℕ)) → IsKeptPlan inst plan → ⊥
+  pub short : length (certificate_text inst cert) < limits.certificate_bytes
   pub cert_held : HoldsBytes new files.cert (certificate_text inst cert)
   pub trail_held : HoldsBytes new files.trail (moves_text inst.names changes)
   pub accepted : AnswersCheck limits by_bytes source.slack reads.bytes None (certificate_text inst cert)

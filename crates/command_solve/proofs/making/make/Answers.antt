@@ -17,6 +17,7 @@ returns g c =
       in_range = p.in_range;
       raised = subst (λ (plan : List ℕ). IsRaised inst plan prices) c.as_slice.ensures p.raised;
       not_below_zeros = p.not_below_zeros;
+      small = p.small;
       few_exclusions = p.few_exclusions;
     })
     (option_map (λ starts. starts.now) c.given_end.result) c.given_end.ensures.given c.in_ok-answer.answer
