@@ -1,0 +1,170 @@
+"""The steps of tools/reading_list: the sentences of README on what is proved, and the clauses that say each of them.
+
+The contract of the top call is the statement: that of `run` for planner_cli, that of `run_repair` for plan_repair. A
+sentence is said by some of its clauses, and these by some cases and fields of what they cite; a step names these, and
+leaves the rest to later steps. `main` makes the top call, over the device of `plan_desk/src/real.rt`, of which no
+contract can say what the system did; that is a step too.
+"""
+
+
+class Step:
+    """A sentence: its title and words, where its reading begins, and what it reads in part.
+
+    `starts` are files below crates/, each with names in it, or without any for the whole file. `parts` says of a file
+    which definitions of it are read in part, and of each which fields, cases or members: none for its type alone. What
+    a step leaves out a later one has to read.
+    """
+
+    def __init__(self, title, says, starts, parts=None):
+        self.title = title
+        self.says = says
+        self.starts = starts
+        self.parts = {(path, name): kept for path, names in (parts or {}).items() for name, kept in names.items()}
+
+
+PROGRAMS = ["planner_cli", "plan_repair"]
+
+RUN = ("planner_cli/src/run.rt", ["run"])
+WORDS = "planner_cli/specs/Words.antt"
+OUTCOME = "planner_cli/specs/Outcome.antt"
+ENDING = "command_frame/specs/Ending.antt"
+BYTES = "command_frame/specs/Bytes.antt"
+DESK = "plan_desk/src/desk.rt"
+EVALUATING = "command_evaluate/specs/Evaluating.antt"
+CHECKING = "command_check/specs/Checking.antt"
+SOLVING = "command_solve/specs/Solving.antt"
+
+
+STEPS = [
+    Step(
+        "What `evaluate` answers",
+        "For every instance within the stated sizes `evaluate` answers feasible (0) exactly when the rules hold, with"
+        " values that enclose the weighted mean and excess risk, else it names the first broken rule (1); unless memory"
+        " is refused (11) or reading (7) or writing (8) failed. That words of `evaluate` ask for it is `evaluates` of"
+        " `IsOneCommand`, a clause of `command_of` in `planner_cli/src/words.rt`, so the other parsers needn't be read.",
+        [RUN, (WORDS, ["evaluate_of", "IsOneCommand"])],
+        {
+            OUTCOME: {"Outcome": ["evaluates"]},
+            WORDS: {"Command": [], "command_of": [], "IsOneCommand": ["evaluates"]},
+            ENDING: {"Behind": ["of_command"], "Answer": []},
+            DESK: {"Desk": ["shows"]},
+            EVALUATING: {
+                "RunsEvaluate": ["behind", "allowed"],
+                "BehindEvaluate": ["feasible", "infeasible"],
+                "ExpectsEvaluate": ["kept_plan", "broken_plan"],
+                "DueEvaluate": [],
+            },
+        },
+    ),
+    Step(
+        "What an accepted certificate says",
+        "Whenever `check` accepts a certificate (0), no plan that keeps the rules scores below its bound.",
+        [(OUTCOME, ["Outcome"]), (WORDS, ["check_of", "IsOneCommand"])],
+        {
+            OUTCOME: {"Outcome": ["checks"]},
+            WORDS: {"Command": [], "command_of": [], "IsOneCommand": ["checks"]},
+            ENDING: {"Behind": ["of_command"], "Answer": []},
+            BYTES: {"SpellsOne": ["spells"]},
+            CHECKING: {
+                "RunsCheck": ["behind"],
+                "BehindCheck": ["accepted"],
+                "ReportsAccepted": ["files", "bounds", "says"],
+                "DueCheck": [],
+            },
+        },
+    ),
+    Step(
+        "What `solve` writes",
+        "`solve` writes only plans that keep the rules (0; with 9 and 10 none is written), and its certificates are"
+        " always accepted by `check`: of the bytes that the certificate's file holds the relation of `check` says so"
+        " (`accepted`), which is that of its clauses `exact` and `one`, and may be left unread.",
+        [(OUTCOME, ["Outcome"]), (WORDS, ["solve_of", "IsOneCommand"]), (CHECKING, ["RunsCheck"])],
+        {
+            OUTCOME: {"Outcome": ["solves"]},
+            WORDS: {"Command": [], "command_of": [], "IsOneCommand": ["solves"]},
+            ENDING: {"Behind": ["of_command"]},
+            CHECKING: {"RunsCheck": ["exact", "one"], "AnswersCheck": []},
+            SOLVING: {
+                "RunsSolve": ["behind", "no_plan_file"],
+                "BehindSolve": ["found", "nothing", "none"],
+                "ReportsFound": ["inst", "reads", "answer", "plan", "bound", "keeps", "cert_held", "plan_held",
+                                 "accepted"],
+                "ReportsNothing": ["inst", "reads", "answer", "bound", "cert_held", "accepted"],
+                "ReportsNone": ["inst", "reads", "cert", "cert_held", "accepted"],
+                "DueSolve": [],
+            },
+        },
+    ),
+    Step(
+        "What calls `run`, and over what",
+        "`main` calls `run` with the words, over a device that reads real files and says on standard output; what each"
+        " call of a device does is the contract of `Desk`, and `RealDesk` is the one that calls the system.",
+        [("planner_cli/src/main.rt", []), ("plan_desk/src/real.rt", [])],
+    ),
+    Step(
+        "Whatever else `run` says of `evaluate`",
+        "Refusals with their lines, runs that fail, and that the bytes of the files have one answer.",
+        [(EVALUATING, ["RunsEvaluate", "BehindEvaluate", "ExpectsEvaluate", "DueEvaluate"]), (ENDING, ["Behind"])],
+    ),
+    Step(
+        "Whatever else it says of `check`",
+        "When a certificate is valid, so that it is accepted exactly then; which leaf fails; and a plan that is best.",
+        [(CHECKING, ["RunsCheck", "BehindCheck", "ReportsAccepted", "DueCheck", "AnswersCheck"]), (BYTES, ["SpellsOne"])],
+    ),
+    Step(
+        "Whatever else it says of `solve`",
+        "How plan, bound and trail are made: the descent, the price list, the search, with what each promises.",
+        [(SOLVING, ["RunsSolve", "BehindSolve", "ReportsFound", "ReportsNothing", "ReportsNone", "DueSolve"])],
+    ),
+    Step(
+        "`replay`",
+        "`RunsReplay`: [PROVED](PROVED.md#command_replay) says what it promises.",
+        [("command_replay/specs/Replaying.antt", ["RunsReplay"])],
+    ),
+    Step(
+        "`table`",
+        "`RunsTable`: [PROVED](PROVED.md#command_table) says what it promises.",
+        [("command_table/specs/Tabling.antt", ["RunsTable"])],
+    ),
+    Step(
+        "`roll`",
+        "`RunsRoll`: [PROVED](PROVED.md#command_roll) says what it promises.",
+        [("command_roll/specs/Rolling.antt", ["RunsRoll"])],
+    ),
+    Step(
+        "`rebound`",
+        "`RunsRebound`: [PROVED](PROVED.md#command_rebound) says what it promises.",
+        [("command_rebound/specs/Rebinding.antt", ["RunsRebound"])],
+    ),
+    Step(
+        "`rehearse`",
+        "`RunsRehearse`: [PROVED](PROVED.md#command_rehearse) says what it promises.",
+        [("command_rehearse/specs/Rehearsing.antt", ["RunsRehearse"])],
+    ),
+    Step(
+        "All words, and the whole of `run`",
+        "Which words ask for which command, and what is said where they ask for none.",
+        [(OUTCOME, ["Outcome"]), (WORDS, ["Command", "command_of", "IsOneCommand"])],
+    ),
+    Step(
+        "`audit`",
+        "`RunsAudit`: [PROVED](PROVED.md#command_audit) says what it promises.",
+        [("command_audit/specs/Auditing.antt", ["RunsAudit"])],
+    ),
+    Step(
+        "`repair`",
+        "`RunsRepair`: [PROVED](PROVED.md#command_repair) says what it promises.",
+        [("command_repair/specs/Repairing.antt", ["RunsRepair"])],
+    ),
+    Step(
+        "The whole of `run_repair`",
+        "The words of the second program, and what calls `run_repair`.",
+        [("plan_repair/src/run.rt", ["run_repair"]), ("plan_repair/src/main.rt", [])],
+    ),
+    Step(
+        "Completeness",
+        "Where the files are read and no fault rose, a run ends with a status of the command's own, or with 11: laws on"
+        " what `run` and `run_repair` promise.",
+        [("planner_cli/src/laws.rt", ["runs_are_complete"]), ("plan_repair/src/laws.rt", ["repairs_are_complete"])],
+    ),
+]
