@@ -21,6 +21,7 @@ apart a b h e = never (sym ((bytes_eq-Decides a b).1 e) ∙ is_not (bytes_eq a b
 -- a name that is none of some, and the rest of them
 pub differs : (name other : List ℕ) (others : List (List ℕ)) → differs_from_each name (other ∷ others) ≡ true
     → (name ≢ other) × (differs_from_each name others ≡ true)
+unfolding differs_from_each
 differs name other others h =
     let two = both (not (bytes_eq name other)) (differs_from_each name others) h in (apart name other two.0, two.1)
 
@@ -34,6 +35,7 @@ pub record AreFour (a b c d : List ℕ) : Type 0 where
   pub cd : c ≢ d
 
 pub four_apart : (a b c d : List ℕ) → are_apart (a ∷ b ∷ c ∷ d ∷ []) ≡ true → AreFour a b c d
+unfolding are_apart
 four_apart a b c d h =
     let first = both (differs_from_each a (b ∷ c ∷ d ∷ [])) (are_apart (b ∷ c ∷ d ∷ [])) h in
     let second = both (differs_from_each b (c ∷ d ∷ [])) (are_apart (c ∷ d ∷ [])) first.1 in

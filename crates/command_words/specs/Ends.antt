@@ -17,5 +17,5 @@ widened instance (Some slack) =
     if is_file_word instance then Some (record { instance = instance; slack = slack }) else None
 
 -- the instance that a word names, widened by the slack of the words behind all others
-abbrev pub source_of : (instance : List ℕ) → (end : List (List ℕ)) → Option Source
+unfoldable pub source_of : (instance : List ℕ) → (end : List (List ℕ)) → Option Source
 source_of instance end = widened instance (end_slack end)

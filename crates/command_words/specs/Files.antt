@@ -6,16 +6,16 @@ abbrev pub is_file_word : List ℕ → Bool
 is_file_word word = nat_lt 0 (length word)
 
 -- each of them is a file word
-abbrev pub are_file_words : List (List ℕ) → Bool
+unfoldable pub are_file_words : List (List ℕ) → Bool
 are_file_words [] = true
 are_file_words (word ∷ words) = is_file_word word && are_file_words words
 
 -- a name is none of these others
-abbrev pub differs_from_each : List ℕ → List (List ℕ) → Bool
+unfoldable pub differs_from_each : List ℕ → List (List ℕ) → Bool
 differs_from_each name [] = true
 differs_from_each name (other ∷ others) = not (bytes_eq name other) && differs_from_each name others
 
 -- no two of these names are the same
-abbrev pub are_apart : List (List ℕ) → Bool
+unfoldable pub are_apart : List (List ℕ) → Bool
 are_apart [] = true
 are_apart (name ∷ others) = differs_from_each name others && are_apart others

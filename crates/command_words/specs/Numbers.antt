@@ -39,7 +39,7 @@ abbrev pub is_numeral : List ℕ → Bool
 is_numeral word = is_numeral_within 7 word
 
 -- turns: such a numeral, at most 1,000,000
-abbrev pub turns_of : List ℕ → Option ℕ
+unfoldable pub turns_of : List ℕ → Option ℕ
 turns_of word = if is_numeral word && nat_le (number_of word) 1_000_000 then Some (number_of word) else None
 
 -- a period: such a numeral, from 1 to 512
@@ -53,7 +53,7 @@ span (Some from) (Some to) = if nat_le from to then Some (from, to) else None
 span from to = None
 
 -- the periods of two words
-abbrev pub span_of : (from to : List ℕ) → Option (ℕ × ℕ)
+unfoldable pub span_of : (from to : List ℕ) → Option (ℕ × ℕ)
 span_of from to = span (period_of from) (period_of to)
 
 -- the number that an instance is drawn from: such a numeral of at most 20 digits, below 2^64

@@ -3,6 +3,7 @@ ghost use Rattle.std.specs.Prelude.{◌≡◌, map};
 ghost use Rattle.command_words.specs.Files.{are_apart, are_file_words, differs_from_each};
 
 /// Whether each of these is a file word.
+#[tactic(auto, unfolding(crate::specs::Files::are_file_words))]
 pub fn are_file_words(words: &[&str]) -> bool
     ensures { result ≡ are_file_words (map (λ word. word.now) words.now) }
 {
@@ -13,6 +14,7 @@ pub fn are_file_words(words: &[&str]) -> bool
 }
 
 /// Whether no two of these names are the same text.
+#[tactic(auto, unfolding(crate::specs::Files::are_apart))]
 pub fn are_apart(names: &[&str]) -> bool
     ensures { result ≡ are_apart (map (λ name. name.now) names.now) }
 {
@@ -23,6 +25,7 @@ pub fn are_apart(names: &[&str]) -> bool
 }
 
 /// Whether a name is none of these others.
+#[tactic(auto, unfolding(crate::specs::Files::differs_from_each))]
 fn differs_from_each(name: &str, others: &[&str]) -> bool
     ensures { result ≡ differs_from_each name.now (map (λ other. other.now) others.now) }
 {

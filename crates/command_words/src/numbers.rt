@@ -56,6 +56,7 @@ fn slack_count(bytes: &[u8]) -> Option<u32>
 }
 
 /// The turns of a word.
+#[tactic(auto, unfolding(crate::specs::Numbers::turns_of))]
 pub fn turns_of(word: &str) -> Option<u32>
     ensures value { result ≡ turns_of word.now }
     ensures small { IfSome result (λ count. count ≤ 1_000_000) }
@@ -83,6 +84,7 @@ pub fn period_of(word: &str) -> Option<u32>
 }
 
 /// The periods of two words, the second of which is not before the first.
+#[tactic(auto, unfolding(crate::specs::Numbers::span_of))]
 pub fn span_of(from: &str, to: &str) -> Option<(u32, u32)>
     ensures value { result ≡ span_of from.now to.now }
     ensures first { IfSome result (λ span. 1 ≤ span.0) }

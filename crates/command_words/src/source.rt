@@ -7,6 +7,7 @@ use crate::numbers::slack_of;
 use command_frame::Source;
 
 /// The instance that a word names, widened by the slack of the words behind all others.
+#[tactic(auto, unfolding(crate::specs::Ends::source_of))]
 pub fn source_of<'a>(instance: &'a str, end: &[String]) -> Option<Source<'a>>
     ensures found { IfSome result
         (λ source. source_of instance.now (map string_bytes end.now) ≡ Some (source_view source)) }
