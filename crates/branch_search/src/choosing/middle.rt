@@ -1,5 +1,5 @@
 //! The middle of an interval of several starts, where a box is split if nothing tells a better place.
-ghost use Rattle.std.specs.Prelude.{◌≡◌, ℕ, ◌<◌, ◌≤◌, length, IfSome, IfNone};
+ghost use Rattle.std.specs.Prelude.{ℕ, ◌<◌, ◌≤◌, length, IfSome, IfNone};
 ghost use Rattle.lagrange_bound.specs.Boxes.{span_of};
 ghost use Rattle.certificate_tree.specs.Trees.{IsSplit};
 ghost use Rattle.certificate_tree.specs.Holding.{IsSingle};
