@@ -1,0 +1,86 @@
+# Checks the words of a call by the tables of words.bash.
+
+# Finds the row of a command, which gives its `program`, its `form` and what it `does`.
+find_command() {
+    local row
+    for ((row = 0; row < ${#commands[@]}; row += 3)); do
+        form=(${commands[row + 1]})
+        if [[ $1 == "${form[0]}" ]]; then
+            program=${commands[row]} does=${commands[row + 2]}
+            return
+        fi
+    done
+    form=()
+    return 1
+}
+
+# Takes the words of a call of the command that was found. Then `given` has them from 1 on, as programs count them,
+# `names` what each one is called, and `reads` and `writes` the numbers of those that name files. Where the words aren't
+# in the grammar, `wrong` says why.
+take_words() {
+    local part word at=2
+    given=("" "$@") names=("" "$1") reads=() writes=() wrong=
+    for part in "${form[@]:1}"; do
+        word=${given[at]-}
+        if [[ $part == '['* ]]; then
+            ((at <= $#)) && is_option "$part" "$word" || continue
+        elif ((at > $#)); then
+            wrong="${part#>} is missing"
+        elif [[ ${forms[$part]-} ]]; then
+            [[ $word =~ ^(${forms[$part]})$ ]] || wrong="$part is ${word@Q}, and not ${ranges[$part]}"
+        elif [[ -z $word ]]; then
+            wrong="${part#>} is an empty word"
+        elif [[ $part == '>'* ]]; then
+            writes+=("$at")
+        elif [[ $part != *'|-' || $word != - ]]; then
+            reads+=("$at")
+        fi
+        [[ -z $wrong ]] || return 1
+        part=${part#>}
+        names+=("${part%|-}")
+        at=$((at + 1))
+    done
+    if ((at <= $#)); then
+        word=${given[at]}
+        wrong="${word@Q} is a word too many"
+        [[ $word != slack=* || ${form[-1]} != '['* ]] || wrong="${word@Q} is no slack, which is from 0 to 0.001"
+        return 1
+    fi
+    fit_together
+}
+
+# Whether a word has the form of an option in brackets.
+is_option() {
+    local row
+    for ((row = 0; row < ${#options[@]}; row += 3)); do
+        [[ $1 == "[${options[row]}]" && $2 =~ ^${options[row + 1]}$ ]] && return
+    done
+    return 1
+}
+
+# Whether words that have their forms each fit together too.
+fit_together() {
+    case ${given[1]} in
+    table) ((given[4] <= given[5])) || wrong="FROM, ${given[4]}, is above TO, ${given[5]}" ;;
+    rehearse) is_below_2_64 "${given[2]}" || wrong="SEED is '${given[2]}', and not ${ranges[SEED]}" ;;
+    esac
+    ((${#writes[@]} == 0)) || differ "${reads[@]}" "${writes[@]}"
+    [[ -z $wrong ]]
+}
+
+# Finds whether the words of some numbers differ from each other.
+differ() {
+    local other
+    while (($# > 1)); do
+        for other in "${@:2}"; do
+            [[ ${given[$1]} != "${given[other]}" ]] ||
+                wrong="${names[$1]} and ${names[other]} are both ${given[other]@Q}, and must differ"
+        done
+        shift
+    done
+}
+
+# Whether a number of at most 20 digits is below 2^64.
+is_below_2_64() {
+    ((${#1} < 20)) || [[ ! $1 > 18446744073709551615 ]]
+}
