@@ -839,7 +839,19 @@ class Judged:
 
     def new_price(self, prices, i, s):
         inst = self.inst
-        total = 0
+        total = self.base(prices, i, s)
+        for t in inst.run(i, s):
+            for c in range(1, len(inst.resources) + 1):
+                total += (prices["up"].get((c, t), 0) - prices["lo"].get((c, t), 0)) * inst.load(i, s, t, c - 1)
+        for (e, t), v in prices["ex"].items():
+            _, one, two, _ = inst.exclusions[e - 1]
+            if t in inst.run(i, s):
+                total += COUNTS * v * ((one == i) + (two == i))
+        return total
+
+    def base(self, prices, i, s):
+        """What a start adds to a plan's value at least, by the tails of a list."""
+        inst, total = self.inst, 0
         for t in inst.run(i, s):
             numbers, n = inst.risks[i, s, t], inst.scenarios[t - 1]
             weight, places = prices["tail"].get(t, (0, [1]))
@@ -847,12 +859,6 @@ class Judged:
             whole = 1000 * inst.alpha * sum(numbers)
             whole += (MILLION - inst.alpha) * weight * (n * least - sum(numbers))
             total += whole // (1000 * n)
-            for c in range(1, len(inst.resources) + 1):
-                total += (prices["up"].get((c, t), 0) - prices["lo"].get((c, t), 0)) * inst.load(i, s, t, c - 1)
-        for (e, t), v in prices["ex"].items():
-            _, one, two, _ = inst.exclusions[e - 1]
-            if t in inst.run(i, s):
-                total += COUNTS * v * ((one == i) + (two == i))
         return total
 
     def starts_in(self, box, i):

@@ -183,7 +183,8 @@ def held_text(path):
 def said_text(words):
     """What the program says. Where it has another status than 0, that is handed on, and what it says as an error."""
     try:
-        ran = subprocess.run(words, stdout=subprocess.PIPE)
+        # (a word may name a pipe that this script was given)
+        ran = subprocess.run(words, stdout=subprocess.PIPE, close_fds=False)
     except OSError as error:
         stop(MISSING, f"{words[0]}: {error.strerror}")
     if ran.returncode:

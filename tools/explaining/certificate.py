@@ -1,6 +1,7 @@
 """Finds what a line says of a certificate in its text."""
 import re
 
+from explaining import leaf as judging
 from explaining.finding import Finding
 from explaining.lines import BLANK, END, Line, line_at, line_given
 from explaining.text import counted, expect, shown
@@ -227,7 +228,22 @@ def leaf(case):
     expect(line is not None and not walk.has_ended, f"{case.text.name} has {leaves}: leaf {number} is past its end")
     expect(walk.fault(line) is None, f"{line}, can't stand there, which is another refusal")
     finding = Finding(line.at).say("the leaf", form_text(case, line)).say("the claim", shown(line_at(case, 2).bytes))
-    return finding.say("its box", walk.box_text()).say("splits above", walk.splits_text())
+    if case.instance is None:
+        return finding.say("its box", walk.box_text()).say("splits above", walk.splits_text())
+    inst = judging.Instance(case.instance, case.slack)
+    finding.say("its box", judging.box_text(inst, walk.box())).say("splits above", walk.splits_text())
+    return finding.say("it fails", why_not(case, walk, line, inst))
+
+
+def why_not(case, walk, line, inst):
+    """Why a leaf doesn't hold for an instance, with the plan that changes are counted from, if one is given."""
+    bound, before = line_at(case, 2).words()[1], case.data[:].partition(b"\ntree\n")[0]
+    claim = None if bound == b"none" else int(bound)
+    lists, box = judging.entries(before.split(b"\n")), judging.box_of(inst, walk.box())
+    why = judging.Leaf(inst, judging.judged_of(inst, case.plan), line.words(), box, claim, lists).why()
+    about = "scores" if case.plan is None else "changes from this plan"
+    expect(why is not None, f"the leaf holds for {case.instance} and {about}: is it the instance of that call?")
+    return why
 
 
 FINDERS = {

@@ -1,10 +1,11 @@
 """Finds what a line says of an instance in its JSON text."""
-from decimal import Decimal, InvalidOperation
+from decimal import ROUND_HALF_UP, Decimal, InvalidOperation
 
 from explaining.finding import Finding
 from explaining.text import Unfit, counted, described, expect, shown
 
 NAME_BYTES = 128
+COUNT, MOST_SLACK = Decimal("0.000000000001"), Decimal("0.001")
 
 
 # ---- lines with an offset
@@ -108,7 +109,18 @@ def shape(case):
     due = case.page.due_at(keys)
     if due is not None:
         finding.say("due here", due if keys == finding.steps else f"an element of {due}")
-    return finding.say("found", found_at(case, finding.at, levels))
+    finding.say("found", found_at(case, finding.at, levels))
+    return nearest_millionth(case, finding) if finding.steps in ([b"Alpha"], [b"Quantile"]) else finding
+
+
+def nearest_millionth(case, finding):
+    """Says which number to write where one has more than 6 decimals."""
+    try:
+        number = Decimal(case.json.value(finding.at).decode())
+    except (InvalidOperation, ValueError):
+        return finding
+    near = number.quantize(Decimal("0.000001"), ROUND_HALF_UP) if 0 <= number <= 1 else None
+    return finding if near is None else finding.say("nearest", f"{near}, of those with 6 decimals")
 
 
 def found_at(case, at, levels):
@@ -289,13 +301,27 @@ def outside(case):
 
 
 def past_horizon(case):
-    instance, start = Instance(case), case.values["START"]
-    steps = [b"Interventions", case.values["NAME"], b"Delta"]
+    instance, start, name = Instance(case), case.values["START"], case.values["NAME"]
+    steps = [b"Interventions", name, b"Delta"]
     at, periods = instance.element(steps, start), instance.periods()
     duration = instance.whole(at)
     what = f"duration {duration}, so that the run ends in period {start + duration - 1}, and T is {periods}"
     expect(start + duration > periods + 1, what)
-    return Finding(at, steps + [start]).say("found", what)
+    finding = Finding(at, steps + [start]).say("found", what)
+    return finding if duration != periods + 1 else finding.say("rolled", left_text(instance, steps, name, start))
+
+
+def left_text(instance, steps, name, start):
+    """What is left of an intervention where `roll` wrote its duration at a start, which is T + 1 then."""
+    periods, last = instance.periods(), instance.whole(instance.at([b"Interventions", name, b"tmax"]))
+    durations = [instance.whole(at) for at in instance.json.elements(instance.at(steps))][:last]
+    left = [s for s, duration in enumerate(durations, 1) if s + duration <= periods + 1]
+    text = "a duration of T + 1 is what `roll` writes for a start that isn't left"
+    if len(left) == 1 and left[0] < start:
+        return f"{text}: {shown(name)} has begun in period {left[0]}, and keeps that start"
+    if left:
+        return f"{text}: the first start that is left is {left[0]}, and earlier ones are past, or the work has begun"
+    return text
 
 
 def over(case):
@@ -309,9 +335,20 @@ def under(case):
 def band(case, key):
     steps, period = [b"Resources", case.values["RESOURCE"], key], case.values["PERIOD"]
     at = Instance(case).element(steps, period)
-    load, widened = shown(case.values["LOAD"]), shown(case.values["LIMIT"])
-    finding = Finding(at, steps + [period])
-    return finding.say("found", f"{shown(case.json.value(at))}, which is {widened} with the slack; the load is {load}")
+    written, load, limit = case.json.value(at), case.values["LOAD"], case.values["LIMIT"]
+    try:
+        kept = Decimal(written.decode()).quantize(COUNT, ROUND_HALF_UP)
+        slack, above = Decimal(limit.decode()) - kept, Decimal(load.decode()) - Decimal(limit.decode())
+    except (InvalidOperation, ValueError):
+        raise Unfit(f"{shown(written)}, {shown(load)} or {shown(limit)} is no number") from None
+    if key == b"min":
+        slack, above = -slack, -above
+    what = f"{path(steps + [period])} of {case.text.name} is {shown(written)}, which no slack makes {shown(limit)}"
+    expect(0 <= slack <= MOST_SLACK, f"{what}: the line is of another instance")
+    expect(above > 0, f"a load of {shown(load)} keeps the limit of {shown(limit)}")
+    widened = f", which slack={slack.normalize():f} makes {shown(limit)}" if slack else ""
+    off = f"{above:f} {'above' if key == b'max' else 'below'} it"
+    return Finding(at, steps + [period]).say("found", f"{shown(written)}{widened}; the load is {shown(load)}, {off}")
 
 
 def clash(case):

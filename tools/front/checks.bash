@@ -43,7 +43,8 @@ take_words() {
     if ((at <= $#)); then
         word=${given[at]}
         wrong="${word@Q} is a word too many"
-        [[ $word != slack=* || ${form[-1]} != '['* ]] || wrong="${word@Q} is no slack, which is from 0 to 0.001"
+        [[ $word != slack=* || ${form[-1]} != '['* ]] ||
+            wrong="${word@Q} is no slack: write it from 0 to 0.001 with at most 12 decimals, as slack=0.00001"
         return 1
     fi
     fit_together

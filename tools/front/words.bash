@@ -54,7 +54,7 @@ declare -gA ranges=(
 )
 # What this script takes for itself.
 own=(
-    'explain FILE REFUSAL'
+    'explain FILE REFUSAL [INSTANCE [PLAN] [slack=D]]'
     'says what a refusal of the file means, and what to change'
     '--unproved COMMAND ..'
     'runs a command without any proof: slow, and needs no build'
@@ -83,12 +83,12 @@ statuses=(
     13 'the system refused to give the words'
     64 'words of this script itself are wrong'
     65 'explain: the line is none that it knows, or the file has not what the line says'
-    66 'a file of the repository is missing; explain: the file cannot be read'
-    67 'a file that would be written is another file of the call, under another name'
+    66 'a file of the repository is missing; explain: a file cannot be read'
+    67 'an output is another file of the call, under another name'
     69 'a tool is missing: rt, python3 or readlink'
     70 'the build failed; --unproved: rt gave no answer; explain: docs/FORMATS.md is missing, or not as it reads it'
     71 'the program was built but cannot be started'
-    72 'a file could not be written: its folder is missing, or may not be written to'
+    72 'an output cannot be written: its folder is missing, or may not be written to'
     73 'a folder of the repository cannot be written or read'
     74 'the disk is full, or what this script itself has to say could not be written'
     128+n 'signal n ended the run'
