@@ -14,6 +14,15 @@ find_command() {
     return 1
 }
 
+# Whether a word is one of this script's own.
+is_own() {
+    local row
+    for ((row = 0; row < ${#own[@]}; row += 2)); do
+        [[ ${own[row]%% *} != "$1" ]] || return 0
+    done
+    return 1
+}
+
 # Takes the words of a call of the command that was found. Then `given` has them from 1 on, as programs count them,
 # `names` what each one is called, and `reads` and `writes` the numbers of those that name files. Where the words aren't
 # in the grammar, `wrong` says why.

@@ -33,7 +33,7 @@ follow() {
 }
 
 # Takes a place apart where nothing is yet: the folder, and the name in it.
-part() {
+split_place() {
     folder=. base=${1##*/}
     [[ $1 != */* ]] || folder=${1%/*}/
 }
@@ -46,7 +46,7 @@ expect_writable() {
         [[ -w $place ]] || fail 72 "$(called "$1") may not be written to: take another name, or change its rights"
         return
     fi
-    part "$place"
+    split_place "$place"
     [[ -d $folder ]] || fail 72 "the folder of $(called "$1") is not there: make it, or take another name"
     [[ -n $base && -w $folder && -x $folder ]] ||
         fail 72 "the folder of $(called "$1") may not be written to: take another one, or change its rights"
@@ -58,9 +58,9 @@ is_one_file() {
     if [[ -e $1 || -e $2 ]]; then
         [[ $1 -ef $2 && ! -c $1 && ! -p $1 && ! -S $1 ]]
     else
-        part "$1"
+        split_place "$1"
         one=$folder
-        [[ $base == "${2##*/}" ]] && part "$2" && [[ $one -ef $folder ]]
+        [[ $base == "${2##*/}" ]] && split_place "$2" && [[ $one -ef $folder ]]
     fi
 }
 

@@ -1,9 +1,9 @@
 # What `planner` does for words of its own: those of the table `own` in words.bash.
 
-# Runs a call whose first word is one of them; returns where it is none.
+# Runs a call whose first word is one of them, and ends.
 run_own() {
     case $1 in
-    -h | --help)
+    --help)
         (($# == 1)) || fail 64 "$1 takes no word more: call it alone"
         use telling.bash
         say_out "$(help)"
@@ -45,6 +45,7 @@ build_only() {
 run_unproved() {
     local at
     (($# > 0)) || fail 64 '--unproved takes a command and its words: see --help'
+    ! is_own "$1" || fail 64 "--unproved takes a command of a program, and ${1@Q} is a word of this script: see --help"
     use files.bash
     use telling.bash
     check_words "$@"
