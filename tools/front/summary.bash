@@ -54,21 +54,29 @@ wait_for() {
 
 # Says what the lines that were `said` come to.
 sum_up() {
-    local line periods gap
+    local line
     local -A value=()
     for line in "${said[@]}"; do
         value[${line%% *}]=${line#* }
     done
     case $1 in
-    repair)
-        gap=$(in_percent "$((value[changed] - value[least]))" "${value[changed]}")
-        printf 'planner: %s starts are changed; no plan that keeps the rules changes fewer than %s: a gap of %s\n' \
-            "${value[changed]}" "${value[least]}" "$gap"
-        return
-        ;;
-    solve) periods=$(periods_of "${value[score]}" "${value[cost]%% *}") ;;
-    check) periods=$(periods_of "${value[bound]}" "${value[bound-cost]-}") ;;
+    repair) sum_up_changes ;;
+    solve) sum_up_costs "$(periods_of "${value[score]}" "${value[cost]%% *}")" ;;
+    check) sum_up_costs "$(periods_of "${value[bound]}" "${value[bound-cost]-}")" ;;
     esac
+}
+
+sum_up_changes() {
+    local gap
+    gap=$(in_percent "$((value[changed] - value[least]))" "${value[changed]}")
+    printf 'planner: %s starts are changed; no plan that keeps the rules changes fewer than %s: a gap of %s\n' \
+        "${value[changed]}" "${value[least]}" "$gap"
+}
+
+# The same of scores, by the number of periods, if it is known; nothing is said where one of them is below 0.
+sum_up_costs() {
+    local periods=$1 gap
+    [[ ${value[bound]}${value[score]-} != *-* ]] || return
     if [[ ${value[bound]} == none ]]; then
         echo 'planner: no plan keeps the rules'
     elif [[ $periods && ${value[score]-} ]] && gap=$(in_percent "${value[gap]}" "${value[score]}"); then
