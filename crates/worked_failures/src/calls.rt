@@ -18,6 +18,9 @@ const KINDS: [DeskCall; 6] = [
 /// More calls of a kind than any of these runs makes.
 const MANY: u32 = 1000;
 
+/// How many later calls fail too.
+const LATER: u32 = 20;
+
 /// Runs a command over a fresh desk, of which the nth call of a kind is to fail if one is given.
 fn ran(
     alloc: Global,
@@ -32,7 +35,22 @@ fn ran(
     Ok(Ran { status, desk })
 }
 
-/// Whether each call of this kind that a run makes, failing alone, leaves what is due.
+/// Runs a command over a fresh desk, of which the nth call of a kind and all later ones are to fail, and each that says
+/// something.
+fn ran_on(alloc: Global, command: Command, call: DeskCall, nth: u32) -> Result<Ran, AllocError> {
+    let mut desk = fresh_desk(alloc)?;
+    for more in 0..LATER {
+        desk.fail_at(call, nth.saturating_add(more))?;
+        if call != DeskCall::Say {
+            desk.fail_at(DeskCall::Say, more + 1)?;
+        }
+    }
+    let status = command.run(alloc, &mut desk);
+    Ok(Ran { status, desk })
+}
+
+/// Whether each call of this kind that a run makes, failing alone, leaves what is due, and no less than where the later
+/// calls fail too: no other call is made after it, but to say the line of the file.
 fn are_told(alloc: Global, command: Command, call: DeskCall) -> Result<bool, AllocError> {
     let clean = ran(alloc, command, None)?;
     for before in 0..MANY {
@@ -46,6 +64,9 @@ fn are_told(alloc: Global, command: Command, call: DeskCall) -> Result<bool, All
             return Ok(are_all(command, call, before as usize));
         }
         if !case.is_due(alloc, call, before as usize)? {
+            return Ok(false);
+        }
+        if !case.is_last(call, &ran_on(alloc, command, call, before + 1)?) {
             return Ok(false);
         }
     }

@@ -41,6 +41,17 @@ impl Case<'_> {
         }
     }
 
+    /// Whether a run in which the later calls fail too left the same files and said the same; where a file couldn't be
+    /// read or written, the line of that can't be said in it.
+    pub fn is_last(&self, call: DeskCall, on: &Ran) -> bool {
+        let same_text = if call == DeskCall::Say {
+            on.status == self.ran.status && on.desk.spoken() == self.ran.desk.spoken()
+        } else {
+            on.status == 8 && on.desk.spoken().is_empty()
+        };
+        same_text && hold_the_same(&on.desk, &self.ran.desk)
+    }
+
     /// Whether the run left just what the one without a failing call did.
     pub fn is_clean(&self) -> bool {
         self.ran.status == self.clean.status
@@ -170,6 +181,16 @@ pub(crate) fn are_all(command: Command, call: DeskCall, count: usize) -> bool {
 fn are_old(desk: &MemDesk) -> bool {
     for (name, text) in FILES {
         if !holds(desk, name, text) {
+            return false;
+        }
+    }
+    true
+}
+
+/// Whether all files are alike.
+fn hold_the_same(a: &MemDesk, b: &MemDesk) -> bool {
+    for (name, _) in FILES {
+        if a.file(name) != b.file(name) {
             return false;
         }
     }
