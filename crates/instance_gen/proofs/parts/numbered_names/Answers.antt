@@ -5,7 +5,7 @@ use Rattle.instance_gen.proofs.parts.numbered_names.Goals as goal
 
 pub loop-k-init : goal.loop-k-init
 unfolding numbered_names
-loop-k-init c = ap (map string_bytes) c.new-names.ensures.empty
+loop-k-init c = ap (map string_bytes) c.new-names.ensures
 
 pub loop-k-preserved : goal.loop-k-preserved
 loop-k-preserved c =
