@@ -26,8 +26,8 @@ use Rattle.command_frame.specs.Files.{ReadsPlan}
 use Rattle.command_frame.specs.Files.OnFile.{unread, refused, stands}
 use Rattle.command_frame.specs.declared.refusal.Refusal.{Refusal}
 use Rattle.command_frame.specs.declared.refusal.Refusal.TheVariants as refusal
-use Rattle.command_frame.specs.Refusals.{CountsRefusal, IsInstanceCause, IsPlanCause, IsScriptCause, IsDueAs}
-use Rattle.command_frame.specs.Refusals.{line_or_memory}
+use Rattle.command_frame.specs.Refusals.{CountsRefusal, IsWithoutFailure, IsInstanceCause, IsPlanCause}
+use Rattle.command_frame.specs.Refusals.{IsScriptCause, IsDueAs, line_or_memory}
 use Rattle.command_frame.proofs.ToldLemmas.{long_held}
 use Rattle.command_frame.proofs.FileLemmas.{on_other, IsRead, before_reading, reads_before}
 
@@ -146,8 +146,23 @@ pub due_within : (Inner Outer : Answer → Type 0) (r : Refusal) → ((a : Answe
 due_within Inner Outer r f (inl memory) = inl memory
 due_within Inner Outer r f (inr due) = inr (f _ due)
 
+-- a refusal that comes without a failure counts none
+pub counts_none : (old new : Shown) (r : Refusal) → IsWithoutFailure r → new.faults ≡ old.faults
+    → CountsRefusal old new r
+counts_none old new (refusal.Unread w) no same = absurd no
+counts_none old new refusal.LongInstance no same = same
+counts_none old new (refusal.Instance fault) no same = same
+counts_none old new refusal.LongPlan no same = same
+counts_none old new (refusal.Plan fault) no same = same
+counts_none old new refusal.LongScript no same = same
+counts_none old new (refusal.Script fault) no same = same
+counts_none old new refusal.LongCertificate no same = same
+counts_none old new (refusal.Certificate fault) no same = same
+counts_none old new refusal.Memory no same = same
+
 -- what failed since earlier files were read failed since before them
-pub kept_before : (old mid new : Shown) (r : Refusal) → mid.faults ≡ old.faults → CountsRefusal mid new r → CountsRefusal old new r
+pub kept_before : (old mid new : Shown) (r : Refusal) → mid.faults ≡ old.faults → CountsRefusal mid new r
+    → CountsRefusal old new r
 kept_before old mid new (refusal.Unread w) same kept = kept ∙ ap (λ f. one_more f.count) same
 kept_before old mid new refusal.LongInstance same kept = kept ∙ same
 kept_before old mid new (refusal.Instance fault) same kept = kept ∙ same

@@ -56,6 +56,11 @@ abbrev pub CountsRefusal : (old new : Shown) → Refusal → Type 0
 CountsRefusal old new (Unread word) = new.faults.count ≡ one_more old.faults.count
 CountsRefusal old new _ = new.faults ≡ old.faults
 
+-- it comes without a call that failed
+abbrev pub IsWithoutFailure : Refusal → Type 0
+IsWithoutFailure (Unread word) = ⊥
+IsWithoutFailure _ = ⊤
+
 -- why the bytes of the file of this name, which is this word of the command line, are not read: a desk failed, there
 -- are more than `most`, or memory ran out
 pub data IsReadCause (name : List ℕ) (word most : ℕ) (long : Refusal) (old new : Shown) : Refusal → Type 0 where

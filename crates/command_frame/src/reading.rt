@@ -8,8 +8,8 @@ ghost use Rattle.plan_desk.specs.Contents.{OnlyReads};
 ghost use Rattle.command_frame.specs.Sources.{source_view};
 ghost use Rattle.command_frame.specs.Files.{ReadsBytes, ReadsInstance, ReadsPlan, ReadsScript, ReadsGiven};
 ghost use Rattle.command_frame.specs.Files.{ReadsCertificate};
-ghost use Rattle.command_frame.specs.Refusals.{CountsRefusal, IsReadCause, IsInstanceCause, IsPlanCause, IsScriptCause};
-ghost use Rattle.command_frame.specs.Refusals.{IsGivenCause, IsCertificateCause, AfterGiven};
+ghost use Rattle.command_frame.specs.Refusals.{CountsRefusal, IsWithoutFailure, IsReadCause, IsInstanceCause};
+ghost use Rattle.command_frame.specs.Refusals.{IsPlanCause, IsScriptCause, IsGivenCause, IsCertificateCause, AfterGiven};
 
 use crate::refusal::Refusal;
 use crate::source::Source;
@@ -52,7 +52,7 @@ pub fn instance_of<D: Desk>(
 }
 
 /// The bytes of the file of this name, which is this word of the command line. `long` refuses it where it has more than
-/// `most`.
+/// `most`, which is no failure of a call.
 fn bytes_of<D: Desk>(
     alloc: Global,
     name: &str,
@@ -61,6 +61,7 @@ fn bytes_of<D: Desk>(
     long: Refusal,
     desk: &mut D,
 ) -> Result<Bytes, Refusal>
+    requires { IsWithoutFailure long }
     ensures bytes { IfOk result (ReadsBytes name.now (D.shows desk.old)) }
     ensures within { IfOk result (λ bytes. length bytes ≤ most) }
     ensures err { IfErr result (IsReadCause name.now word most long (D.shows desk.old) (D.shows desk.new)) }
