@@ -149,16 +149,16 @@ due_within Inner Outer r f (inr due) = inr (f _ due)
 -- a refusal that comes without a failure counts none
 pub counts_none : (old new : Shown) (r : Refusal) → IsWithoutFailure r → new.faults ≡ old.faults
     → CountsRefusal old new r
-counts_none old new (refusal.Unread w) no same = absurd no
-counts_none old new refusal.LongInstance no same = same
-counts_none old new (refusal.Instance fault) no same = same
-counts_none old new refusal.LongPlan no same = same
-counts_none old new (refusal.Plan fault) no same = same
-counts_none old new refusal.LongScript no same = same
-counts_none old new (refusal.Script fault) no same = same
-counts_none old new refusal.LongCertificate no same = same
-counts_none old new (refusal.Certificate fault) no same = same
-counts_none old new refusal.Memory no same = same
+counts_none old new (refusal.Unread w) without same = absurd without
+counts_none old new refusal.LongInstance without same = same
+counts_none old new (refusal.Instance fault) without same = same
+counts_none old new refusal.LongPlan without same = same
+counts_none old new (refusal.Plan fault) without same = same
+counts_none old new refusal.LongScript without same = same
+counts_none old new (refusal.Script fault) without same = same
+counts_none old new refusal.LongCertificate without same = same
+counts_none old new (refusal.Certificate fault) without same = same
+counts_none old new refusal.Memory without same = same
 
 -- what failed since earlier files were read failed since before them
 pub kept_before : (old mid new : Shown) (r : Refusal) → mid.faults ≡ old.faults → CountsRefusal mid new r
