@@ -32,6 +32,7 @@ BYTES = "command_frame/specs/Bytes.antt"
 DESK = "plan_desk/src/desk.rt"
 EVALUATING = "command_evaluate/specs/Evaluating.antt"
 CHECKING = "command_check/specs/Checking.antt"
+CHECK = "command_answers/specs/Check.antt"
 SOLVING = "command_solve/specs/Solving.antt"
 
 
@@ -41,11 +42,11 @@ STEPS = [
         "For every instance within the stated sizes `evaluate` answers feasible (0) exactly when the rules hold, with"
         " values that enclose the weighted mean and excess risk, else it names the first broken rule (1); unless memory"
         " is refused (11) or reading (7) or writing (8) failed. That words of `evaluate` ask for it is `evaluates` of"
-        " `IsOneCommand`, a clause of `command_of` in `planner_cli/src/words.rt`, so the other parsers needn't be read.",
-        [RUN, (WORDS, ["evaluate_of", "IsOneCommand"])],
+        " `GoesByName`, a law (`commands_go_by_name` in `planner_cli/src/laws.rt`), so no other parser has to be read.",
+        [RUN, (WORDS, ["evaluate_of", "GoesByName"])],
         {
             OUTCOME: {"Outcome": ["evaluates"]},
-            WORDS: {"Command": [], "command_of": [], "IsOneCommand": ["evaluates"]},
+            WORDS: {"Command": [], "command_of": [], "GoesByName": ["evaluates"]},
             ENDING: {"Behind": ["of_command"], "Answer": []},
             DESK: {"Desk": ["shows"]},
             EVALUATING: {
@@ -59,10 +60,10 @@ STEPS = [
     Step(
         "What an accepted certificate says",
         "Whenever `check` accepts a certificate (0), no plan that keeps the rules scores below its bound.",
-        [(OUTCOME, ["Outcome"]), (WORDS, ["check_of", "IsOneCommand"])],
+        [(OUTCOME, ["Outcome"]), (WORDS, ["check_of", "GoesByName"])],
         {
             OUTCOME: {"Outcome": ["checks"]},
-            WORDS: {"Command": [], "command_of": [], "IsOneCommand": ["checks"]},
+            WORDS: {"Command": [], "command_of": [], "GoesByName": ["checks"]},
             ENDING: {"Behind": ["of_command"], "Answer": []},
             BYTES: {"SpellsOne": ["spells"]},
             CHECKING: {
@@ -78,12 +79,13 @@ STEPS = [
         "`solve` writes only plans that keep the rules (0; with 9 and 10 none is written), and its certificates are"
         " always accepted by `check`: of the bytes that the certificate's file holds the relation of `check` says so"
         " (`accepted`), which is that of its clauses `exact` and `one`, and may be left unread.",
-        [(OUTCOME, ["Outcome"]), (WORDS, ["solve_of", "IsOneCommand"]), (CHECKING, ["RunsCheck"])],
+        [(OUTCOME, ["Outcome"]), (WORDS, ["solve_of", "GoesByName"]), (CHECKING, ["RunsCheck"])],
         {
             OUTCOME: {"Outcome": ["solves"]},
-            WORDS: {"Command": [], "command_of": [], "IsOneCommand": ["solves"]},
+            WORDS: {"Command": [], "command_of": [], "GoesByName": ["solves"]},
             ENDING: {"Behind": ["of_command"]},
-            CHECKING: {"RunsCheck": ["exact", "one"], "AnswersCheck": []},
+            CHECKING: {"RunsCheck": ["exact", "one"]},
+            CHECK: {"AnswersCheck": []},
             SOLVING: {
                 "RunsSolve": ["behind", "no_plan_file"],
                 "BehindSolve": ["found", "nothing", "none"],
@@ -109,7 +111,11 @@ STEPS = [
     Step(
         "Whatever else it says of `check`",
         "When a certificate is valid, so that it is accepted exactly then; which leaf fails; and a plan that is best.",
-        [(CHECKING, ["RunsCheck", "BehindCheck", "ReportsAccepted", "DueCheck", "AnswersCheck"]), (BYTES, ["SpellsOne"])],
+        [
+            (CHECKING, ["RunsCheck", "BehindCheck", "ReportsAccepted", "DueCheck"]),
+            (CHECK, ["AnswersCheck"]),
+            (BYTES, ["SpellsOne"]),
+        ],
     ),
     Step(
         "Whatever else it says of `solve`",
@@ -144,7 +150,11 @@ STEPS = [
     Step(
         "All words, and the whole of `run`",
         "Which words ask for which command, and what is said where they ask for none.",
-        [(OUTCOME, ["Outcome"]), (WORDS, ["Command", "command_of", "IsOneCommand"])],
+        [
+            (OUTCOME, ["Outcome"]),
+            (WORDS, ["Command", "command_of", "GoesByName"]),
+            ("planner_cli/src/laws.rt", ["commands_go_by_name"]),
+        ],
     ),
     Step(
         "`audit`",
@@ -159,7 +169,11 @@ STEPS = [
     Step(
         "The whole of `run_repair`",
         "The words of the second program, and what calls `run_repair`.",
-        [("plan_repair/src/run.rt", ["run_repair"]), ("plan_repair/src/main.rt", [])],
+        [
+            ("plan_repair/src/run.rt", ["run_repair"]),
+            ("plan_repair/src/laws.rt", ["commands_go_by_name"]),
+            ("plan_repair/src/main.rt", []),
+        ],
     ),
     Step(
         "Completeness",
