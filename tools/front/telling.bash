@@ -13,7 +13,7 @@ command_rows() {
 
 help() {
     local row
-    echo 'usage: ./planner WORDS, with the words of one line:'
+    echo "usage: $called WORDS, with the words of one line:"
     command_rows
     for ((row = 0; row < ${#own[@]}; row += 2)); do
         show_row "${own[row]}" "${own[row + 1]}"
@@ -37,7 +37,7 @@ refuse_words() {
 }
 
 usage() {
-    printf 'usage: ./planner %s\n  %s\n' "${1//>/}" "$2"
+    printf 'usage: %s %s\n  %s\n' "$called" "${1//>/}" "$2"
 }
 
 # Refuses words of which the first is no command.
@@ -57,7 +57,7 @@ refuse_command() {
 }
 
 usage_of_all() {
-    echo 'usage: ./planner WORDS, with the words of one line; ./planner --help tells more:'
+    echo "usage: $called WORDS, with the words of one line; $called --help tells more:"
     command_rows
 }
 
@@ -119,6 +119,10 @@ distance() {
 # Tells the commit, the kit that the repository is proved with, the kit of `rt` here, and which programs stand.
 version() {
     local commit= name kit
+    if [[ -f $top/receipt ]]; then
+        tell_receipt
+        return
+    fi
     [[ ! -e $top/.git ]] || commit=$(
         GIT_OPTIONAL_LOCKS=0 git --git-dir="$top/.git" --work-tree="$top" describe --always --dirty 2>/dev/null
     )
