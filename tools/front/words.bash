@@ -83,7 +83,7 @@ statuses=(
     13 'the system refused to give the words'
     64 'words of this script itself are wrong'
     65 'explain: the line is none that it knows, or the file has not what the line says'
-    66 'a file of the repository is missing; explain: a file cannot be read'
+    66 'a file of the repository, or of the package, is missing; explain: a file cannot be read'
     67 'an output is another file of the call, under another name'
     69 'a tool is missing: rt, python3 or readlink'
     70 'the build failed; --unproved: rt gave no answer; explain: docs/FORMATS.md is missing, or not as it reads it'
