@@ -15,4 +15,4 @@ returns-in-Err-Memory-clause-err g c = no_memory
 pub returns-in-Err-TooLong-clause-kept : goal.returns-in-Err-TooLong-clause-kept
 returns-in-Err-TooLong-clause-kept g c =
     counts_none (g.D.Desk.shows c.args.desk.now) (g.D.Desk.shows c.read_all.new.desk) c.args.long c.requires
-    c.in-Err-TooLong.ensures.faults
+    (search rules)
