@@ -1,6 +1,5 @@
 -- What the steps of a solution come to. Cited by private functions only: no part of any promise.
-use Rattle.std.specs.Prelude.{◌⊎◌, ◌≤◌, ℕ, ℤ, List, [], ◌∷◌, ◌++◌, Option, Some, None}
-use Rattle.std.specs.Prelude.{IfSome, codes}
+use Rattle.std.specs.Prelude.{◌≡◌, ◌⊎◌, ℕ, ℤ, List, [], ◌∷◌, ◌++◌, Option, Some, None, IfSome, codes}
 use Rattle.plan_desk.specs.Desk.{Shown, ShowsSame, after_take_in}
 use Rattle.plan_desk.specs.Contents.{KeepsFiles}
 use Rattle.instance_model.specs.Limits.{standard_limits}

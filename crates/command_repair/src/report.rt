@@ -1,7 +1,6 @@
 //! The texts of reports.
 ghost use Rattle.std.specs.Prelude.{◌≡◌, ◌≤◌, ◌^◌, ◌++◌, IfOk, OnOk, unsigned_abs};
-ghost use Rattle.plan_changes.specs.Changes.{changes_of};
-ghost use Rattle.command_repair.specs.Repairing.{counts_text, repaired_report, nothing_report, none_report};
+ghost use Rattle.command_repair.specs.Repairing.{counts_text, nothing_report, none_report};
 ghost use Rattle.command_repair.specs.Made.{repaired_text};
 
 use certificate_read::{Bound, Certificate};

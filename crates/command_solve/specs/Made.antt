@@ -1,5 +1,6 @@
 -- What the steps of a solution come to. Cited by private functions only: no part of any promise.
-use Rattle.std.specs.Prelude.{◌≡◌, ℕ, ℤ, ◌-ℤ◌, List, [], ◌∷◌, ◌++◌, map, All, Option, Some, None, false, IfSome, codes}
+use Rattle.std.specs.Prelude.{◌≡◌, ℕ, ◌<◌, ℤ, ◌-ℤ◌, List, [], ◌∷◌, ◌++◌, length, map, All, Option, Some, None, false}
+use Rattle.std.specs.Prelude.{IfSome, codes}
 use Rattle.plan_desk.specs.Desk.{Shown}
 use Rattle.plan_desk.specs.Contents.{KeepsFiles}
 use Rattle.instance_model.specs.Limits.{standard_limits}

@@ -1,7 +1,7 @@
 -- What is made of an instance with an opening plan: a descent, a price list and a search.
 --
 -- Worths, values and bounds are in parts of 10^-18.
-use Rattle.std.specs.Prelude.{◌≡◌, ℕ, ℤ, ◌≤ℤ◌, List, map, Any, Option, Some, None}
+use Rattle.std.specs.Prelude.{◌≡◌, ℕ, ◌≤◌, ℤ, ◌≤ℤ◌, List, length, map, Any, Option, Some, None}
 use Rattle.instance_model.specs.Tables.{Tables}
 use Rattle.instance_model.specs.Rules.{IsFeasible}
 use Rattle.plan_moves.specs.declared.change.Change.{Change}

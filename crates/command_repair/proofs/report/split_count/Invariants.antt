@@ -1,9 +1,0 @@
-use Rattle.std.proofs.Common.{◌≡◌, ◌≤◌, take}
-use Rattle.descent_ends.specs.Turns.{split_count}
-use Rattle.command_repair.proofs.report.split_count.Given as goal
-
-abbrev pub invariant-loop-node : goal.invariant-loop-node
-invariant-loop-node l = record {
-  count : l.count ≡ split_count (take l.node-index l.nodes);
-  few : l.count ≤ l.node-index;
-}
