@@ -8,5 +8,5 @@ pub returns-in-None : goal.returns-in-None
 returns-in-None g c =
     let old = g.D.Desk.shows c.args.desk.now in
     let new = g.D.Desk.shows c.say.new.desk in
-    outcome_refused (map string_bytes c.args.words.now) old new c.say.result c.in-None.ensures.none c.say.ensures.keeps
+    outcome_refused (map string_bytes c.args.words.now) old new c.say.result c.in-None.ensures c.say.ensures.keeps
     (subst (λ (t : List ℕ). SaysOrFails 2 t old new c.say.result) c.as_bytes.ensures.value c.say.ensures.ends)
