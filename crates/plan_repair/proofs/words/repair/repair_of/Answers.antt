@@ -8,12 +8,18 @@ pub returns : goal.returns
 returns c =
     let four = four_apart c.as_str.result.now c.as_str-plan.result.now c.as_str-certificate.result.now
     c.as_str-out.result.now (search rules) in
-    let same : c.in_ok-source.source.instance.now ≡ c.as_str.result.now = search rules in
-    (grind (arith, common_steps), (c.in_ok-source.ensures.small, c.in_ok-turns.ensures.small, rw same (record {
-      instance_plan = four.ab;
-      instance_cert = four.ac;
-      instance_out = four.ad;
-      plan_cert = four.bc;
-      plan_out = four.bd;
-      cert_out = four.cd;
-    })))
+    let same : c.in_ok-source.source.instance.now ≡ c.as_str.result.now = search rules in (
+      grind (arith, common_steps),
+      (
+        c.in_ok-source.ensures.small,
+        c.in_ok-turns.ensures.small,
+        rw same (record {
+          instance_plan = four.ab;
+          instance_cert = four.ac;
+          instance_out = four.ad;
+          plan_cert = four.bc;
+          plan_out = four.bd;
+          cert_out = four.cd;
+        }),
+      ),
+    )
