@@ -1,22 +1,18 @@
--- What a run of the words promises, from what a run of their command does.
-use Rattle.std.proofs.Common.{◌≡◌, ℕ, List, Option, Some, None, refl, sym, ◌∙◌, ap, subst}
+-- What a run of words that are refused promises.
+use Rattle.std.proofs.Common.{◌≡◌, ℕ, List, Some, None, refl, sym, ◌∙◌, ap, subst}
 use Rattle.plan_desk.specs.Desk.{Shown}
 use Rattle.plan_desk.specs.Contents.{Says, KeepsFiles}
-use Rattle.instance_model.specs.Limits.{standard_limits}
-use Rattle.command_frame.specs.Sources.{Source}
 use Rattle.command_frame.specs.Lines.{words_line}
 use Rattle.command_frame.specs.Ending.{Answer, reply, Ends}
 use Rattle.command_frame.specs.Ending.CountsRead.{none as counts_none}
 use Rattle.command_frame.specs.Ending.Ends.{done, unsaid, unwritten}
 use Rattle.command_frame.specs.Refusals.{SaysOrFails}
 use Rattle.command_frame.proofs.EndLemmas.{reads_none, said_ends, ends_quiet, nothing_unwritten}
-use Rattle.command_audit.specs.Auditing.{RunsAudit}
-use Rattle.command_repair.specs.Repairing.{RepairFiles, RunsRepair}
 use Rattle.plan_repair.specs.Words.{Command, audit, repair, command_of}
 use Rattle.plan_repair.specs.Outcome.{Asks, DueRefusal, BehindRefusal, RefusesWords, Outcome}
 use Rattle.plan_repair.specs.Outcome.BehindRefusal.{refused as behind_refused, unsaid as behind_unsaid}
 
--- ---- words that are refused
+-- ---- what is said of them
 
 refusal_behind : (old new : Shown) (status : ℕ) → Ends DueRefusal old new status → BehindRefusal old new status
 refusal_behind old new status (done n d) =
@@ -44,22 +40,13 @@ refuses old new status keeps says =
       quiet = ends_quiet DueRefusal old new status ends;
     }
 
--- ---- one command
+-- ---- the outcome
 
 apart : (words : List (List ℕ)) (c : Command) → command_of words ≡ None → Asks words c → ⊥
 apart words c none asks = never (sym none ∙ asks)
   where
     never : None ≡ Some c → ⊥
     never e = cc
-
-same : (words : List (List ℕ)) (a b : Command) → Asks words a → Asks words b → a ≡ b
-same words a b x y = let e : Some a ≡ Some b = sym x ∙ y in cc
-
--- what a command promises of the words that ask for it
-OfCommand : Command → (old new : Shown) → ℕ → Type 0
-OfCommand (audit source plan cert) old new status = RunsAudit standard_limits source plan cert old new status
-OfCommand (repair source plan files turns) old new status =
-    RunsRepair standard_limits source plan files turns old new status
 
 pub outcome_refused : (words : List (List ℕ)) (old new : Shown) (status : ℕ) → command_of words ≡ None
     → KeepsFiles old new → SaysOrFails 2 words_line old new status → Outcome words old new status
@@ -69,33 +56,5 @@ outcome_refused words old new status none keeps says =
       no_command = λ is. run;
       audits = λ source plan cert asks. absurd (apart words (audit source plan cert) none asks);
       repairs = λ source plan files turns asks. absurd (apart words (repair source plan files turns) none asks);
-      quiet = run.quiet;
-    }
-
-pub outcome_audit : (words : List (List ℕ)) (source : Source) (name cert_name : List ℕ) (old new : Shown) (status : ℕ)
-    → Asks words (audit source name cert_name) → RunsAudit standard_limits source name cert_name old new status
-    → Outcome words old new status
-unfolding OfCommand
-outcome_audit words source name cert_name old new status asked run =
-    let one : (c : Command) → Asks words c → OfCommand c old new status = λ c asks. subst
-    (λ (x : Command). OfCommand x old new status) (same words (audit source name cert_name) c asked asks) run in
-    record {
-      no_command = λ is. absurd (apart words (audit source name cert_name) is asked);
-      audits = λ source plan cert asks. one (audit source plan cert) asks;
-      repairs = λ source plan files turns asks. one (repair source plan files turns) asks;
-      quiet = run.quiet;
-    }
-
-pub outcome_repair : (words : List (List ℕ)) (source : Source) (name : List ℕ) (files : RepairFiles) (turns : ℕ)
-    (old new : Shown) (status : ℕ) → Asks words (repair source name files turns)
-    → RunsRepair standard_limits source name files turns old new status → Outcome words old new status
-unfolding OfCommand
-outcome_repair words source name files turns old new status asked run =
-    let one : (c : Command) → Asks words c → OfCommand c old new status = λ c asks. subst
-    (λ (x : Command). OfCommand x old new status) (same words (repair source name files turns) c asked asks) run in
-    record {
-      no_command = λ is. absurd (apart words (repair source name files turns) is asked);
-      audits = λ source plan cert asks. one (audit source plan cert) asks;
-      repairs = λ source plan files turns asks. one (repair source plan files turns) asks;
       quiet = run.quiet;
     }

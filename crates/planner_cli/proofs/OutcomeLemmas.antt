@@ -1,4 +1,4 @@
--- What a run of the words promises, from what a run of their command does.
+-- What a run of words that are refused promises.
 use Rattle.std.proofs.Common.{◌≡◌, ℕ, List, Some, None, refl, sym, ◌∙◌, ap, subst}
 use Rattle.plan_desk.specs.Desk.{Shown}
 use Rattle.plan_desk.specs.Contents.{Says, KeepsFiles}
@@ -14,7 +14,7 @@ use Rattle.planner_cli.specs.Outcome.BehindRefusal.{refused as behind_refused, u
 use Rattle.command_frame.specs.Refusals.{SaysOrFails}
 use Rattle.command_frame.proofs.EndLemmas.{reads_none, said_ends, ends_quiet, nothing_unwritten}
 
--- ---- words that are refused
+-- ---- what is said of them
 
 refusal_behind : (old new : Shown) (status : ℕ) → Ends DueRefusal old new status → BehindRefusal old new status
 refusal_behind old new status (done n d) =
@@ -42,7 +42,7 @@ refuses old new status keeps says =
       quiet = ends_quiet DueRefusal old new status ends;
     }
 
--- ---- one command
+-- ---- the outcome
 
 apart : (words : List (List ℕ)) (c : Command) → command_of words ≡ None → Asks words c → ⊥
 apart words c none asks = never (sym none ∙ asks)
