@@ -2,7 +2,6 @@
 ghost use Rattle.std.specs.Prelude.{◌≡◌, ◌<◌, ◌≤◌, ◌^◌, [], length, IsTrue, IfOk, IfSome, IfNone, ◌↔◌, unsigned_abs};
 ghost use Rattle.lagrange_bound.specs.Goals.{risk_base};
 ghost use Rattle.lagrange_bound.specs.Boxes.{IsBox, HasStarts};
-ghost use Rattle.certificate_tree.specs.Holding.{IsSingle};
 ghost use Rattle.certificate_tree.specs.Ranges.{IsLeafInRange};
 ghost use Rattle.branch_search.specs.Boxes.{worth_by, IsGreatest};
 ghost use Rattle.certificate_check.specs.Priced.{AreTables};
