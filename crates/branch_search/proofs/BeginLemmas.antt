@@ -1,7 +1,6 @@
 -- The state of a search before any split.
-use Rattle.std.proofs.Common.{◌≡◌, ℕ, zero, suc, ◌+◌, ◌<◌, ◌≤◌, refl, sym, ◌∙◌, ap, subst, arith, ℤ, ◌≤ℤ◌, ◌^◌}
-use Rattle.std.proofs.Common.{List, [], ◌∷◌, length, All, Contains, Option, Some, None, IfSome, unsigned_abs}
-use Rattle.std.proofs.Common.{Bor}
+use Rattle.std.proofs.Common.{◌≡◌, ℕ, zero, suc, ◌<◌, ◌≤◌, refl, sym, ◌∙◌, subst, arith, ℤ, ◌≤ℤ◌, List, [], ◌∷◌, All}
+use Rattle.std.proofs.Common.{Contains, Option, Some, None, IfSome, Bor}
 use Rattle.std.specs.Prelude.{IsPermutation, option_map}
 use Rattle.std.proofs.lemmas.List.Elements.{All-nil}
 use Rattle.fixed_num.proofs.SignedLemmas.{signed_arith}
@@ -9,16 +8,14 @@ use Rattle.instance_model.specs.Tables.{Tables}
 use Rattle.instance_model.specs.Fitting.{IsFitting}
 use Rattle.lagrange_bound.specs.declared.span.Span.{Span}
 use Rattle.lagrange_bound.specs.Boxes.{IsBox}
-use Rattle.lagrange_bound.specs.Goals.{PlanValue}
 use Rattle.certificate_tree.specs.declared.node.Node.{Node}
-use Rattle.certificate_tree.specs.declared.node.Node.TheVariants.{Split, Cost}
+use Rattle.certificate_tree.specs.declared.node.Node.TheVariants.{Cost}
 use Rattle.certificate_tree.specs.Trees.{root_box}
 use Rattle.certificate_tree.proofs.RootLemmas.{root_is_box}
-use Rattle.branch_search.specs.declared.tree.cell.Cell.{Cell}
 use Rattle.branch_search.specs.declared.splitting.settling.Settled.{Settled}
-use Rattle.branch_search.specs.Best.{IsFeasiblePlan, IsNoWorse, IsBestOver}
+use Rattle.branch_search.specs.Best.{IsFeasiblePlan, IsBestOver}
 use Rattle.branch_search.specs.Tasks.{Task, freed, worth_in}
-use Rattle.branch_search.specs.Growing.{cell_at, node_at, box_at, IsLeafNode, IsLinked, IsPartOf, AreBoxesOf}
+use Rattle.branch_search.specs.Growing.{cell_at, node_at, box_at, IsLeafNode, IsLinked, AreBoxesOf}
 use Rattle.branch_search.specs.Shapes.{tip, times, IsShapeOf}
 use Rattle.branch_search.specs.Settled.{IsSettled, IsImprovedIn, IsLeafOf}
 use Rattle.branch_search.specs.Entries.{with_entry}
@@ -26,8 +23,8 @@ use Rattle.branch_search.specs.States.{IsEntry, entries_of, AreEntries, IsGrown}
 use Rattle.branch_search.proofs.CellLemmas.{leaf_linked, split_is_no_leaf}
 use Rattle.branch_search.proofs.ShapeLemmas.{same_is}
 use Rattle.branch_search.proofs.LeafLemmas.{leaf_for, improved_for, still_best, some_is}
-use Rattle.branch_search.proofs.EntryLemmas.{all_with, contains_new, counted_in, counted_with, counted_at_most}
-use Rattle.branch_search.proofs.EntryLemmas.{cost_of_worth, worth_of_cost, small_of}
+use Rattle.branch_search.proofs.EntryLemmas.{all_with, contains_new, counted_with, counted_at_most, cost_of_worth}
+use Rattle.branch_search.proofs.EntryLemmas.{worth_of_cost, small_of}
 
 -- the plan handed in is no worse than itself
 pub best_at_first : (task : Task) (best : Option (List ℕ)) → best ≡ task.incumbent

@@ -1,19 +1,17 @@
 -- The box of a number, by the way up to the root.
-use Rattle.std.proofs.Common.{◌≡◌, ℕ, zero, suc, ◌+◌, ◌-◌, ◌<◌, ◌≤◌, ◌⊎◌, inl, inr, refl, sym, ◌∙◌, ap, subst, arith}
-use Rattle.std.proofs.Common.{◌++◌, take, drop, List, length, get_or, set, max, min, Bool, true, false, cond, eqb}
+use Rattle.std.proofs.Common.{◌≡◌, ℕ, ◌+◌, ◌<◌, ◌≤◌, ◌⊎◌, inl, inr, sym, ◌∙◌, ap, subst, arith, ◌++◌, take, drop, List}
+use Rattle.std.proofs.Common.{length, get_or, set, max, min, Bool, cond, eqb}
 use Rattle.std.proofs.lemmas.Bool.{cases_eq, eq-eqb, ne_eqb}
 use Rattle.std.proofs.lemmas.List.{length-set, get_or-set_same, get_or-set_other, ext_get_or, drop_all, take_all}
 use Rattle.std.proofs.lemmas.List.{append-nil}
 use Rattle.instance_model.specs.Tables.{Tables, tmax}
-use Rattle.instance_model.specs.Fitting.{IsFitting}
 use Rattle.lagrange_bound.specs.declared.span.Span.{Span}
-use Rattle.lagrange_bound.specs.Boxes.{span_of, IsBox}
-use Rattle.certificate_tree.specs.declared.node.Node.{Node}
+use Rattle.lagrange_bound.specs.Boxes.{span_of}
 use Rattle.certificate_tree.specs.declared.node.Node.TheVariants.{Split}
 use Rattle.certificate_tree.specs.Trees.{below, above, root_box, IsSplit}
 use Rattle.certificate_tree.proofs.RootLemmas.{root_at, length-root, changed_at}
 use Rattle.branch_search.specs.declared.tree.cell.Cell.{Cell}
-use Rattle.branch_search.specs.Growing.{cell_at, node_at, box_at, IsSplitAt, IsLinked, IsPartOf, AreBoxesOf}
+use Rattle.branch_search.specs.Growing.{cell_at, node_at, box_at, IsPartOf, AreBoxesOf}
 use Rattle.branch_search.specs.Climbing.{cut_above, cut_below, narrowed, IsCommon, IsClimbed}
 use Rattle.branch_search.proofs.TreeLemmas.{linked_split}
 

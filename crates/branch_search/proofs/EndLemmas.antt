@@ -1,8 +1,8 @@
 -- What the last state of a search shows: the statement.
-use Rattle.std.proofs.Common.{◌≡◌, ℕ, zero, suc, ◌+◌, ◌<◌, ◌≤◌, ◌⊎◌, inl, inr, refl, sym, ◌∙◌, ap, subst, arith, ℤ}
-use Rattle.std.proofs.Common.{◌≤ℤ◌, ◌<ℤ◌, List, [], ◌∷◌, length, map, get_or, All, Contains, Option, Some, None}
-use Rattle.std.proofs.Common.{IfSome, IfNone, IsTrue, is_some, Bool, true, false}
-use Rattle.std.specs.Prelude.{Any, ◌↔◌}
+use Rattle.std.proofs.Common.{◌≡◌, ℕ, ◌<◌, ◌≤◌, inl, inr, refl, sym, ◌∙◌, ap, subst, arith, ℤ, ◌≤ℤ◌, ◌<ℤ◌, List, length}
+use Rattle.std.proofs.Common.{map, All, Contains, Option, Some, None, IfSome, IfNone, IsTrue, is_some, Bool, true}
+use Rattle.std.proofs.Common.{false}
+use Rattle.std.specs.Prelude.{Any}
 use Rattle.std.specs.Bool.{OnFalse}
 use Rattle.std.proofs.lemmas.Bool.{false≢true}
 use Rattle.std.proofs.lemmas.Int.{by_lt_z}
@@ -11,18 +11,17 @@ use Rattle.fixed_num.proofs.SignedLemmas.{signed_arith}
 use Rattle.instance_model.specs.Tables.{Tables}
 use Rattle.lagrange_bound.specs.declared.span.Span.{Span}
 use Rattle.lagrange_bound.specs.Prices.{PriceList}
-use Rattle.lagrange_bound.specs.Goals.{Bases, PlanValue}
+use Rattle.lagrange_bound.specs.Goals.{PlanValue}
 use Rattle.certificate_lines.specs.declared.line.Bound.{Bound}
 use Rattle.certificate_lines.specs.declared.line.Bound.TheVariants.{NoPlan, Least}
 use Rattle.certificate_lines.specs.declared.line.Version.{Version}
 use Rattle.certificate_lines.specs.declared.line.Version.TheVariants.{Two}
 use Rattle.certificate_tree.specs.declared.node.Node.{Node}
 use Rattle.certificate_tree.specs.declared.node.Node.TheVariants.{Split, Cost, Point, Band, Excl, Empty}
-use Rattle.certificate_tree.specs.Trees.{Tree, Leaf, leaves, root_box}
-use Rattle.certificate_tree.specs.Holding.{IsAtLeast, LeafHolds, first_starts, IsSingle}
-use Rattle.certificate_tree.specs.Ranges.{IsLeafInRange, IsTreeInRange, IsTreeOf}
+use Rattle.certificate_tree.specs.Trees.{Leaf, leaves, root_box}
+use Rattle.certificate_tree.specs.Holding.{IsAtLeast, LeafHolds, first_starts}
+use Rattle.certificate_tree.specs.Ranges.{IsLeafInRange, IsTreeInRange}
 use Rattle.branch_search.specs.declared.best.Best.{Best}
-use Rattle.branch_search.specs.declared.tree.cell.Cell.{Cell}
 use Rattle.branch_search.specs.declared.tree.growth.Growth.{Growth}
 use Rattle.branch_search.specs.declared.tree_end.TreeEnd.{TreeEnd}
 use Rattle.branch_search.specs.Splits.{split_boxes}
@@ -32,13 +31,13 @@ use Rattle.branch_search.specs.Searched.{lists_of, IsSplitBox, IsBounding, IsCos
 use Rattle.branch_search.specs.Searched.{IsUnfinishedLeaf}
 use Rattle.branch_search.specs.Searched.{IsSearched}
 use Rattle.branch_search.specs.Tasks.{Task, worth_in}
-use Rattle.branch_search.specs.Growing.{cell_at, node_at, box_at, IsLeafNode}
-use Rattle.branch_search.specs.Shapes.{Shape, top, numbers, forks, tree_of}
+use Rattle.branch_search.specs.Growing.{node_at, box_at, IsLeafNode}
+use Rattle.branch_search.specs.Shapes.{top, numbers, tree_of}
 use Rattle.branch_search.specs.Settled.{IsSettled}
 use Rattle.branch_search.specs.Valued.{plan_in, IsBelow, IsValued}
-use Rattle.branch_search.specs.States.{IsGrowth, IsEntry, IsFloor, IsLeftWorth, NoneIsLeft, bound_with, IsAnswerOf}
+use Rattle.branch_search.specs.States.{IsGrowth, IsEntry, IsFloor, IsLeftWorth, NoneIsLeft, bound_with}
 use Rattle.branch_search.proofs.TreeLemmas.{order_is, in_range, each_leaf, each_split, some_leaf, splits_are}
-use Rattle.branch_search.proofs.LeafLemmas.{at_most_trans, below_is_at_most, none_is_not_some, some_is}
+use Rattle.branch_search.proofs.LeafLemmas.{at_most_trans, below_is_at_most}
 
 -- ---- the kept value
 pub short_below : (value : PlanValue) (inst : Tables) (best : Option Best) (z : ℤ) → IsValued value inst best

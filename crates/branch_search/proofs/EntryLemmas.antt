@@ -1,11 +1,11 @@
 -- The entries of what waits, once the first one is split.
-use Rattle.std.proofs.Common.{◌≡◌, ℕ, zero, suc, ◌+◌, ◌<◌, ◌≤◌, ◌⊎◌, inl, inr, refl, sym, ◌∙◌, ap, subst, arith, ℤ}
-use Rattle.std.proofs.Common.{◌^◌, ◌≤ℤ◌, List, [], ◌∷◌, length, get_or, All, Contains, Bool, true, false, cond, eqb}
-use Rattle.std.proofs.Common.{Option, Some, None, IfSome, unsigned_abs}
+use Rattle.std.proofs.Common.{◌≡◌, ℕ, zero, suc, ◌+◌, ◌<◌, ◌≤◌, ◌⊎◌, inl, inr, refl, sym, ◌∙◌, ap, subst, arith, ℤ, ◌^◌}
+use Rattle.std.proofs.Common.{List, [], ◌∷◌, length, get_or, All, Contains, Bool, true, false, cond, eqb, Option, Some}
+use Rattle.std.proofs.Common.{None, IfSome, unsigned_abs}
 use Rattle.std.specs.Prelude.{IsPermutation}
 use Rattle.std.specs.List.{sum_by}
 use Rattle.std.proofs.lemmas.Bool.{eq-eqb, ne_eqb, cases_lt, cases_eq}
-use Rattle.std.proofs.lemmas.List.Elements.{All-nil, All-cons, All-head, All-tail, All-contains}
+use Rattle.std.proofs.lemmas.List.Elements.{All-nil, All-cons, All-head, All-tail}
 use Rattle.std.proofs.lemmas.List.Sums.{sum_by-cons}
 use Rattle.std.proofs.lemmas.List.Sorted.{IsPermutation-sym, All-permutation, Contains-permutation}
 use Rattle.std.proofs.lemmas.List.Sorted.{sum_by_pushed, sum_by_popped, sum_by-IsPermutation}
@@ -15,7 +15,7 @@ use Rattle.certificate_tree.specs.declared.node.Node.TheVariants.{Split, Cost, P
 use Rattle.certificate_tree.specs.Trees.{below, above}
 use Rattle.branch_search.specs.declared.tree.cell.Cell.{Cell}
 use Rattle.branch_search.specs.Tasks.{Task, worth_in}
-use Rattle.branch_search.specs.Growing.{cell_at, node_at, box_at, split_cells, split_list}
+use Rattle.branch_search.specs.Growing.{node_at, box_at, split_cells, split_list}
 use Rattle.branch_search.specs.Settled.{IsWorthOf}
 use Rattle.branch_search.specs.Entries.{with_entry}
 use Rattle.branch_search.specs.States.{IsEntry, entries_of, AreEntries}

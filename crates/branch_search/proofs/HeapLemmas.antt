@@ -1,5 +1,5 @@
 -- The heap of the leaves that wait: its first one has the least worth.
-use Rattle.std.proofs.Common.{◌≡◌, ℕ, refl, sym, ◌∙◌, ap, arith, ℤ, ◌≤ℤ◌, ◌<ℤ◌, List, [], ◌∷◌, map, All, Bool, false}
+use Rattle.std.proofs.Common.{◌≡◌, ℕ, refl, sym, ◌∙◌, ap, arith, ℤ, ◌≤ℤ◌, ◌<ℤ◌, List, [], ◌∷◌, map, All, false}
 use Rattle.std.specs.List.{AllByRecursion}
 use Rattle.std.specs.declared.cmp.Ordering.{Ordering}
 use Rattle.std.specs.Ordering.{is_lt, nat_cmp, int_cmp, ordering_then}

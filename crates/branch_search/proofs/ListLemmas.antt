@@ -1,12 +1,12 @@
 -- The nodes of a tree under construction, listed one after another.
-use Rattle.std.proofs.Common.{◌≡◌, ℕ, zero, suc, ◌+◌, ◌<◌, ◌≤◌, ◌⊎◌, inl, inr, refl, sym, ◌∙◌, ap, subst, arith}
-use Rattle.std.proofs.Common.{List, [], ◌∷◌, ◌++◌, length, map, reverse, append_assoc}
-use Rattle.std.proofs.lemmas.List.{append-nil, map-append, length-append, length-map, reverse-append, nil_from_length}
+use Rattle.std.proofs.Common.{◌≡◌, ℕ, ◌+◌, ◌<◌, ◌≤◌, ◌⊎◌, inl, inr, refl, sym, ◌∙◌, ap, subst, arith, List, [], ◌∷◌}
+use Rattle.std.proofs.Common.{◌++◌, length, map, reverse, append_assoc}
+use Rattle.std.proofs.lemmas.List.{append-nil, length-append, length-map, reverse-append, nil_from_length}
 use Rattle.certificate_tree.specs.declared.node.Node.{Node}
 use Rattle.certificate_tree.specs.declared.node.Node.TheVariants.{Split}
 use Rattle.branch_search.specs.declared.tree.cell.Cell.{Cell}
-use Rattle.branch_search.specs.Growing.{cell_at, node_at, IsLeafNode}
-use Rattle.branch_search.specs.Shapes.{Shape, tip, fork, top, numbers, size, IsWithin, IsForkAt, Stands, IsShapeOf}
+use Rattle.branch_search.specs.Growing.{cell_at, node_at}
+use Rattle.branch_search.specs.Shapes.{Shape, tip, fork, top, numbers, size, IsWithin, Stands, IsShapeOf}
 use Rattle.branch_search.specs.Listing.{all_numbers, AllStand, AllWithinOf, IsListed}
 use Rattle.branch_search.proofs.CellLemmas.{split_is_no_leaf}
 

@@ -1,12 +1,11 @@
 -- The shape of a tree under construction, once a node is split.
 use Rattle.std.proofs.Common.{◌≡◌, ℕ, suc, ◌+◌, ◌*◌, ◌<◌, ◌≤◌, refl, sym, ◌∙◌, ap, subst, arith, Bool, true, false}
-use Rattle.std.proofs.Common.{cond}
-use Rattle.std.proofs.Common.{List, length, eqb, inl, inr, ◌⊎◌}
-use Rattle.std.proofs.lemmas.Bool.{eqb-true, eqb-false, eq-eqb, ne_eqb, cases_order}
+use Rattle.std.proofs.Common.{cond, List, length, eqb, inl, inr}
+use Rattle.std.proofs.lemmas.Bool.{eqb-true, eqb-false, eq-eqb, ne_eqb}
 use Rattle.certificate_tree.specs.declared.node.Node.{Node}
 use Rattle.certificate_tree.specs.declared.node.Node.TheVariants.{Split}
 use Rattle.branch_search.specs.declared.tree.cell.Cell.{Cell}
-use Rattle.branch_search.specs.Growing.{cell_at, node_at, IsLeafNode, split_cells}
+use Rattle.branch_search.specs.Growing.{node_at, IsLeafNode, split_cells}
 use Rattle.branch_search.specs.Shapes.{Shape, tip, fork, top, forks, size, same, times, tips, IsWithin, IsForkAt}
 use Rattle.branch_search.specs.Shapes.{Stands}
 use Rattle.branch_search.specs.Shapes.{IsShapeOf, grown}

@@ -1,7 +1,6 @@
 -- One step of a search: the leaf of least worth is split.
-use Rattle.std.proofs.Common.{◌≡◌, ℕ, zero, suc, ◌+◌, ◌<◌, ◌≤◌, ◌⊎◌, inl, inr, refl, sym, ◌∙◌, ap, subst, arith, ℤ}
-use Rattle.std.proofs.Common.{◌≤ℤ◌, ◌<ℤ◌, ◌^◌, List, [], ◌∷◌, length, All, Contains, Option, Some, None, IfSome}
-use Rattle.std.proofs.Common.{unsigned_abs}
+use Rattle.std.proofs.Common.{◌≡◌, ℕ, ◌+◌, ◌≤◌, inl, inr, sym, ◌∙◌, ap, subst, arith, ℤ, ◌≤ℤ◌, List, ◌∷◌, length, All}
+use Rattle.std.proofs.Common.{Contains, Option, Some, None}
 use Rattle.std.specs.Prelude.{IsPermutation}
 use Rattle.std.proofs.lemmas.List.Elements.{All-contains, All-cons}
 use Rattle.std.proofs.lemmas.List.Sorted.{Contains-permutation}
@@ -19,9 +18,9 @@ use Rattle.branch_search.specs.declared.tree.cell.Cell.{Cell}
 use Rattle.branch_search.specs.declared.splitting.settling.Settled.{Settled}
 use Rattle.branch_search.specs.Best.{IsShort, IsBestOver}
 use Rattle.branch_search.specs.Tasks.{Task, freed, worth_in, IsBelowGiven}
-use Rattle.branch_search.specs.Growing.{cell_at, node_at, box_at, IsLeafNode, split_cells, split_list}
+use Rattle.branch_search.specs.Growing.{node_at, box_at, IsLeafNode, split_cells, split_list}
 use Rattle.branch_search.specs.Shapes.{grown}
-use Rattle.branch_search.specs.Settled.{IsWaitingBox, IsSettled, IsWorthOf, IsImprovedIn, IsLeafOf, ArePartsOf}
+use Rattle.branch_search.specs.Settled.{IsWaitingBox, IsSettled, IsImprovedIn, IsLeafOf, ArePartsOf}
 use Rattle.branch_search.specs.Entries.{with_entry}
 use Rattle.branch_search.specs.States.{IsEntry, AreEntries, IsFloor, IsGrown}
 use Rattle.branch_search.proofs.CellLemmas.{length_split, at_split, at_other, at_left, at_right, box_before, box_left}

@@ -1,6 +1,5 @@
 -- The tree of a shape: its nodes, its range, its leaves and its splits.
-use Rattle.std.proofs.Common.{◌≡◌, ℕ, zero, suc, ◌+◌, ◌<◌, ◌⊎◌, inl, inr, refl, sym, ◌∙◌, ap, subst, arith, List, []}
-use Rattle.std.proofs.Common.{◌∷◌, ◌≤◌}
+use Rattle.std.proofs.Common.{◌≡◌, ℕ, ◌+◌, ◌<◌, ◌⊎◌, inl, inr, refl, sym, ◌∙◌, ap, subst, arith, List, [], ◌∷◌, ◌≤◌}
 use Rattle.std.proofs.Common.{◌++◌, length, map, get_or, All, Bool, true, false, cond, eqb}
 use Rattle.std.specs.Prelude.{Any}
 use Rattle.std.proofs.lemmas.Bool.{eqb-true, cases_lt}
@@ -9,13 +8,13 @@ use Rattle.std.proofs.lemmas.List.Elements.{All-nil, All-cons, All-append}
 use Rattle.instance_model.specs.Tables.{Tables}
 use Rattle.lagrange_bound.specs.declared.span.Span.{Span}
 use Rattle.certificate_tree.specs.declared.node.Node.{Node}
-use Rattle.certificate_tree.specs.declared.node.Node.TheVariants.{Split, Cost, Point, Band, Excl, Empty}
-use Rattle.certificate_tree.specs.Trees.{Tree, leaf, split, pre_order, below, above, IsSplit, Leaf, leaves}
+use Rattle.certificate_tree.specs.declared.node.Node.TheVariants.{Split}
+use Rattle.certificate_tree.specs.Trees.{split, pre_order, below, above, IsSplit, Leaf, leaves}
 use Rattle.certificate_tree.specs.Ranges.{IsLeafInRange, IsTreeInRange}
 use Rattle.branch_search.specs.declared.tree.cell.Cell.{Cell}
 use Rattle.branch_search.specs.Splits.{split_boxes}
 use Rattle.branch_search.specs.Growing.{cell_at, node_at, box_at, IsLeafNode, IsSplitAt, IsLinked, AreBoxesOf}
-use Rattle.branch_search.specs.Shapes.{Shape, tip, fork, top, numbers, forks, same, times, IsWithin, IsForkAt, Stands}
+use Rattle.branch_search.specs.Shapes.{Shape, tip, fork, top, numbers, forks, times, IsWithin, IsForkAt, Stands}
 use Rattle.branch_search.specs.Shapes.{tree_of, number_of, last_of}
 use Rattle.branch_search.proofs.CellLemmas.{split_is_no_leaf}
 

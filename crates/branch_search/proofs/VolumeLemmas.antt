@@ -1,17 +1,16 @@
 -- How many starts a box has, and why a tree of enough splits has single boxes alone.
 use Rattle.std.proofs.Common.{◌≡◌, ℕ, zero, suc, ◌+◌, ◌-◌, ◌*◌, ◌<◌, ◌≤◌, ◌⊎◌, inl, inr, refl, sym, ◌∙◌, ap, subst}
-use Rattle.std.proofs.Common.{arith}
-use Rattle.std.proofs.Common.{List, [], ◌∷◌, ◌++◌, length, get_or, set, Bool, true, false, IsTrue}
+use Rattle.std.proofs.Common.{arith, List, [], ◌∷◌, ◌++◌, length, get_or, set}
 use Rattle.std.specs.Prelude.{Any}
 use Rattle.std.proofs.Math.Nat.{eq-or-lt_of_le}
-use Rattle.std.proofs.lemmas.Bool.{cases_eq, cases_lt, cases_Bool}
+use Rattle.std.proofs.lemmas.Bool.{cases_lt}
 use Rattle.std.proofs.lemmas.Nat.{mul-le}
 use Rattle.std.proofs.lemmas.List.{length-append, length-set, get_or-set_same, get_or-set_other}
 use Rattle.instance_model.specs.Naturals.{count_product}
 use Rattle.instance_model.specs.Tables.{Tables, tmax}
 use Rattle.instance_model.specs.Fitting.{IsFitting}
 use Rattle.lagrange_bound.specs.declared.span.Span.{Span}
-use Rattle.lagrange_bound.specs.Boxes.{span_of, IsBox}
+use Rattle.lagrange_bound.specs.Boxes.{span_of}
 use Rattle.certificate_tree.specs.Trees.{Tree, leaf, split, Leaf, leaves, below, above, root_box, IsSplit}
 use Rattle.certificate_tree.specs.Holding.{IsSingle}
 use Rattle.certificate_tree.specs.Ranges.{IsTreeInRange}

@@ -1,9 +1,7 @@
 -- The worth of a part of a box, and the worths by tables.
-use Rattle.std.proofs.Common.{◌≡◌, ℕ, zero, suc, ◌+◌, ◌-◌, ◌<◌, ◌≤◌, ◌⊎◌, inl, inr, refl, sym, ◌∙◌, ap, subst, arith, ℤ}
-use Rattle.std.proofs.Common.{◌+ℤ◌, ◌≤ℤ◌, ◌<ℤ◌, List, length, get_or, set, filter, All, Contains, IsTrue, Option, Some}
-use Rattle.std.proofs.Common.{None}
+use Rattle.std.proofs.Common.{◌≡◌, ℕ, ◌+◌, ◌-◌, ◌<◌, ◌≤◌, sym, ◌∙◌, subst, arith, ℤ, ◌+ℤ◌, ◌≤ℤ◌, List, length, get_or}
+use Rattle.std.proofs.Common.{filter, All, Contains}
 use Rattle.std.specs.List.{range_with_len}
-use Rattle.std.proofs.lemmas.List.{length-set}
 use Rattle.std.proofs.Common.{Bool, true}
 use Rattle.std.proofs.lemmas.List.Elements.{All-contains, All-contains_itself, All-filter, filter_passes}
 use Rattle.std.proofs.lemmas.List.FromFn.{get_or-range_with_len, length-range_with_len}
@@ -16,7 +14,7 @@ use Rattle.lagrange_bound.specs.declared.span.Span.{Span}
 use Rattle.lagrange_bound.specs.Least.{least_over}
 use Rattle.lagrange_bound.specs.TailLemmas.{least_over_le, least_over_reached}
 use Rattle.lagrange_bound.specs.Prices.{PriceList}
-use Rattle.lagrange_bound.specs.Boxes.{span_of, starts_in, HasStarts, IsBox, IsPlanIn}
+use Rattle.lagrange_bound.specs.Boxes.{span_of, starts_in, HasStarts, IsPlanIn}
 use Rattle.lagrange_bound.specs.Worth.{price_of, fixed_part, worth_of}
 use Rattle.certificate_tree.specs.Trees.{below, above, IsSplit}
 use Rattle.certificate_tree.proofs.RootLemmas.{changed_at}

@@ -1,7 +1,6 @@
 //! Where a box is split: where one part is closed at once, else at the cover that closes the box with the smallest
 //! tree, else in the interval of which the halves differ most.
-ghost use Rattle.std.specs.Prelude.{◌≡◌, ℕ, ◌<◌, ◌≤◌, length, IfSome, IfNone, IfOk, OnOk, IsTrue};
-ghost use Rattle.instance_model.specs.Tables.{tmax};
+ghost use Rattle.std.specs.Prelude.{ℕ, ◌<◌, ◌≤◌, length, IfSome, IfNone, IfOk, OnOk, IsTrue};
 ghost use Rattle.lagrange_bound.specs.Boxes.{IsBox, span_of};
 ghost use Rattle.lagrange_bound.specs.Tabulated.{IsPricedBox};
 ghost use Rattle.certificate_tree.specs.Trees.{IsSplit};

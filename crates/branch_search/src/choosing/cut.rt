@@ -1,8 +1,6 @@
 //! Splits of which one part is closed at once: the first or the last starts of an interval are cut off where a band or
 //! an exclusion refutes a box with them alone, or where its worth is at least the value of the best plan.
 ghost use Rattle.std.specs.Prelude.{◌<◌, ◌≤◌, length};
-ghost use Rattle.lagrange_bound.specs.Boxes.{span_of};
-ghost use Rattle.duration_calendar.specs.Windows.{IsInHorizon};
 ghost use Rattle.box_state.specs.KeptLoads.{IsOver};
 
 use crate::choosing::load_ranges::{LoadRange, LoadRanges};

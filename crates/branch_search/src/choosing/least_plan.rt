@@ -1,5 +1,5 @@
 //! The plan of least prices in a box by a list, and its loads, kept while the box changes.
-ghost use Rattle.std.specs.Prelude.{◌<◌, ◌≤◌, length};
+ghost use Rattle.std.specs.Prelude.{◌<◌, length};
 
 use crate::choosing::place_loads::{place_of, places};
 use crate::choosing::start_prices::cheapest;

@@ -1,7 +1,7 @@
 //! The places that each intervention loads, and its least and greatest load there in its interval.
 ghost use Rattle.std.specs.Prelude.{◌<◌, ◌≤◌, length};
 
-use crate::choosing::place_loads::{PlaceCell, load_in, loads_of_all, places};
+use crate::choosing::place_loads::{PlaceCell, load_in, loads_of_all};
 use crate::choosing::start_prices::is_allowed;
 use instance_model::Instance;
 use lagrange_bound::{PriceTable, Span};

@@ -1,5 +1,5 @@
 //! Boxes that are a single plan: the plan is judged, and may become the best one.
-ghost use Rattle.std.specs.Prelude.{◌≡◌, map, Some, length, IsTrue, IfOk, OnOk, ◌↔◌};
+ghost use Rattle.std.specs.Prelude.{◌≡◌, map, Some, IsTrue, IfOk, OnOk, ◌↔◌};
 ghost use Rattle.lagrange_bound.specs.Boxes.{IsBox};
 ghost use Rattle.instance_model.specs.Rules.{IsFeasible};
 ghost use Rattle.certificate_tree.specs.Trees.{AreStartsIn};

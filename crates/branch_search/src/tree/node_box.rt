@@ -1,5 +1,5 @@
 //! The box of a number, made afresh by the way up to the root.
-ghost use Rattle.std.specs.Prelude.{◌≡◌, ℕ, ◌<◌, ◌≤◌, List, length, IfOk};
+ghost use Rattle.std.specs.Prelude.{◌≡◌, ◌<◌, ◌≤◌, List, length, IfOk};
 ghost use Rattle.lagrange_bound.specs.declared.span.Span.{Span};
 ghost use Rattle.certificate_tree.specs.declared.node.Node.TheVariants.{Split};
 ghost use Rattle.certificate_tree.specs.Trees.{root_box};

@@ -1,4 +1,4 @@
-use Rattle.std.proofs.Common.{◌∙◌, ap, List, ◌≡◌, ◌<◌, length, refl, sym, subst, arith, rules, ℕ}
+use Rattle.std.proofs.Common.{◌∙◌, ap, List, ◌≡◌, ◌<◌, length, refl, subst, arith, rules, ℕ}
 use Rattle.instance_model.proofs.FitLemmas.{tmax_small}
 use Rattle.branch_search.specs.Growing.{cell_at}
 use Rattle.branch_search.specs.Climbing.{IsClimbed, narrowed}

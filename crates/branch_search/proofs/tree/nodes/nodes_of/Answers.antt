@@ -1,7 +1,7 @@
-use Rattle.std.proofs.Common.{◌≡◌, ◌<◌, ◌≤◌, ◌+◌, length, ap, arith, rules, inl, inr, List}
+use Rattle.std.proofs.Common.{◌<◌, ◌+◌, length, ap, arith, rules, inl, inr, List}
 use Rattle.std.proofs.lemmas.List.{length_push, nil_from_length}
 use Rattle.certificate_tree.specs.declared.node.Node.{Node}
-use Rattle.branch_search.specs.Growing.{cell_at, node_at}
+use Rattle.branch_search.specs.Growing.{node_at}
 use Rattle.branch_search.proofs.ListLemmas.{list_start, at_top, top_known, leaf_listed, split_listed, list_end}
 use Rattle.branch_search.proofs.tree.nodes.nodes_of.Goals as goal
 use Rattle.branch_search.proofs.tree.nodes.nodes_of.Goals.{in-Split+in_ok-push-3+in_ok-push-4, in_default-node}

@@ -1,4 +1,3 @@
-use Rattle.std.proofs.Common.{All, List, ℕ, ℤ, ◌≤ℤ◌, subst, sym}
 use Rattle.branch_search.proofs.HeapLemmas.{least_first}
 use Rattle.branch_search.proofs.tree.waiting.Waiting.least.Goals as goal
 
