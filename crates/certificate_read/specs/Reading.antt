@@ -18,8 +18,8 @@ use Rattle.certificate_tree.specs.Trees.{IsSplit, below, above, root_box}
 use Rattle.certificate_tree.specs.Ranges.{HasPricesOf, IsInRange}
 use Rattle.certificate_tree.specs.Walk.{first_box, other_boxes}
 use Rattle.certificate_text.specs.Grammar as place
-use Rattle.certificate_text.specs.Grammar.{Place, EntryKey, Stands, Fits, after, Leads, IsLimitPrice, KeyBelow}
-use Rattle.certificate_text.specs.Grammar.{before_entries, up_key, lo_key, tail_key, ex_key}
+use Rattle.certificate_text.specs.Grammar.{Place, EntryKey, Stands, Fits, Leads, IsLimitPrice, KeyBelow, before_entries}
+use Rattle.certificate_text.specs.Grammar.{up_key, lo_key, tail_key, ex_key}
 use Rattle.certificate_text.specs.Entries.{IsUpTo}
 use Rattle.certificate_text.specs.Text.{text_of_lines, entry_lines, list_lines, node_line, certificate_lines}
 use Rattle.certificate_read.specs.declared.fault.CertFault.{CertFault}

@@ -5,7 +5,6 @@ ghost use Rattle.lagrange_bound.specs.Prices.{IsPriceList};
 ghost use Rattle.lagrange_bound.specs.Changes.{with_up, with_lo, with_tail, IsExSet};
 ghost use Rattle.certificate_text.specs.Grammar as place;
 ghost use Rattle.certificate_text.specs.Grammar.{IsLimitPrice};
-ghost use Rattle.certificate_text.specs.Entries.{IsUpTo};
 ghost use Rattle.certificate_read.specs.Reading.{Fails, IsBeforeNoMark, IsTailOf, IsExPriceOf, EntryFits, SetsEntry};
 ghost use Rattle.certificate_read.specs.Reading.{ReadsEntry, key_view};
 

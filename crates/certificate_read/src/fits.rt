@@ -1,5 +1,5 @@
 //! Whether the numbers of a line are in their ranges.
-ghost use Rattle.std.specs.Prelude.{◌≡◌, ◌≤◌, ◌↔◌, IsTrue, All};
+ghost use Rattle.std.specs.Prelude.{◌≤◌, ◌↔◌, IsTrue, All};
 ghost use Rattle.std.specs.Bool.{OnTrue};
 ghost use Rattle.lagrange_bound.specs.Least.{AscendAbove};
 ghost use Rattle.lagrange_bound.specs.Prices.{IsTail};

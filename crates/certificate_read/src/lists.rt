@@ -1,11 +1,9 @@
 //! The price lists of a certificate.
 ghost use Rattle.std.specs.Prelude.{◌≡◌, ◌<◌, ℕ, Option, Some, None, IsTrue, ◌↔◌, IfOk, IfErr};
-ghost use Rattle.certificate_tree.specs.Trees.{root_box};
 ghost use Rattle.certificate_lines.specs.declared.line.CertificateLine.TheVariants as form;
 ghost use Rattle.certificate_text.specs.Grammar as place;
 ghost use Rattle.certificate_text.specs.Grammar.{EntryKey as Key, before_entries};
-ghost use Rattle.certificate_read.specs.Reading.{Fails, IsBetween, ReadsAllEntries, ReadsList, ReadsLists};
-ghost use Rattle.certificate_read.specs.Reading.{ReadsAllLists};
+ghost use Rattle.certificate_read.specs.Reading.{Fails, IsBetween, ReadsAllEntries, ReadsList, ReadsAllLists};
 
 use crate::CertFault;
 use crate::entry::read_entry;
