@@ -1,5 +1,5 @@
 //! A certificate is written.
-ghost use Rattle.std.specs.Prelude.{[], ◌∷◌, ◌++◌, length, map, All, IsTrue};
+ghost use Rattle.std.specs.Prelude.{map, All, IsTrue};
 ghost use Rattle.std.specs.List.{flat_map};
 ghost use Rattle.plan_desk.specs.Written.{WritesText};
 ghost use Rattle.lagrange_bound.specs.Prices.{IsPriceList};

@@ -1,4 +1,4 @@
-use Rattle.std.proofs.Common.{◌≡◌, [], ◌+◌, ◌*◌, ℕ, List, take, sym, ◌∙◌, ap, arith}
+use Rattle.std.proofs.Common.{◌≡◌, ◌+◌, ◌*◌, ℕ, List, take, sym, ◌∙◌, ap, arith}
 use Rattle.certificate_lines.specs.declared.line.CertificateLine.{CertificateLine}
 use Rattle.certificate_text.specs.Text.{text_of_lines, limit_lines}
 use Rattle.certificate_text.specs.Steps.{limit_form, limit_table, row_lines}

@@ -1,4 +1,4 @@
-use Rattle.std.proofs.Common.{◌≡◌, ◌∙◌, [], ◌∷◌, List, sym, ap, Some, None, option_map}
+use Rattle.std.proofs.Common.{◌≡◌, ◌∙◌, List, sym, ap, Some, None, option_map}
 use Rattle.lagrange_bound.specs.Prices.{tail_of}
 use Rattle.certificate_lines.specs.declared.line.CertificateLine.{CertificateLine}
 use Rattle.certificate_text.specs.Text.{text_of_lines}
