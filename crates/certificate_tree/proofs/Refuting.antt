@@ -5,9 +5,9 @@ use Rattle.std.proofs.lemmas.Grind.{same_number_lists}
 use Rattle.fixed_num.specs.Sums.{sum_below}
 use Rattle.fixed_num.proofs.SignedLemmas.{signed_arith}
 use Rattle.fixed_num.proofs.SumLemmas.{sum_below_mono, sum_below_same}
-use Rattle.instance_model.specs.Tables.{Tables, is_allowed, in_run, upper_of, lower_of, exclusion_of}
+use Rattle.instance_model.specs.Tables.{Tables, is_allowed, upper_of, lower_of, exclusion_of}
 use Rattle.instance_model.specs.Fitting.{IsFitting}
-use Rattle.instance_model.specs.Plans.{start_of, is_running, load_at, load_sum}
+use Rattle.instance_model.specs.Plans.{start_of, load_at, load_sum}
 use Rattle.instance_model.specs.Rules.{IsFeasible}
 use Rattle.instance_model.proofs.BoardLemmas.{start_of-starts}
 use Rattle.instance_model.proofs.RuleLemmas.{KeepsRules-from}
