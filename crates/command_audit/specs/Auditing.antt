@@ -1,7 +1,7 @@
 -- The command `audit`: what is due, what stands behind each status, and what a run promises.
 --
 -- `old` and `new` are what the desk shows before and after a run.
-use Rattle.std.specs.Prelude.{◌≡◌, ℕ, ◌≤◌, List, Option}
+use Rattle.std.specs.Prelude.{◌≡◌, ℕ, List, Option}
 use Rattle.plan_desk.specs.Desk.{Shown}
 use Rattle.plan_desk.specs.Contents.{TellsSuch, Says}
 use Rattle.instance_model.specs.declared.limits.Limits.{Limits}

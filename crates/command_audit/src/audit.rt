@@ -1,6 +1,6 @@
 //! The command `audit`: all files are read, the certificate is checked for the number of changes, and the report is
 //! said.
-ghost use Rattle.std.specs.Prelude.{◌≡◌, ◌≤◌, length, IfOk, IfErr, OnOk};
+ghost use Rattle.std.specs.Prelude.{◌≡◌, ◌≤◌, IfOk, IfErr, OnOk};
 ghost use Rattle.instance_model.specs.Limits.{standard_limits};
 ghost use Rattle.instance_shape.specs.Ranges.{AreStandard};
 ghost use Rattle.certificate_tree.specs.Ranges.{IsInRange};
