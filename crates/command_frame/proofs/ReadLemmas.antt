@@ -16,8 +16,8 @@ use Rattle.instance_read.specs.declared.fault.InstanceFault.{InstanceFault}
 use Rattle.command_frame.specs.Sources.{Source}
 use Rattle.command_frame.specs.Lines.{read_line}
 use Rattle.command_frame.specs.Ending.{Answer, reply}
-use Rattle.command_frame.specs.Bytes.{TakesOne, IsLongInstance, IsOneFault, RefusesInstance, Spells, RefusesPlan}
-use Rattle.command_frame.specs.Bytes.{SpellsScript, RefusesScript}
+use Rattle.command_frame.specs.Bytes.{TakesOne, IsOneFault, RefusesInstance, Spells, RefusesPlan, SpellsScript}
+use Rattle.command_frame.specs.Bytes.{RefusesScript}
 use Rattle.command_frame.specs.Bytes.RefusesInstance.{long_instance, faulty_instance}
 use Rattle.command_frame.specs.Bytes.RefusesPlan.{long_plan, faulty_plan}
 use Rattle.command_frame.specs.Bytes.RefusesScript.{long_script, faulty_script}

@@ -1,13 +1,13 @@
 -- Files that an answer writes, from the calls that write them to the end of a run.
-use Rattle.std.proofs.Common.{◌≡◌, ◌≢◌, ℕ, zero, suc, inl, inr, refl, sym, ◌∙◌, ap, subst, arith, List}
-use Rattle.std.proofs.Common.{[], ◌∷◌, length, take, get_or, Option, Some, None, true≢false}
-use Rattle.std.specs.Prelude.{Result, Ok, Err, IsErr, IfSome, option_map}
+use Rattle.std.proofs.Common.{◌≡◌, ℕ, suc, inl, inr, refl, sym, ◌∙◌, ap, subst, arith, List, [], ◌∷◌, take, get_or}
+use Rattle.std.proofs.Common.{Option, Some, None}
+use Rattle.std.specs.Prelude.{Result, Ok, Err, IfSome, option_map}
 use Rattle.plan_desk.specs.Desk.{Shown, Fault, Output, ShowsSame, none_open, file_open, output_after_write}
 use Rattle.plan_desk.specs.Faults.{IsFaultOf}
 use Rattle.plan_desk.specs.Contents.{Says, OnlyReads, KeepsFiles}
 use Rattle.plan_desk.specs.Calls.{PutsOut, FinishesOut}
 use Rattle.plan_desk.specs.Written.{WritesText}
-use Rattle.plan_desk.specs.FileWrites.{FileWrite, after_file, after_writes, StopsFile, StopsWrites}
+use Rattle.plan_desk.specs.FileWrites.{FileWrite, after_file, after_writes}
 use Rattle.plan_desk.specs.declared.call.DeskCall.{DeskCall}
 use Rattle.plan_desk.specs.declared.call.DeskCall.TheVariants.{FinishOut}
 use Rattle.plan_desk.specs.declared.call.Failed.{Failed}
@@ -15,8 +15,7 @@ use Rattle.plan_desk.proofs.Composed.{fails_since}
 use Rattle.plan_desk.proofs.FileWrites.{same_again, file_alike, file_written, not_ended, stops_alike}
 use Rattle.command_frame.specs.declared.report.Report.{Report}
 use Rattle.command_frame.specs.Lines.{write_line}
-use Rattle.command_frame.specs.Ending.{Writing, Answer, files_of, writing_at, OrMemory, WriteFails, SaysUnwritten, Ends}
-use Rattle.command_frame.specs.Ending.{Behind}
+use Rattle.command_frame.specs.Ending.{Writing, Answer, files_of, OrMemory, SaysUnwritten, Ends, Behind}
 use Rattle.command_frame.specs.Ending.OrMemory.{answers, no_memory}
 use Rattle.command_frame.specs.Ending.CountsRead.{none as counts_none}
 use Rattle.command_frame.specs.Ending.SaysUnwritten.{said as line_said, unsaid as line_unsaid}
@@ -24,8 +23,7 @@ use Rattle.command_frame.specs.Ending.Ends.{done, unsaid, unwritten}
 use Rattle.command_frame.specs.Ending.Behind.{of_command, unsaid as behind_unsaid, unwritten as behind_unwritten}
 use Rattle.command_frame.specs.Ending.Behind.{no_memory as behind_memory}
 use Rattle.command_frame.specs.Refusals.{SaysOrFails}
-use Rattle.command_frame.specs.Writing.{StopsPut, PutsFile, HasWritten, StopsWriting, PutsFiles, SaysWritten}
-use Rattle.command_frame.specs.Writing.{TellsAnswer}
+use Rattle.command_frame.specs.Writing.{PutsFile, HasWritten, StopsWriting, PutsFiles, SaysWritten, TellsAnswer}
 use Rattle.command_frame.specs.Writing.TellsAnswer.{written as told_written, unwritten as told_unwritten}
 use Rattle.command_frame.proofs.SayLemmas.{says_before}
 use Rattle.command_frame.proofs.EndLemmas.{Stays}

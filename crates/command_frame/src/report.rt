@@ -1,6 +1,5 @@
 //! The reports on plans.
-ghost use Rattle.std.specs.Prelude.{◌≡◌, ◌<◌, ◌≤◌, ◌^◌, ◌++◌, ℕ, List, Option, Some, IfOk, IfSome, OnOk, length, ℤ};
-ghost use Rattle.std.specs.Prelude.{codes, unsigned_abs};
+ghost use Rattle.std.specs.Prelude.{◌≡◌, ◌<◌, ◌≤◌, ◌^◌, ◌++◌, Option, Some, IfOk, IfSome, OnOk, codes, unsigned_abs};
 ghost use Rattle.certificate_tree.specs.Ranges.{IsBoundInRange};
 ghost use Rattle.command_frame.specs.Reports.{values_report, infeasible_report, score_line, ranges_text, range_line};
 ghost use Rattle.command_frame.specs.Reports.{rounded_line, numbered, band_text, rule_text, pair_text, NamesOf};
