@@ -1,11 +1,10 @@
 -- What is told of a certificate that was made.
-use Rattle.std.proofs.Common.{◌≡◌, ◌⊎◌, inl, inr, ◌<◌, ◌≤◌, ◌-◌, ◌^◌, ℕ, List, [], ◌∷◌, length, min, refl, arith}
+use Rattle.std.proofs.Common.{◌≡◌, ◌⊎◌, inl, inr, ◌<◌, ◌≤◌, ◌-◌, ◌^◌, ℕ, List, [], ◌∷◌, length, min, arith}
 use Rattle.std.proofs.Math.Nat.{min-le_left}
-use Rattle.std.specs.Prelude.{Result, Ok, Err}
+use Rattle.std.specs.Prelude.{Ok, Err}
 use Rattle.plan_desk.specs.Desk.{Shown}
 use Rattle.plan_desk.specs.Contents.{OnlyReads, KeepsFiles}
 use Rattle.instance_model.specs.declared.limits.Limits.{Limits}
-use Rattle.instance_model.specs.Limits.{standard_limits}
 use Rattle.instance_model.specs.Tables.{Tables}
 use Rattle.certificate_tree.specs.declared.certificate.Certificate.{Certificate}
 use Rattle.certificate_text.specs.Text.{certificate_text}
@@ -14,10 +13,10 @@ use Rattle.certificate_text.specs.Lengths.{counted}
 use Rattle.certificate_text.proofs.CountLemmas.{counted_small, counted_large}
 use Rattle.command_frame.specs.Sources.{Source}
 use Rattle.command_frame.specs.Lines.{write_line}
-use Rattle.command_frame.specs.Ending.{Writing, Answer, reply, Ends}
+use Rattle.command_frame.specs.Ending.{Answer, reply, Ends}
 use Rattle.command_frame.specs.Files.{reading}
 use Rattle.command_frame.specs.Refusals.{SaysOrFails}
-use Rattle.command_frame.specs.Writing.{PutsFile, HasWritten, TellsAnswer}
+use Rattle.command_frame.specs.Writing.{PutsFile}
 use Rattle.command_frame.specs.Writing.TellsAnswer.{written, unwritten}
 use Rattle.command_frame.proofs.EndLemmas.{memory_ends}
 use Rattle.command_frame.proofs.WriteLemmas.{puts_none, puts_first, puts_more, told_ends}

@@ -8,7 +8,7 @@ use Rattle.certificate_text.specs.Text.{certificate_text}
 use Rattle.band_rebound.specs.declared.rebounded.Rebounded.{Rebounded}
 use Rattle.band_rebound.specs.Rebounds.{IsReboundOf}
 use Rattle.band_rebound.proofs.ReboundLemmas.{one_rebound}
-use Rattle.command_frame.specs.Ending.{Answer, IsOneAnswer}
+use Rattle.command_frame.specs.Ending.{IsOneAnswer}
 use Rattle.command_frame.specs.Files.{by_bytes, OnCertificate}
 use Rattle.command_frame.proofs.AnswerLemmas.{instance_once, certificate_once}
 use Rattle.command_rebound.specs.Rebinding.{rebound_report, out_write, Rebinds, AnswersRebound}

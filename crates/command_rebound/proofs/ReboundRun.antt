@@ -1,5 +1,5 @@
 -- What a run of `rebound` promises follows from its end.
-use Rattle.std.proofs.Common.{◌≡◌, ◌≢◌, inl, inr, ◌⊎◌, ℕ, ◌<◌, ◌≤◌, List, [], ◌∷◌, length, None, refl, sym, ◌∙◌, subst}
+use Rattle.std.proofs.Common.{◌≡◌, inl, inr, ◌⊎◌, ℕ, ◌<◌, ◌≤◌, List, [], length, None, refl, sym, subst}
 use Rattle.plan_desk.specs.Desk.{Shown, TellsNames}
 use Rattle.plan_desk.specs.Contents.{Says}
 use Rattle.plan_desk.specs.FileWrites.{after_writes}
@@ -11,7 +11,7 @@ use Rattle.band_rebound.specs.declared.rebounded.Rebounded.{Rebounded}
 use Rattle.band_rebound.specs.Rebounds.{IsReboundOf}
 use Rattle.command_frame.specs.Sources.{Source}
 use Rattle.command_frame.specs.Reports.{accepted_report}
-use Rattle.command_frame.specs.Ending.{Writing, Answer, files_of, reply, Ends}
+use Rattle.command_frame.specs.Ending.{Answer, files_of, reply, Ends}
 use Rattle.command_frame.specs.Ending.OrMemory.{answers, no_memory}
 use Rattle.command_frame.specs.Bytes.{TakesOne, RefusesInstance, SpellsCertificate, SpellsOne, RefusesCertificate}
 use Rattle.command_frame.specs.Bytes.{IsRefusedCertificate}

@@ -1,5 +1,5 @@
 -- What the steps of the command come to. Cited by private functions only: no part of any promise.
-use Rattle.std.specs.Prelude.{◌≡◌, ℕ, List, length}
+use Rattle.std.specs.Prelude.{◌≡◌, ℕ, List}
 use Rattle.plan_desk.specs.Desk.{Shown}
 use Rattle.plan_desk.specs.Contents.{KeepsFiles}
 use Rattle.instance_model.specs.declared.limits.Limits.{Limits}
