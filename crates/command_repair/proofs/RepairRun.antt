@@ -1,6 +1,5 @@
 -- What a run of `repair` promises follows from its end.
-use Rattle.std.proofs.Common.{◌≡◌, ◌≢◌, ◌⊎◌, inl, inr, ℕ, refl, sym, ◌∙◌, ap, subst, arith, List, [], ◌∷◌}
-use Rattle.std.proofs.Common.{map, Option, Some, None}
+use Rattle.std.proofs.Common.{◌≡◌, ◌≢◌, ◌⊎◌, inl, inr, ℕ, refl, sym, ◌∙◌, ap, subst, arith, List, [], ◌∷◌, Option}
 use Rattle.std.proofs.lemmas.List.Elements.{All-nil, All-cons}
 use Rattle.plan_desk.specs.Desk.{Shown, TellsNames}
 use Rattle.plan_desk.specs.Contents.{HoldsBytes, Says, OnlyReads, KeepsFiles}

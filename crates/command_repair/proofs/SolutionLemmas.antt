@@ -1,6 +1,5 @@
 -- What was made of an instance and old starts is an answer to them.
-use Rattle.std.proofs.Common.{◌≡◌, ℕ, ◌*◌, ◌+◌, ◌≤◌, refl, sym, subst, arith, ℤ, List, [], ◌∷◌, length, map}
-use Rattle.std.proofs.Common.{Option, Some, None, All}
+use Rattle.std.proofs.Common.{◌≡◌, ℕ, ◌≤◌, refl, sym, subst, arith, List, [], ◌∷◌, length, map, Option, Some, None, All}
 use Rattle.std.specs.Prelude.{IfSome}
 use Rattle.std.proofs.lemmas.List.Elements.{All-nil, All-cons}
 use Rattle.instance_model.specs.Limits.{standard_limits}
@@ -23,7 +22,6 @@ use Rattle.command_frame.specs.Ending.{Writing}
 use Rattle.descent_ends.specs.Openings.{IsWithoutStart, empty_certificate}
 use Rattle.command_frame.specs.Writing.{IsWritablePlan}
 use Rattle.command_frame.proofs.PlanWrites.{writable_plan, spelled_plan}
-use Rattle.fewest_changes.specs.declared.repairing.Repair.{Repair}
 use Rattle.fewest_changes.specs.Repaired.{IsRepairOf, ComesTo, IsMadeRepair}
 use Rattle.command_repair.specs.Repairing.{RepairFiles, none_report, cert_write, IsReadable, Repairs}
 use Rattle.command_answers.specs.Accepting.{IsAuditable, IsShortValidFor}

@@ -1,4 +1,4 @@
-use Rattle.std.proofs.Common.{List, ℕ, Option, ◌∙◌, subst}
+use Rattle.std.proofs.Common.{List, ℕ, Option, subst}
 use Rattle.instance_model.specs.Limits.{standard_limits}
 use Rattle.command_frame.specs.Refusals.{SaysOrFails}
 use Rattle.command_repair.specs.Repairing.{Repairs}
