@@ -1,15 +1,11 @@
 -- The bytes of the files of a replay have one answer.
-use Rattle.std.proofs.Common.{◌≡◌, ℕ, List, [], ◌∷◌, ◌++◌, length, map, Option, Some, None, refl, sym, ◌∙◌, ap, subst}
-use Rattle.std.proofs.Common.{arith}
+use Rattle.std.proofs.Common.{◌≡◌, ℕ, List, ◌++◌, length, Option, refl, sym, ◌∙◌, ap, subst, arith}
 use Rattle.plan_moves.specs.declared.script_line.ScriptLine.{ScriptLine}
 use Rattle.plan_moves.specs.Scripts.{Succeeds, FailsAt}
 use Rattle.move_script.specs.Replays.{replay_text, FailsByStart, FailsByUndo}
 use Rattle.instance_model.specs.declared.limits.Limits.{Limits}
 use Rattle.instance_model.specs.Tables.{Tables}
 use Rattle.instance_model.specs.Rules.{first_start_rule}
-use Rattle.instance_model.specs.declared.rule.Rule.{Rule}
-use Rattle.instance_model.proofs.KeyLemmas.{has_allowed_start}
-use Rattle.instance_model.proofs.RuleLemmas.{first_start_rule-none}
 use Rattle.command_frame.specs.Lines.{end_line, not_allowed_line, nothing_to_undo_line}
 use Rattle.command_frame.specs.Reports.{infeasible_report}
 use Rattle.command_frame.specs.Ending.{reply, IsOneAnswer}

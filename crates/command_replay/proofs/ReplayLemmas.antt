@@ -17,7 +17,7 @@ use Rattle.command_frame.specs.Lines.{memory_line, end_line, not_allowed_line, n
 use Rattle.command_frame.specs.Ending.{Answer, reply, SayFails}
 use Rattle.command_frame.specs.Files.{reading}
 use Rattle.command_frame.specs.Files.OnFile.{stands}
-use Rattle.command_frame.specs.Openings.{IsOpeningOf, OpensAs}
+use Rattle.command_frame.specs.Openings.{OpensAs}
 use Rattle.command_replay.specs.Replaying.{Replays, AnswersReplay}
 use Rattle.command_replay.specs.Replaying.Replays.{broken_start, ended, not_allowed, nothing_to_undo}
 use Rattle.instance_model.specs.declared.limits.Limits.{Limits}
