@@ -1,5 +1,5 @@
 //! The command `roll`: both files are read, the text of the rolled instance is written, and the report is said.
-ghost use Rattle.std.specs.Prelude.{◌≡◌, ◌<◌, ◌≤◌, ◌^◌, length, IfOk, IfErr, OnOk};
+ghost use Rattle.std.specs.Prelude.{◌≡◌, ◌<◌, ◌≤◌, length, IfOk, IfErr, OnOk};
 ghost use Rattle.instance_shape.specs.Ranges.{AreStandard};
 ghost use Rattle.plan_desk.specs.Contents.{OnlyReads};
 ghost use Rattle.plan_roll.specs.Texts.{rolled_text as text_of};
