@@ -9,8 +9,6 @@ ghost use Rattle.plan_desk.specs.Written.{SaysText};
 ghost use Rattle.plan_table.specs.Texts.{report_text, NamesWithin};
 ghost use Rattle.command_frame.specs.Sources.{source_view};
 ghost use Rattle.command_frame.specs.Files.{reading};
-ghost use Rattle.command_frame.specs.Lines.{end_line};
-ghost use Rattle.command_frame.specs.Reports.{rounded_line};
 ghost use Rattle.command_frame.specs.Refusals.{CountsRefusal, IsDueAs, SaysAnswer, SaysOrFails};
 ghost use Rattle.command_table.specs.Tabling.{reports_of, table_text, Tabulates, AnswersTable, RunsTable};
 ghost use Rattle.command_table.specs.Read.{AreRead};
