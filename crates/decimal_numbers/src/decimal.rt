@@ -1,8 +1,8 @@
 //! What is read of number tokens: counts of 10^-12, whole numbers and millionths.
-ghost use Rattle.std.specs.Prelude.{◌≡◌, ◌≤◌, ◌<◌, ◌^◌, ℕ, ℤ, unsigned_abs, Bool, Some, None, IfSome, IfOk, OnErr};
+ghost use Rattle.std.specs.Prelude.{◌≡◌, ◌<◌, ◌^◌, ℕ, ℤ, unsigned_abs, Bool, Some, None, IfSome, IfOk, OnErr};
 ghost use Rattle.std.specs.Prelude.{MatchResult};
 ghost use Rattle.json_grammar.specs.Tree as json;
-ghost use Rattle.decimal_numbers.specs.Decimal.{IsFixedOf, IsTooLarge, IsExactly, IsWholeOf, IsMillionthsOf, signed};
+ghost use Rattle.decimal_numbers.specs.Decimal.{IsFixedOf, IsTooLarge, IsWholeOf, IsMillionthsOf, signed};
 ghost use Rattle.decimal_numbers.specs.Exact.{fixed, exactly, whole, millionths};
 ghost use Rattle.decimal_numbers.specs.Scaling.{counted_size, unrounded_size};
 ghost use Rattle.json_grammar.specs.Trees.{node_view};

@@ -1,5 +1,5 @@
 //! A number token as a rounded count of a power of ten.
-ghost use Rattle.std.specs.Prelude.{◌≡◌, ◌<◌};
+ghost use Rattle.std.specs.Prelude.{◌<◌};
 ghost use Rattle.decimal_numbers.specs.Decimal.{numerator, denominator};
 ghost use Rattle.decimal_numbers.specs.Scaling.{HasDigits, Rounds};
 ghost use Rattle.json_grammar.specs.Split.{parts_view};

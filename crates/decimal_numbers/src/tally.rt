@@ -1,5 +1,5 @@
 //! Digits as they come, rounded behind the last one that is kept.
-ghost use Rattle.std.specs.Prelude.{◌≡◌, ◌≤◌, ◌<◌, ◌+◌, ◌-◌, ◌*◌, ◌^◌, ◌++◌, ℕ, length, nat_lt};
+ghost use Rattle.std.specs.Prelude.{◌≡◌, ◌<◌, ◌+◌, ◌-◌, ◌*◌, ◌^◌, ◌++◌, ℕ, length, nat_lt};
 ghost use Rattle.json_grammar.specs.Grammar.{IsDigit};
 ghost use Rattle.decimal_numbers.specs.Decimal.{number, number_from};
 ghost use Rattle.decimal_numbers.specs.Scaling.{AreAllDigits, Rounds};
