@@ -1,5 +1,5 @@
 //! The search for few changes, and the plan that it gives back.
-ghost use Rattle.std.specs.Prelude.{◌≡◌, ◌≤◌, IfOk, IfSome, option_map};
+ghost use Rattle.std.specs.Prelude.{◌≡◌, IfOk, IfSome, option_map};
 ghost use Rattle.branch_search.specs.Best.{IsFeasiblePlan};
 ghost use Rattle.fewest_changes.specs.Openings.{IsKeptOpening};
 ghost use Rattle.fewest_changes.specs.Repaired.{IsBackOf, IsMadeRepair};
