@@ -1,10 +1,9 @@
 //! What is drawn: durations, loads and risks, in the order of the words.
 
-ghost use Rattle.std.specs.Prelude.{◌≡◌, ℕ, ◌+◌, ◌<◌, ◌≤◌, [], slice_index, length, IfOk, OnOk};
-ghost use Rattle.instance_gen.specs.Drawing.{generator_of, draw, whole, with_durations, with_first_load};
-ghost use Rattle.instance_gen.specs.Drawing.{with_second_load, with_risk, with_risks};
-ghost use Rattle.instance_gen.specs.Drawing.{with_period, with_run, with_starts};
-ghost use Rattle.instance_gen.specs.Drawing.{with_intervention, interventions_of};
+ghost use Rattle.std.specs.Prelude.{◌≡◌, ℕ, ◌+◌, ◌<◌, [], slice_index, length, IfOk, OnOk};
+ghost use Rattle.instance_gen.specs.Drawing.{draw, whole, with_durations, with_first_load, with_second_load, with_risk};
+ghost use Rattle.instance_gen.specs.Drawing.{with_risks, with_period, with_run, with_starts, with_intervention};
+ghost use Rattle.instance_gen.specs.Drawing.{interventions_of};
 
 use fixed_num::Fixed;
 use instance_model::LoadCell;

@@ -1,8 +1,7 @@
 //! The tables of the drawn instance: what is drawn, and what the count of interventions gives.
 
-ghost use Rattle.std.specs.Prelude.{◌≡◌, ℕ, ◌+◌, ◌*◌, ◌<◌, ◌≤◌, ◌/◌, ◌++◌, map, length};
-ghost use Rattle.std.specs.Prelude.{replicate, string_bytes, IfOk, OnOk};
-ghost use Rattle.std.specs.Prelude.{decimal, codes, nat_le, ◌&&◌};
+ghost use Rattle.std.specs.Prelude.{◌≡◌, ◌+◌, ◌*◌, ◌<◌, ◌≤◌, ◌/◌, ◌++◌, map, string_bytes, IfOk, OnOk, decimal, codes};
+ghost use Rattle.std.specs.Prelude.{nat_le, ◌&&◌};
 ghost use Rattle.instance_model.specs.View.{tables_of};
 ghost use Rattle.instance_gen.specs.Drawn.{drawn_exclusions, drawn_tables, level_limits, level_scenarios};
 ghost use Rattle.instance_gen.specs.Drawn.{numbered_names, season_from};
