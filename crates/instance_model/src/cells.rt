@@ -1,5 +1,5 @@
 //! The search for a workload among the cells of an intervention, which are in strict order.
-ghost use Rattle.std.specs.Prelude.{◌≡◌, ℕ, ◌<◌, ◌↔◌, length, IfSome, IfNone, IsTrue, slice_index_or, AllPairs};
+ghost use Rattle.std.specs.Prelude.{ℕ, ◌<◌, ◌↔◌, length, IfSome, IfNone, IsTrue, slice_index_or, AllPairs};
 ghost use Rattle.instance_model.specs.declared.parts.LoadCell.{LoadCell};
 ghost use Rattle.instance_model.specs.Fitting.{KeyBefore, CellBefore, HasKey};
 

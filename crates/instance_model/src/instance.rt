@@ -1,8 +1,6 @@
 //! The instance: contracts see it as the record `Tables`, and each call reads one function of those tables.
-ghost use Rattle.std.specs.Prelude.{◌^◌, ◌≡◌, ℕ, ◌+◌, ◌<◌, ◌≤◌, ◌*◌, length, IfOk, IfSome, IfNone, IsTrue, Contains};
-ghost use Rattle.std.specs.Prelude.{[]};
-ghost use Rattle.std.specs.Prelude.{slice_index, slice_index_or, slice_get, None, Some, position, bytes_eq};
-ghost use Rattle.std.specs.Prelude.{unsigned_abs};
+ghost use Rattle.std.specs.Prelude.{◌^◌, ◌≡◌, ◌+◌, ◌<◌, ◌≤◌, ◌*◌, length, IfOk, IfSome, IfNone, IsTrue, Contains, []};
+ghost use Rattle.std.specs.Prelude.{slice_index_or, slice_get, None, Some, position, bytes_eq, unsigned_abs};
 ghost use Rattle.fixed_num.specs.Sums.{list_of};
 ghost use Rattle.instance_model.specs.Fitting.{IsFitting, AreCells};
 ghost use Rattle.instance_model.specs.RiskNumbers.{numbers_of};
