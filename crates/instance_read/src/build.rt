@@ -1,6 +1,6 @@
 //! The instance of what was kept.
 
-ghost use Rattle.std.specs.Prelude.{◌≡◌, ℕ, List, None, IfOk, IfErr};
+ghost use Rattle.std.specs.Prelude.{ℕ, List, None, IfOk, IfErr};
 ghost use Rattle.instance_model.specs.declared.limits.Limits.{Limits as Sizes};
 ghost use Rattle.instance_shape.specs.Defined.{Defines};
 ghost use Rattle.instance_shape.specs.Ranges.{AreStandard, IsSlack};

@@ -1,9 +1,8 @@
 //! What is kept of a text, event by event.
 
-ghost use Rattle.std.specs.Prelude.{◌≡◌, ◌+◌, ℕ, List, cond, false, map, string_bytes, IfOk, OnOk};
+ghost use Rattle.std.specs.Prelude.{◌≡◌, ◌+◌, ℕ, List, cond, false, map, string_bytes, OnOk};
 ghost use Rattle.json_grammar.specs.Tree as json;
 ghost use Rattle.json_grammar.specs.Events.{event_view};
-ghost use Rattle.instance_rows.specs.FileRows as file;
 ghost use Rattle.instance_rows.specs.Views.{rows_view};
 ghost use Rattle.shape_walk.specs.Reads.{read_of, read_of_text, read_of_key};
 ghost use Rattle.instance_shape.specs.Shape.{kind_of};

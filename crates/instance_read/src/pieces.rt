@@ -1,6 +1,6 @@
 //! Feeding a reader piece by piece.
 
-ghost use Rattle.std.specs.Prelude.{◌≡◌, [], OnOk};
+ghost use Rattle.std.specs.Prelude.{[], OnOk};
 ghost use Rattle.json_events.specs.Pulls.{IsUnfinished};
 ghost use Rattle.instance_model.specs.declared.limits.Limits.{Limits as Sizes};
 ghost use Rattle.instance_read.specs.Fed.{HasRead};

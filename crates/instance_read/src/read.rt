@@ -1,6 +1,6 @@
 //! The two calls.
-ghost use Rattle.std.specs.Prelude.{◌≡◌, ◌≢◌, ◌<◌, ◌≤◌, ℕ, List, [], length, None, Some, Err, IfOk, OnOk, OnErr, IfErr};
-ghost use Rattle.std.specs.Prelude.{IfSome, IsErrOf, MatchResult};
+ghost use Rattle.std.specs.Prelude.{◌≡◌, ◌<◌, [], length, None, Some, Err, IfOk, OnOk, OnErr, IfErr, IfSome, IsErrOf};
+ghost use Rattle.std.specs.Prelude.{MatchResult};
 ghost use Rattle.plan_desk.specs.Desk.{ShowsSame, after_take_in};
 ghost use Rattle.plan_desk.specs.Faults.{IsReadFaultOf};
 ghost use Rattle.plan_desk.specs.Contents.{WhereToldHolds};

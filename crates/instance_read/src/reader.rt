@@ -24,7 +24,7 @@ pub struct Reader {
 }
 
 impl Reader {
-    ghost use Rattle.std.specs.Prelude.{◌≡◌, ◌++◌, [], ℕ, List, IfOk, OnOk, IfErr};
+    ghost use Rattle.std.specs.Prelude.{◌++◌, [], ℕ, List, IfOk, OnOk, IfErr};
     ghost use Rattle.json_events.specs.Pulls.{IsUnfinished};
     ghost use Rattle.instance_model.specs.declared.limits.Limits.{Limits as Sizes};
     ghost use Rattle.instance_shape.specs.Defined.{Defines};

@@ -1,7 +1,7 @@
 //! Reading an instance from a device.
 
-ghost use Rattle.std.specs.Prelude.{◌≡◌, ◌<◌, ◌≤◌, ℕ, List, [], length, Some, Err, IfOk, OnOk, OnErr, IfSome, IsErrOf};
-ghost use Rattle.std.specs.Prelude.{IsTrue, MatchResult};
+ghost use Rattle.std.specs.Prelude.{◌≡◌, ◌<◌, ◌≤◌, ℕ, [], length, Some, Err, IfOk, OnOk, IfSome, IsErrOf, IsTrue};
+ghost use Rattle.std.specs.Prelude.{MatchResult};
 ghost use Rattle.json_events.specs.Pulls.{IsUnfinished};
 ghost use Rattle.plan_desk.specs.Desk.{ShowsSame, after_read, all_read};
 ghost use Rattle.plan_desk.specs.Contents.{IsCountAt};
