@@ -1,6 +1,6 @@
 //! The numbers of names, and the texts of exclusions.
 
-ghost use Rattle.std.specs.Prelude.{◌≡◌, ℕ, ◌≤◌, [], IfOk, length, map, string_bytes, slice_index_or};
+ghost use Rattle.std.specs.Prelude.{◌≡◌, ◌≤◌, [], IfOk, length, map, string_bytes, slice_index_or};
 ghost use Rattle.instance_shape.specs.CrossFaults.{is_among, unknown, unless};
 ghost use Rattle.instance_shape.specs.FileTables.{number_among};
 ghost use Rattle.instance_rows.specs.Answers.{Tells};

@@ -1,7 +1,6 @@
 //! Which lists of risks the allowed runs of an intervention take, in the order of the tables.
 
-ghost use Rattle.std.specs.Prelude.{◌≡◌, ◌+◌, ◌-◌, ◌<◌, ◌≤◌, ◌++◌, true, Some, IfOk, OnOk, find, length, slice_index};
-ghost use Rattle.std.specs.Prelude.{vec_len};
+ghost use Rattle.std.specs.Prelude.{◌≡◌, ◌+◌, ◌-◌, ◌<◌, ◌≤◌, ◌++◌, Some, IfOk, OnOk, find, length, vec_len};
 ghost use Rattle.instance_rows.specs.Answers.{Tells};
 ghost use Rattle.instance_rows.specs.Grid.{IsGridOf, order_of, place_of, run_order, runs_order};
 ghost use Rattle.instance_rows.specs.RowFaults.{is_list_at, list_fault, run_fault, runs_fault, used_durations};

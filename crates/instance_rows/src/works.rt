@@ -1,6 +1,6 @@
 //! The faults of interventions, and the order of their lists of risks.
 
-ghost use Rattle.std.specs.Prelude.{◌≡◌, ◌≤◌, IfOk, map, vec_len};
+ghost use Rattle.std.specs.Prelude.{◌≡◌, IfOk, map, vec_len};
 ghost use Rattle.instance_rows.specs.Answers.{Tells};
 ghost use Rattle.instance_rows.specs.Grid.{order_of};
 ghost use Rattle.instance_rows.specs.RowFaults.{work_fault, works_fault};
