@@ -1,18 +1,13 @@
 -- Bytes have one answer: an instance, or a fault.
-use Rattle.std.proofs.Common.{◌≡◌, ℕ, ℤ, suc, ◌+◌, ◌<◌, ◌≤◌, ◌⊎◌, inl, inr, List, [], ◌++◌, length, take, drop, Option}
-use Rattle.std.proofs.Common.{Some, None, refl, sym, ◌∙◌, ap, subst, arith, append_assoc, take-append-drop, take-take}
-use Rattle.std.proofs.Common.{Bool, true, false, nat_lt}
-use Rattle.std.proofs.lemmas.Bool.Decides.{nat_tests}
+use Rattle.std.proofs.Common.{◌≡◌, ℕ, ℤ, ◌⊎◌, inl, inr, List, [], Some, None, sym, ◌∙◌, ap, subst, arith}
 use Rattle.json_grammar.specs.Tree.{Tree}
-use Rattle.json_grammar.specs.Grammar.{IsElement}
-use Rattle.json_grammar.specs.Prefix.{IsPrefix, IsSyntaxFault, IsDepthFault, IsShallow, first_past}
 use Rattle.json_laws.proofs.Laws.{one_tree}
 use Rattle.json_laws.proofs.Loop.{no_syntax_fault, no_depth_fault}
 use Rattle.json_laws.proofs.OnePlace.{one_syntax, one_depth, syntax_or_depth}
 use Rattle.instance_model.specs.Tables.{Tables}
 use Rattle.instance_model.specs.declared.limits.Limits.{Limits}
 use Rattle.instance_shape.specs.declared.fault.Fault.{Fault}
-use Rattle.instance_shape.specs.ShapeFaults.{shape_faults, row_of, IsBefore, Among, IsLeast}
+use Rattle.instance_shape.specs.ShapeFaults.{shape_faults, IsBefore, Among, IsLeast}
 use Rattle.instance_shape.specs.CrossFaults.{CrossFault, cross_fault}
 use Rattle.instance_shape.specs.FileTables.{tables}
 use Rattle.instance_shape.specs.Defined.{IsTreeOf, Defines, HasShapeFault, HasCrossFault}

@@ -10,9 +10,9 @@ use Rattle.decimal_numbers.proofs.Rounding.{ten_positive}
 use Rattle.instance_model.specs.declared.limits.Limits.{Limits}
 use Rattle.instance_model.specs.Exact.{with_risks, RoundsTo, IsReading}
 use Rattle.instance_model.specs.Tables as model
-use Rattle.instance_model.specs.Tables.{Tables, allowed_of, entries_of, entries_at, entries_before, entry_place}
-use Rattle.instance_model.specs.Tables.{risk_place, risk_of, soft_of, tmax, is_allowed, delta_of, in_run, scenarios_of}
-use Rattle.instance_model.specs.Tables.{scenarios_before, periods_before}
+use Rattle.instance_model.specs.Tables.{Tables, entries_of, entries_at, entries_before, entry_place, risk_place}
+use Rattle.instance_model.specs.Tables.{risk_of, soft_of, tmax, is_allowed, delta_of, in_run, scenarios_of}
+use Rattle.instance_model.specs.Tables.{scenarios_before}
 use Rattle.instance_model.proofs.EntryLemmas.{IsRunning, IsRunning-from}
 use Rattle.instance_shape.specs.declared.spot.Spot.TheVariants as spot
 use Rattle.instance_shape.specs.CrossFaults.{cross_fault}

@@ -5,9 +5,8 @@ use Rattle.std.specs.Prelude.{slice_index, slice_index_or}
 use Rattle.std.proofs.lemmas.List.{get_or-map, length-map}
 use Rattle.json_grammar.specs.Tree.{Tree, tree, Node}
 use Rattle.instance_model.specs.Tables as model
-use Rattle.instance_model.specs.Tables.{Tables, allowed_of, entries_of, entries_at, entries_before, entry_place}
-use Rattle.instance_model.specs.Tables.{risk_place, risk_of, soft_of, tmax, is_allowed, delta_of, in_run, scenarios_of}
-use Rattle.instance_model.specs.Tables.{scenarios_before, periods_before}
+use Rattle.instance_model.specs.Tables.{allowed_of, entry_place, risk_place, risk_of, soft_of, is_allowed, in_run}
+use Rattle.instance_model.specs.Tables.{scenarios_of, scenarios_before, periods_before}
 use Rattle.instance_model.proofs.EntryLemmas.{IsRunning, IsRunning-from, entry_place_below, scenarios_before_rises}
 use Rattle.instance_model.proofs.EntryLemmas.{scenarios_before_more}
 use Rattle.instance_model.proofs.FitLemmas.{is_allowed_is, delta_of_is, tmax_is}

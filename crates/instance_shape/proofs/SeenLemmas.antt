@@ -1,10 +1,9 @@
 -- The keys of a set that has grown.
-use Rattle.std.proofs.Common.{◌≡◌, ℕ, List, [], ◌∷◌, ◌++◌, Bool, true, false, cond, not, refl, sym, ◌∙◌, ap, IsTrue}
-use Rattle.std.proofs.Common.{nat_eq}
+use Rattle.std.proofs.Common.{◌≡◌, ℕ, List, [], ◌∷◌, ◌++◌, Bool, true, false, not, refl, ◌∙◌, ap, IsTrue, nat_eq}
 use Rattle.std.specs.List.{list_any}
 use Rattle.std.specs.Prelude.{◌||◌, string_bytes, string_eq, bytes_eq, if◌then◌else◌}
 use Rattle.std.specs.declared.string.String.{String}
-use Rattle.instance_shape.specs.Keys.{Key, by_text, by_number, has_key}
+use Rattle.instance_shape.specs.Keys.{by_text, by_number, has_key}
 use Rattle.instance_shape.specs.Seen.{texts_of, numbers_of}
 
 pub numbers_has : (ks : List ℕ) (k : ℕ) → has_key (numbers_of ks) (by_number k) ≡ list_any (nat_eq k) ks

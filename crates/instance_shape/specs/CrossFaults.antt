@@ -1,7 +1,6 @@
 -- Defines the faults across a file, in the order in which they are looked for.
-use Rattle.std.specs.Prelude.{◌≡◌, ℕ, zero, suc, ◌+◌, ◌-◌, ◌*◌, ℤ, pos, ◌+ℤ◌, ◌-ℤ◌, Bool, true, false, ◌&&◌, ◌||◌, ◌==◌}
-use Rattle.std.specs.Prelude.{List, [], ◌∷◌, ◌++◌, Option, Some, None, cond, bytes_eq, map, unwrap_or, option_map}
-use Rattle.std.specs.Prelude.{slice_index, slice_index_or, length, nat_le, nat_lt, not, take, is_some, position, sum}
+use Rattle.std.specs.Prelude.{ℕ, ◌+◌, ◌-◌, Bool, ◌&&◌, ◌==◌, List, [], ◌∷◌, Option, Some, None, cond, bytes_eq}
+use Rattle.std.specs.Prelude.{slice_index, slice_index_or, length, nat_le, nat_lt, is_some, position}
 use Rattle.instance_model.specs.Tables.{allowed_of}
 use Rattle.instance_model.specs.Rules.{first_of, or_else}
 use Rattle.json_grammar.specs.Tree.{Tree, tree, Node}

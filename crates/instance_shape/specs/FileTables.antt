@@ -1,7 +1,7 @@
 -- Defines the tables of the instance of a file: each entry is looked up in the text by its keys.
-use Rattle.std.specs.Prelude.{◌≡◌, ℕ, zero, suc, ◌+◌, ◌-◌, ◌*◌, ℤ, pos, ◌+ℤ◌, ◌-ℤ◌, Bool, true, false, ◌&&◌, ◌||◌, ◌==◌}
-use Rattle.std.specs.Prelude.{List, [], ◌∷◌, ◌++◌, Option, Some, None, cond, bytes_eq, map, unwrap_or, option_map}
-use Rattle.std.specs.Prelude.{slice_index, slice_index_or, length, nat_le, nat_lt, not, take, is_some, position, sum}
+use Rattle.std.specs.Prelude.{ℕ, zero, suc, ◌+◌, ℤ, ◌+ℤ◌, ◌-ℤ◌, Bool, true, false, ◌&&◌, ◌||◌, ◌==◌, List, [], ◌∷◌}
+use Rattle.std.specs.Prelude.{◌++◌, Option, Some, None, cond, bytes_eq, map, unwrap_or, slice_index, slice_index_or}
+use Rattle.std.specs.Prelude.{length, is_some, position}
 use Rattle.instance_model.specs.declared.parts.LoadCell.{LoadCell}
 use Rattle.instance_model.specs.declared.parts.Exclusion.{Exclusion}
 use Rattle.instance_model.specs.Tables.{Tables, allowed_of}

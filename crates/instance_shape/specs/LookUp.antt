@@ -1,7 +1,6 @@
 -- Defines what is looked up in the tree of a text: the value under a key, and the parts of an instance by their keys.
-use Rattle.std.specs.Prelude.{◌≡◌, ℕ, zero, suc, ◌+◌, ◌-◌, ◌*◌, ℤ, pos, ◌+ℤ◌, ◌-ℤ◌, Bool, true, false, ◌&&◌, ◌||◌, ◌==◌}
-use Rattle.std.specs.Prelude.{List, [], ◌∷◌, ◌++◌, Option, Some, None, cond, bytes_eq, map, unwrap_or, option_map}
-use Rattle.std.specs.Prelude.{slice_index, slice_index_or, length, nat_le, nat_lt, not, take, is_some, position, sum}
+use Rattle.std.specs.Prelude.{ℕ, ℤ, pos, Bool, false, ◌&&◌, ◌==◌, List, [], ◌∷◌, Option, Some, None, cond, bytes_eq}
+use Rattle.std.specs.Prelude.{map, unwrap_or, option_map, take}
 use Rattle.json_grammar.specs.Tree.{Tree, tree, Node, Trees, no_trees, and_tree, Members, no_members, and_member}
 use Rattle.decimal_numbers.specs.Exact.{whole, fixed, millionths}
 use Rattle.instance_shape.specs.declared.fault.Known.{Known}

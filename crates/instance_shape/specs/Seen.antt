@@ -1,5 +1,5 @@
 -- Defines the keys that a set holds.
-use Rattle.std.specs.Prelude.{ℕ, List, [], ◌∷◌, map, string_bytes}
+use Rattle.std.specs.Prelude.{ℕ, List, [], ◌∷◌, string_bytes}
 use Rattle.instance_shape.specs.Keys.{Key, by_text, by_number}
 use Rattle.std.specs.declared.string.String.{String}
 

@@ -1,6 +1,6 @@
 -- Defines the shape of an instance: the spots at which values stand, and what has to stand at each.
-use Rattle.std.specs.Prelude.{ℕ, ◌+◌, Bool, true, false, ◌&&◌, List, [], ◌∷◌, ◌++◌, Option, Some, None, cond, nat_le}
-use Rattle.std.specs.Prelude.{nat_lt, bytes_eq, is_some, option_map, unwrap_or}
+use Rattle.std.specs.Prelude.{ℕ, ◌+◌, Bool, true, false, ◌&&◌, List, [], ◌∷◌, ◌++◌, cond, nat_le, nat_lt, bytes_eq}
+use Rattle.std.specs.Prelude.{is_some, option_map, unwrap_or}
 use Rattle.json_grammar.specs.Tree.{Tree, tree, Node, Trees, no_trees, and_tree, Members, no_members, and_member}
 use Rattle.decimal_numbers.specs.Exact.{whole, millionths}
 use Rattle.instance_shape.specs.declared.fault.Known.{Known}

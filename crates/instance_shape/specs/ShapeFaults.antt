@@ -1,7 +1,6 @@
 -- Defines the faults of shape of a text, each with its place, and which of them counts.
-use Rattle.std.specs.Prelude.{◌≡◌, ℕ, ◌+◌, ◌-◌, ◌<◌, ◌⊎◌, Bool, true, false, ◌&&◌, ◌||◌, ◌==◌, List, [], ◌∷◌, ◌++◌}
-use Rattle.std.specs.Prelude.{Option, Some, None, cond, nat_le, nat_lt, not, bytes_eq, is_some, is_none, option_map}
-use Rattle.std.specs.Prelude.{unwrap_or, length, slice_get, filter, map, Contains}
+use Rattle.std.specs.Prelude.{◌≡◌, ℕ, ◌+◌, ◌<◌, ◌⊎◌, Bool, true, false, ◌&&◌, ◌==◌, List, [], ◌∷◌, ◌++◌, Option, Some}
+use Rattle.std.specs.Prelude.{None, cond, nat_le, nat_lt, not, is_none, length, slice_get}
 use Rattle.std.proofs.Common.{pred}
 use Rattle.json_grammar.specs.Tree.{Tree, tree, Node, Trees, no_trees, and_tree, Members, no_members, and_member}
 use Rattle.decimal_numbers.specs.Exact.{whole, fixed}

@@ -1,7 +1,6 @@
 //! The keys that an open object has had.
 
-ghost use Rattle.std.specs.Prelude.{◌≡◌, ◌∷◌, [], ◌++◌, cond, Some, None, Bool, true, false, not, IfOk, OnOk, IsTrue};
-ghost use Rattle.std.specs.Prelude.{◌↔◌, string_bytes, map, length};
+ghost use Rattle.std.specs.Prelude.{◌≡◌, ◌∷◌, [], ◌++◌, not, IfOk, IsTrue, string_bytes};
 ghost use Rattle.instance_shape.specs.Keys.{has_key, by_text, by_number};
 ghost use Rattle.instance_shape.specs.Seen.{texts_of, numbers_of};
 

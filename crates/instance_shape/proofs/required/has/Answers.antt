@@ -1,4 +1,4 @@
-use Rattle.std.proofs.Common.{◌≡◌, sym, ◌∙◌}
+use Rattle.std.proofs.Common.{sym, ◌∙◌}
 use Rattle.instance_shape.proofs.SeenLemmas.{bytes_has}
 use Rattle.instance_shape.proofs.required.has.Goals as goal
 

@@ -1,4 +1,4 @@
-use Rattle.std.proofs.Common.{◌≡◌, not, sym, ◌∙◌, ap}
+use Rattle.std.proofs.Common.{not, sym, ◌∙◌, ap}
 use Rattle.instance_shape.proofs.SeenLemmas.{numbers_has, numbers_more}
 use Rattle.instance_shape.proofs.seen.add_number.Goals as goal
 
