@@ -6,7 +6,6 @@ use Rattle.std.proofs.lemmas.Bool.{le-leb}
 use Rattle.std.proofs.lemmas.Bool.Decides.{nat_tests}
 use Rattle.std.proofs.lemmas.Fmt.{length-decimal-le, decimal_nonempty}
 use Rattle.json_grammar.specs.Grammar.{AreDigits}
-use Rattle.decimal_numbers.specs.Decimal.{number}
 use Rattle.decimal_numbers.specs.Decimal as decimals
 use Rattle.instance_shape.specs.Keys.{all_bytes, is_digit, is_digits, number_from, number_of}
 use Rattle.instance_text.proofs.Tokens.{decimal_is, digits_of_int}

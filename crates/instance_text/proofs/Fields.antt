@@ -18,8 +18,7 @@ use Rattle.instance_model.proofs.EntryLemmas.{IsRunning-from, entry_place_below,
 use Rattle.instance_model.proofs.EntryLemmas.{scenarios_before_more, periods_before_rises, periods_before_more}
 use Rattle.instance_shape.specs.declared.fault.Known.TheVariants as is
 use Rattle.instance_shape.specs.LookUp as file
-use Rattle.instance_shape.specs.LookUp.{Entry, known, entries, keys, elements, whole_at, count_at, text_at, part_at}
-use Rattle.instance_shape.specs.LookUp.{workload}
+use Rattle.instance_shape.specs.LookUp.{known, entries, keys, elements, count_at, part_at, workload}
 use Rattle.instance_shape.specs.FileTables.{lists_below, all_below, each_run, cell_of, cells_at, risks_at, soft_at}
 use Rattle.instance_shape.specs.FileTables.{word}
 use Rattle.instance_shape.specs.FileTables.{exclusion, number_among, in_season}

@@ -15,7 +15,6 @@ use Rattle.instance_model.proofs.EntryLemmas.{IsRunning-from}
 use Rattle.instance_shape.specs.declared.fault.Known.TheVariants as is
 use Rattle.instance_shape.specs.LookUp as file
 use Rattle.instance_shape.specs.LookUp.{known, keys, elements, whole_at, count_at, at_key, at_number, number_in}
-use Rattle.instance_shape.specs.LookUp.{risk_list}
 use Rattle.instance_shape.specs.LookUp.{workload}
 use Rattle.instance_shape.specs.FileTables.{cell_of, risks_at, soft_at}
 use Rattle.instance_text.specs.Conditions.{SpellsCount, SpellsNumbers, HasSpellableNames, IsWithin}
