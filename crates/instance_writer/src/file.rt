@@ -16,7 +16,7 @@ pub struct OpenFile<'a, D: Desk> {
 
 impl<'a, D: Desk> OpenFile<'a, D> {
     ghost use Rattle.std.specs.Prelude.{[], false};
-    ghost use Rattle.instance_writer.specs.Sinks.{Progress, TakesText, EndsAs};
+    ghost use Rattle.instance_writer.specs.Sinks.{TakesText, EndsAs};
 
     pub fn new(desk: &'a mut D) -> Self
         ensures same_reference { result.desk.ghost_name ≡ desk.entry.ghost_name }
@@ -65,7 +65,7 @@ impl<'a, D: Desk> OpenFile<'a, D> {
 impl<D: Desk> Sink for OpenFile<'_, D> {
     ghost use Rattle.std.specs.Prelude.{refl};
     ghost use Rattle.std.proofs.Common.{◌∙◌};
-    ghost use Rattle.instance_writer.specs.Sinks.{Progress, TakesText};
+    ghost use Rattle.instance_writer.specs.Sinks.{TakesText};
     ghost use Rattle.instance_writer.specs.SinkLaws.{takes_none, takes_more};
 
     ghost IsReady = { λ f. IsTrue (D.shows f.desk.now).output.opened };

@@ -1,5 +1,5 @@
 //! Commas, keys, names and numbers are put out.
-ghost use Rattle.std.specs.Prelude.{◌≡◌, ◌≤◌, [], ◌∷◌, ◌++◌, decimal};
+ghost use Rattle.std.specs.Prelude.{[], ◌∷◌, ◌++◌, decimal};
 ghost use Rattle.json_laws.specs.Value.{Value};
 ghost use Rattle.json_laws.specs.Spelling.{escaped, quoted};
 ghost use Rattle.instance_text.specs.Written.{whole_number, count_number};

@@ -1,5 +1,4 @@
 //! How the numbers of an instance are spelled.
-ghost use Rattle.std.specs.Prelude.{ℕ};
 ghost use Rattle.instance_text.specs.Styles.{Style};
 
 use crate::sink::Sink;
