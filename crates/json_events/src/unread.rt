@@ -1,7 +1,6 @@
 //! The bytes of a stream that have come and are not used yet.
 
-ghost use Rattle.std.specs.Prelude.{◌≡◌, ℕ, ◌+◌, ◌<◌, ◌≤◌, ◌^◌, [], ◌++◌, length, drop, vec_len, OnOk, OnErr};
-ghost use Rattle.std.specs.Prelude.{slice_get};
+ghost use Rattle.std.specs.Prelude.{◌≡◌, ◌+◌, ◌<◌, ◌≤◌, ◌^◌, [], ◌++◌, length, drop, vec_len, OnOk, OnErr, slice_get};
 
 use std::alloc::{AllocError, Global};
 
