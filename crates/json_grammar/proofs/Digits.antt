@@ -1,6 +1,6 @@
 -- Digits and exponent marks, by the tests of one byte.
-use Rattle.std.specs.Prelude.{◌==◌, ◌||◌, ◌⊎◌}
-use Rattle.std.proofs.Common.{◌≡◌, ℕ, Bool, true, false, refl, inl, inr, arith}
+use Rattle.std.specs.Prelude.{◌⊎◌}
+use Rattle.std.proofs.Common.{◌≡◌, ℕ, true, inl, inr, arith}
 use Rattle.std.proofs.lemmas.Bool.Decides.{nat_tests}
 use Rattle.json_grammar.specs.Grammar.{IsDigit, IsExponentMark}
 use Rattle.json_grammar.specs.Bytes.{is_digit, is_mark}
