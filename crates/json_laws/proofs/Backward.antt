@@ -9,8 +9,8 @@ use Rattle.json_grammar.specs.Grammar.{IsBlank, AreBlanks, IsNumber, AreCharacte
 use Rattle.json_grammar.specs.Grammar.{IsNode, IsElement, element, IsMoreTrees, no_more, more, member, IsMoreMembers}
 use Rattle.json_grammar.specs.Grammar.{no_more_members, more_members}
 use Rattle.json_laws.specs.Machine.{Phase, Mode, want, first, first_key, next_key, colon, after, literal, number}
-use Rattle.json_laws.specs.Machine.{string, State, st, go, tell, is_blank, is_digit, may_end, step, value_step}
-use Rattle.json_laws.specs.Machine.{after_step, phase_step, ending, Reads, ends, then, after_string, string_event}
+use Rattle.json_laws.specs.Machine.{string, State, st, is_blank, is_digit, may_end, step, value_step, after_step}
+use Rattle.json_laws.specs.Machine.{phase_step, ending, Reads, ends, then, after_string, string_event}
 use Rattle.json_laws.specs.Machine as machine
 use Rattle.json_grammar.proofs.Choices.{branch, taken, guarded, none_some}
 use Rattle.json_laws.proofs.Inside.{Completes}

@@ -8,7 +8,7 @@ use Rattle.json_grammar.specs.Prefix.{deeper, or_else, first_past, node_first_pa
 use Rattle.json_grammar.specs.Prefix.{members_first_past}
 use Rattle.json_laws.specs.Machine.{Phase, Mode, want, first, first_key, next_key, colon, after, literal, number}
 use Rattle.json_laws.specs.Machine.{string, State, st, is_blank, is_digit, may_end, step, value_step, after_step}
-use Rattle.json_laws.specs.Machine.{phase_step, after_string, string_event, run, run_on, run_then}
+use Rattle.json_laws.specs.Machine.{phase_step, after_string, string_event}
 use Rattle.json_laws.specs.Machine as machine
 use Rattle.json_grammar.proofs.Choices.{branch, taken, guarded, none_some}
 

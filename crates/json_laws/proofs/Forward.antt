@@ -8,8 +8,7 @@ use Rattle.json_grammar.proofs.Digits.{digit_is}
 use Rattle.json_grammar.specs.Grammar.{IsBlank, tab, AreBlanks, IsDigit, AreDigits, IsInt, IsFrac, IsExp}
 use Rattle.json_grammar.specs.Grammar.{IsExponentMark, IsSign}
 use Rattle.json_laws.specs.Machine.{Phase, Mode, want, first, first_key, next_key, colon, after, number, State, st, go}
-use Rattle.json_laws.specs.Machine.{is_blank, is_digit, step, after_step, phase_step, may_end, ending, Reads, ends}
-use Rattle.json_laws.specs.Machine.{then}
+use Rattle.json_laws.specs.Machine.{is_blank, step, after_step, phase_step, may_end, ending, Reads, ends, then}
 
 pub at_offset : {j k : ℕ} {s : State} {w : List ℕ} {es : List Event} → j ≡ k → Reads j s w es → Reads k s w es
 at_offset {j} {k} {s} {w} {es} e r = subst (λ i. Reads i s w es) e r

@@ -1,15 +1,15 @@
 -- What the machine reads in a string is what the grammar allows.
 use Rattle.std.specs.Prelude.{◌==◌, ◌||◌, ◌-◌, ◌*◌, ◌⊎◌}
-use Rattle.std.proofs.Common.{◌≡◌, ◌≢◌, ℕ, zero, suc, ◌+◌, ◌<◌, ◌≤◌, List, ◌∷◌, ◌++◌, Bool, true, false, cond, Option}
-use Rattle.std.proofs.Common.{Some, None, refl, subst, inl, inr, arith}
+use Rattle.std.proofs.Common.{◌≡◌, ◌≢◌, ℕ, zero, suc, ◌+◌, ◌<◌, ◌≤◌, List, ◌∷◌, ◌++◌, true, Option, Some, None, refl}
+use Rattle.std.proofs.Common.{subst, inl, inr, arith}
 use Rattle.std.proofs.lemmas.Bool.Decides.{nat_tests}
 use Rattle.std.specs.Char.{digit_value, encode_utf8}
 use Rattle.json_grammar.proofs.Choices.{branch, taken, guarded, none_some}
 use Rattle.json_grammar.specs.Grammar.{Between, IsUtf8Tail, IsShortEscape, IsHex, unit, IsCharacter, AreCharacters}
 use Rattle.json_grammar.specs.Grammar.{next}
 use Rattle.json_laws.specs.Machine.{Within, tails, after_e0, after_ed, after_f0, after_f4, unit1, unit2, unit3, unit4}
-use Rattle.json_laws.specs.Machine.{paired, paired_escape, low1, low2, low3, low4, inside_step, Inside, is_plain}
-use Rattle.json_laws.specs.Machine.{between, is_tail}
+use Rattle.json_laws.specs.Machine.{paired, paired_escape, low1, low2, low3, low4, inside_step, is_plain, between}
+use Rattle.json_laws.specs.Machine.{is_tail}
 use Rattle.json_laws.specs.Machine as machine
 
 -- the bytes complete a string, up to its closing quote, and its text

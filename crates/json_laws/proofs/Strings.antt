@@ -7,9 +7,9 @@ use Rattle.std.specs.Char.{digit_value, encode_utf8}
 use Rattle.json_grammar.specs.Tree.{Event}
 use Rattle.json_grammar.specs.Grammar.{IsPlain, Between, IsUtf8Tail, IsShortEscape, IsHex, AreFourHexDigits}
 use Rattle.json_grammar.specs.Grammar.{IsCharacter, AreCharacters, IsString}
-use Rattle.json_laws.specs.Machine.{Mode, string, State, st, go, Within, tails, after_e0, after_ed, after_f0, after_f4}
-use Rattle.json_laws.specs.Machine.{unit1, unit2, unit3, unit4, paired, paired_escape, low1, low2, low3, low4}
-use Rattle.json_laws.specs.Machine.{inside_step, may_close, after_string, string_event, step, Reads, ends, then}
+use Rattle.json_laws.specs.Machine.{string, st, go, Within, tails, after_e0, after_ed, after_f0, after_f4, unit1, unit2}
+use Rattle.json_laws.specs.Machine.{unit3, unit4, paired, paired_escape, low1, low2, low3, low4, inside_step, may_close}
+use Rattle.json_laws.specs.Machine.{after_string, string_event, step, Reads, then}
 use Rattle.json_laws.specs.Machine as machine
 use Rattle.json_laws.proofs.Forward.{at_offset}
 

@@ -8,8 +8,7 @@ use Rattle.json_grammar.specs.Tree.{Event}
 use Rattle.json_grammar.specs.Stream.{telling}
 use Rattle.json_laws.specs.Machine.{Phase, Mode, want, first, first_key, next_key, colon, after, literal, number}
 use Rattle.json_laws.specs.Machine.{string, State, st, is_blank, is_digit, may_end, step, value_step, after_step}
-use Rattle.json_laws.specs.Machine.{phase_step, after_string, string_event, ending, Reads, ends, then, run, run_on}
-use Rattle.json_laws.specs.Machine.{run_then}
+use Rattle.json_laws.specs.Machine.{phase_step, after_string, string_event, ending, Reads, ends, then}
 use Rattle.json_laws.specs.Machine as machine
 use Rattle.json_grammar.proofs.Choices.{branch, taken, guarded, none_some}
 

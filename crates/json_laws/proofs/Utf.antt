@@ -6,8 +6,7 @@ use Rattle.std.specs.Str.{IsUtf8}
 use Rattle.std.specs.Char.{encode_utf8}
 use Rattle.std.proofs.lemmas.Str.{IsUtf8-append, IsUtf8-nil, IsUtf8-encode, encode_ascii}
 use lib.Utf8.{scalar}
-use Rattle.json_grammar.specs.Grammar.{IsPlain, Between, IsUtf8Tail, IsShortEscape, IsCharacter, AreCharacters, none}
-use Rattle.json_grammar.specs.Grammar.{next}
+use Rattle.json_grammar.specs.Grammar.{Between, IsUtf8Tail, IsShortEscape, IsCharacter, AreCharacters, none, next}
 
 two_is : (c a b : ℕ) → c ≡ (a - 192) * 64 + (b - 128) → Between 0xc2 0xdf a → IsUtf8Tail b → encode_utf8 c ≡ a ∷ b ∷ []
 unfolding encode_utf8

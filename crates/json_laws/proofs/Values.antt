@@ -8,9 +8,8 @@ use Rattle.json_grammar.specs.Tree.{trees_events, members_events}
 use Rattle.json_grammar.specs.Grammar.{IsDigit, IsInt, HasParts, IsNumber, IsString, IsValue, value, IsNode, IsElement}
 use Rattle.json_grammar.specs.Grammar.{element, IsMoreTrees, no_more, more, IsMember, member, IsMoreMembers}
 use Rattle.json_grammar.specs.Grammar.{no_more_members, more_members}
-use Rattle.json_laws.specs.Machine.{Phase, Mode, want, first, first_key, next_key, colon, after, literal, number}
-use Rattle.json_laws.specs.Machine.{string, State, st, go, tell, is_blank, is_digit, step, value_step, after_step}
-use Rattle.json_laws.specs.Machine.{phase_step, Reads, ends, then}
+use Rattle.json_laws.specs.Machine.{Phase, Mode, want, first, first_key, next_key, after, number, string, st, go}
+use Rattle.json_laws.specs.Machine.{is_blank, step, value_step, after_step, phase_step, Reads, ends, then}
 use Rattle.json_laws.specs.Machine as machine
 use Rattle.json_laws.proofs.Forward.{at_offset, same, skip, in_want, in_first, in_first_key, in_next_key, in_colon}
 use Rattle.json_laws.proofs.Forward.{in_after, Waits, unsigned_reads}

@@ -5,10 +5,10 @@ use Rattle.std.proofs.lemmas.Bool.Decides.{nat_tests}
 use Rattle.std.specs.Char.{encode_utf8}
 use Rattle.json_grammar.specs.Tree.{Event}
 use Rattle.json_laws.specs.Machine.{Phase, Mode, want, first, first_key, next_key, colon, after, literal, number}
-use Rattle.json_laws.specs.Machine.{string, State, st, go, step, value_step, after_step, phase_step, may_end, ending}
-use Rattle.json_laws.specs.Machine.{Reads, ends, then, after_string, string_event, Within, tails, after_e0, after_ed}
-use Rattle.json_laws.specs.Machine.{after_f0, after_f4, unit1, unit2, unit3, unit4, paired, paired_escape, low1, low2}
-use Rattle.json_laws.specs.Machine.{low3, low4, inside_step, between}
+use Rattle.json_laws.specs.Machine.{string, st, step, value_step, after_step, phase_step, may_end, ending, Reads, ends}
+use Rattle.json_laws.specs.Machine.{then, after_string, Within, tails, after_e0, after_ed, after_f0, after_f4, unit1}
+use Rattle.json_laws.specs.Machine.{unit2, unit3, unit4, paired, paired_escape, low1, low2, low3, low4, inside_step}
+use Rattle.json_laws.specs.Machine.{between}
 use Rattle.json_laws.specs.Machine as machine
 use Rattle.json_laws.proofs.Forward.{finish_number}
 use Rattle.json_laws.proofs.Forward as forward
