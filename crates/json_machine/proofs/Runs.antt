@@ -18,9 +18,8 @@ use Rattle.json_machine.specs.declared.machine.Mode.TheVariants.{Number, Str}
 use Rattle.json_machine.specs.declared.machine.Machine.{Machine}
 use Rattle.json_laws.specs.Machine as machine
 use Rattle.json_laws.proofs.Forward.{Waits, in_want, in_first, in_first_key, in_next_key, in_colon, in_after, waits}
-use Rattle.json_laws.specs.Machine.{may_close, is_blank, State, st, Mode, Phase, number, string, plain, step}
-use Rattle.json_laws.specs.Machine.{inside_step, go, run, run_on, run_then, phase_step, is_within_digits, is_digit}
-use Rattle.json_laws.specs.Machine.{is_plain}
+use Rattle.json_laws.specs.Machine.{may_close, is_blank, st, Mode, Phase, number, string, plain, step, inside_step, go}
+use Rattle.json_laws.specs.Machine.{run, phase_step, is_within_digits, is_digit, is_plain}
 
 -- one byte after another, where each lengthens the token
 lengthened : (test : ℕ → Bool) (mode : List ℕ → Mode) (levels : List Bool)

@@ -2,12 +2,11 @@
 use Rattle.std.specs.Prelude.{◌⊎◌}
 use Rattle.std.specs.List.{prefix_len}
 use Rattle.std.proofs.Common.{◌≡◌, ℕ, suc, ◌+◌, ◌<◌, List, [], ◌∷◌, length, take, drop, get_or, Bool, Some, true, inl}
-use Rattle.std.proofs.Common.{inr}
-use Rattle.std.proofs.Common.{refl, sym, ◌∙◌, ap, subst, arith}
+use Rattle.std.proofs.Common.{inr, refl, sym, ◌∙◌, ap, arith}
 use Rattle.std.proofs.Math.Seq.{drop-cons}
 use Rattle.json_grammar.specs.Tree.{key}
 use Rattle.json_laws.specs.Machine.{State, st, Mode, first_key, next_key, colon, string, plain, is_plain, step, go}
-use Rattle.json_laws.specs.Machine.{after_string, string_event, tell, run, run_then}
+use Rattle.json_laws.specs.Machine.{tell, run, run_then}
 use Rattle.json_machine.specs.Machines.{mode_of}
 use Rattle.json_machine.specs.NumberRuns.{TakesNumber}
 use Rattle.json_machine.specs.declared.machine.Mode as modes

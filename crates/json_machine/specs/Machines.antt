@@ -2,7 +2,7 @@
 use Rattle.std.specs.Prelude.{◌≡◌, ℕ, ◌+◌, ◌<◌, ◌≤◌, length, List, [], ◌∷◌, reverse, Bool, true, false, Option, Some}
 use Rattle.std.specs.Prelude.{None}
 use Rattle.json_laws.specs.Machine as machine
-use Rattle.json_laws.specs.Machine.{State, st, Move, step, ending}
+use Rattle.json_laws.specs.Machine.{State, st, Move}
 use Rattle.json_grammar.specs.Tree as tree
 use Rattle.json_machine.specs.Views.{phase_of, within_of, Holds}
 use Rattle.json_machine.specs.declared.literal_token.Begun.{Begun}

@@ -1,6 +1,6 @@
 //! What the machine tells: events whose texts and numbers are still lists of bytes.
 
-ghost use Rattle.std.specs.Prelude.{◌≡◌, ℕ, ◌+◌};
+ghost use Rattle.std.specs.Prelude.{◌≡◌, ℕ};
 ghost use Rattle.json_machine.specs.Machines.{answer_of, event_of, IsAtMostOne, AnswerNear, EventNear};
 ghost use Rattle.json_laws.specs.Machine as machine;
 ghost use Rattle.json_laws.specs.Machine.{State};

@@ -1,4 +1,4 @@
-use Rattle.std.proofs.Common.{rules, ℕ, ◌+◌, take, drop, refl}
+use Rattle.std.proofs.Common.{rules, ◌+◌, take, drop, refl}
 use Rattle.json_machine.specs.Machines.{levels_of, mode_of}
 use Rattle.json_machine.proofs.WholeKeys.{key_mode, key_taken}
 use Rattle.json_machine.proofs.machine.Machine.pass_key.Goals as goal

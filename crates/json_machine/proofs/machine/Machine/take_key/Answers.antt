@@ -1,12 +1,9 @@
-use Rattle.std.specs.Prelude.{◌⊎◌, ◌-◌}
+use Rattle.std.specs.Prelude.{◌-◌}
 use Rattle.std.specs.List.{prefix_len}
-use Rattle.std.proofs.Common.{◌≡◌, ℕ, ◌+◌, ◌≤◌, List, length, take, drop, inl, inr, refl, ◌∙◌, ap, arith}
-use Rattle.std.proofs.Common.{rules, length-drop}
+use Rattle.std.proofs.Common.{◌≡◌, ℕ, ◌+◌, ◌≤◌, List, length, take, drop, refl, ◌∙◌, ap, arith, rules, length-drop}
 use Rattle.std.proofs.lemmas.List.Sums.{prefix_len-le-length}
-use Rattle.json_laws.specs.Machine.{first_key, next_key, is_plain}
+use Rattle.json_laws.specs.Machine.{is_plain}
 use Rattle.json_machine.specs.Machines.{levels_of, mode_of}
-use Rattle.json_machine.specs.declared.machine.Mode.{Mode}
-use Rattle.json_machine.specs.declared.machine.Mode.TheVariants.{FirstKey, NextKey}
 use Rattle.json_machine.proofs.PlainNumbers.{behind}
 use Rattle.json_machine.proofs.WholeKeys.{key_mode, key_taken}
 use Rattle.json_machine.proofs.machine.Machine.take_key.Goals as goal
