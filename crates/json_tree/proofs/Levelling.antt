@@ -1,11 +1,11 @@
 -- A level, a tree or a member that is added last, as the builder keeps it and in the words of its definition.
-use Rattle.std.proofs.Common.{◌≡◌, ℕ, ◌+◌, List, [], ◌∷◌, ◌++◌, refl, sym, ◌∙◌, ap, rules, map, reverse}
+use Rattle.std.proofs.Common.{◌≡◌, ℕ, ◌+◌, List, [], ◌∷◌, ◌++◌, refl, ◌∙◌, ap, rules, map, reverse}
 use Rattle.std.proofs.lemmas.List.{reverse-append}
 use Rattle.json_grammar.specs.Trees.{tree_view, trees_view, member_view, members_view, members_of}
 use Rattle.json_grammar.specs.Tree.{no_trees, and_tree, and_member}
 use Rattle.json_grammar.specs.declared.tree.Member.{Member, roll-Member, the_lemmas}
 use Rattle.json_grammar.specs.declared.tree.Tree as Rust
-use Rattle.json_laws.specs.Builder.{Open, tree_last, member_last}
+use Rattle.json_laws.specs.Builder.{tree_last, member_last}
 use Rattle.json_tree.specs.Building.{level_of, levels_of}
 use Rattle.json_tree.specs.declared.builder.Level.{Level}
 

@@ -1,6 +1,6 @@
 //! A tree from its events.
 
-ghost use Rattle.std.specs.Prelude.{◌≡◌, [], None, OnOk, option_map, length, ◌<◌, ◌+◌, ◌^◌};
+ghost use Rattle.std.specs.Prelude.{◌≡◌, [], None, OnOk, option_map, ◌<◌, ◌+◌, ◌^◌};
 ghost use Rattle.json_grammar.specs.Tree as tree;
 ghost use Rattle.json_grammar.specs.Trees.{tree_view};
 ghost use Rattle.json_laws.specs.Builder.{bt, attach, feed};

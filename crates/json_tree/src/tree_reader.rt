@@ -1,7 +1,7 @@
 //! The tree of a whole text: the machine and the builder over all of its bytes.
 
-ghost use Rattle.std.specs.Prelude.{◌≡◌, ℕ, List, ◌<◌, ◌≤◌, ◌+◌, ◌^◌, length, IfOk, OnOk, Err, Some, None, IsTrue};
-ghost use Rattle.std.specs.Prelude.{is_some, option_map, MatchResult};
+ghost use Rattle.std.specs.Prelude.{◌≡◌, ℕ, List, ◌<◌, ◌+◌, ◌^◌, IfOk, OnOk, Err, Some, None, IsTrue, is_some};
+ghost use Rattle.std.specs.Prelude.{option_map, MatchResult};
 ghost use Rattle.json_grammar.specs.Prefix.{IsSyntaxFault, IsDepthFault, IsShallow, first_past};
 ghost use Rattle.json_grammar.specs.Grammar.{IsText};
 ghost use Rattle.json_laws.specs.Machine.{ending, step, State};
