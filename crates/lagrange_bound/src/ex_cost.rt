@@ -1,5 +1,5 @@
 //! What prices of exclusions add to the price of a start.
-ghost use Rattle.std.specs.Prelude.{◌≡◌, ℕ, ◌<◌, ◌≤◌, ◌^◌, ◌*◌, ◌+◌, length, IsTrue, All};
+ghost use Rattle.std.specs.Prelude.{◌≡◌, ℕ, ◌<◌, ◌≤◌, ◌^◌, ◌*◌, ◌+◌, length, IsTrue};
 ghost use Rattle.instance_model.specs.Tables.{is_allowed, in_run as in_run_of};
 ghost use Rattle.duration_calendar.specs.Windows.{in_window};
 ghost use Rattle.lagrange_bound.specs.Prices.{IsPriceList, IsExPrice};

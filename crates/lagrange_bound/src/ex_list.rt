@@ -1,6 +1,6 @@
 //! Prices of exclusions in strict order: where one stands or belongs, and changes at a place.
-ghost use Rattle.std.specs.Prelude.{◌≡◌, ◌≤◌, ◌<◌, ◌↔◌, ◌&&◌, ◌==◌, not, length, vec_len, IfOk, IfErr, IsOk, IsTrue};
-ghost use Rattle.std.specs.Prelude.{is_ok, AllPairs, slice_set, if◌then◌else◌};
+ghost use Rattle.std.specs.Prelude.{◌≡◌, ◌≤◌, ◌<◌, ◌↔◌, ◌&&◌, ◌==◌, not, vec_len, IfOk, IfErr, IsOk, IsTrue, is_ok};
+ghost use Rattle.std.specs.Prelude.{AllPairs, slice_set, if◌then◌else◌};
 ghost use Rattle.std.specs.List.{insert, remove};
 ghost use Rattle.lagrange_bound.specs.Prices.{ExBefore};
 ghost use Rattle.lagrange_bound.specs.ExLists.{PairBefore, StandsAt, BelongsAt};

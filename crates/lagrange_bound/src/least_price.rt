@@ -1,6 +1,5 @@
 //! The least price over an interval of starts.
-ghost use Rattle.std.specs.Prelude.{◌≡◌, ℕ, ◌<◌, ◌≤◌, ◌-◌, ◌*◌, ◌^◌, length, pos, None, unsigned_abs, unwrap_or};
-ghost use Rattle.std.specs.Prelude.{slice_index_or};
+ghost use Rattle.std.specs.Prelude.{◌≡◌, ℕ, ◌<◌, ◌≤◌, ◌-◌, length, pos, None, unsigned_abs, unwrap_or, slice_index_or};
 ghost use Rattle.lagrange_bound.specs.Lesser.{lesser_of, least_entry, IsSmallPrice};
 
 use crate::Span;

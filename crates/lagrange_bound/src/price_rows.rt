@@ -1,5 +1,5 @@
 //! The prices of all allowed starts, in a row for each intervention.
-ghost use Rattle.std.specs.Prelude.{◌≡◌, ℕ, ◌<◌, ◌≤◌, ◌+◌, [], length, map, IfOk, None, slice_index_or};
+ghost use Rattle.std.specs.Prelude.{◌≡◌, ℕ, ◌<◌, ◌+◌, [], length, map, IfOk, None, slice_index_or};
 ghost use Rattle.std.specs.List.{range_with_len};
 ghost use Rattle.lagrange_bound.specs.Prices.{IsPriceList};
 ghost use Rattle.lagrange_bound.specs.Lesser.{IsSmallPrice};

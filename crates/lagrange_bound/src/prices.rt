@@ -1,7 +1,6 @@
 //! A price list: contracts see the prices by place, as `PriceList`.
-ghost use Rattle.std.specs.Prelude.{◌≡◌, ◌≤◌, ◌<◌, ◌+◌, ◌-◌, ◌*◌, length, IfOk, OnOk, OnErr, IsOk, IsSomeAnd};
-ghost use Rattle.std.specs.Prelude.{option_map, Some, None, replicate};
-ghost use Rattle.instance_model.specs.Tables.{Tables};
+ghost use Rattle.std.specs.Prelude.{◌≡◌, ◌≤◌, ◌<◌, ◌+◌, ◌-◌, ◌*◌, length, IfOk, OnOk, OnErr, IsOk, option_map, Some};
+ghost use Rattle.std.specs.Prelude.{None, replicate};
 ghost use Rattle.lagrange_bound.specs.Prices.{IsPriceList, IsTail, zero_list, up_of, lo_of, tail_of, ex_of};
 ghost use Rattle.lagrange_bound.specs.Changes.{with_up, with_lo, with_tail, IsExSet, IsBandPlace, IsExPlace};
 

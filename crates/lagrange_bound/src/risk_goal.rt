@@ -1,5 +1,5 @@
 //! The goal that plans are scored by: its value is the score.
-ghost use Rattle.std.specs.Prelude.{◌≡◌, ◌^◌, ◌<◌, map, Some, length, IfOk, IsTrue, unsigned_abs};
+ghost use Rattle.std.specs.Prelude.{◌≡◌, ◌^◌, ◌<◌, length, IsTrue, unsigned_abs};
 ghost use Rattle.instance_model.specs.Tables.{is_allowed};
 ghost use Rattle.lagrange_bound.specs.Prices.{IsPriceList, tail_of};
 ghost use Rattle.lagrange_bound.specs.Bases.{base_of};

@@ -1,5 +1,5 @@
 //! What one period of a run adds to the base of a start.
-ghost use Rattle.std.specs.Prelude.{◌≡◌, ℕ, ◌+◌, ◌-◌, ◌*◌, ◌^◌, ◌<◌, ◌≤◌, pos, ◌+ℤ◌, ◌-ℤ◌, ◌*ℤ◌, All, Some, length};
+ghost use Rattle.std.specs.Prelude.{◌≡◌, ◌+◌, ◌-◌, ◌*◌, ◌^◌, ◌<◌, ◌≤◌, pos, ◌+ℤ◌, ◌-ℤ◌, ◌*ℤ◌, All, Some, length};
 ghost use Rattle.std.specs.Prelude.{IsTrue, option_map, unsigned_abs};
 ghost use Rattle.fixed_num.specs.Sums.{sum_below};
 ghost use Rattle.instance_model.specs.Tables.{is_allowed, in_run, risk_of, scenarios_of};
