@@ -1,6 +1,6 @@
 -- A descent leads from room for all its turns to where no turn is left or no neighbour has a lower key.
-use Rattle.std.proofs.Common.{◌≡◌, ℕ, ◌+◌, ◌<◌, ◌≤◌, max, sym, ◌∙◌, ap, subst, arith, Bool, false, List, [], ◌++◌}
-use Rattle.std.proofs.Common.{length, eqb}
+use Rattle.std.proofs.Common.{◌≡◌, ℕ, ◌+◌, ◌<◌, max, sym, ◌∙◌, ap, subst, arith, Bool, false, List, [], ◌++◌, length}
+use Rattle.std.proofs.Common.{eqb}
 use Rattle.std.proofs.lemmas.Bool.{OnFalse_from, eqb-true, eqb-false, eq-eqb}
 use Rattle.instance_model.specs.Tables.{Tables}
 use Rattle.plan_moves.specs.declared.change.Change.{Change}

@@ -1,7 +1,7 @@
 //! Threshold accepting: on plans of its own, changes that raise the score by less and less.
 //!
 //! What is found is a plan of allowed starts and no more: nothing rests on how good it is.
-ghost use Rattle.std.specs.Prelude.{◌≡◌, ◌<◌, length, IfOk};
+ghost use Rattle.std.specs.Prelude.{◌≡◌, ◌<◌, IfOk};
 ghost use Rattle.instance_model.specs.Plans.{AreAllowedStarts};
 
 use crate::tries::change_at;

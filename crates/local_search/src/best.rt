@@ -1,9 +1,9 @@
 //! The best start of one intervention, all others staying.
-ghost use Rattle.std.specs.Prelude.{◌≡◌, ℕ, ◌<◌, ◌≤◌, length, IfSome, IfNone, IsTrue};
+ghost use Rattle.std.specs.Prelude.{◌≡◌, ◌<◌, length, IfSome, IfNone, IsTrue};
 ghost use Rattle.instance_model.specs.Tables.{is_allowed};
 ghost use Rattle.instance_model.specs.Keys.{KeyBelow};
 ghost use Rattle.plan_moves.specs.declared.change.Change.{Change};
-ghost use Rattle.plan_moves.specs.KeptPlans.{present, present_key};
+ghost use Rattle.plan_moves.specs.KeptPlans.{present_key};
 ghost use Rattle.plan_moves.specs.Changing.{changed_key};
 ghost use Rattle.local_search.specs.Progress.{NoStartLowers};
 

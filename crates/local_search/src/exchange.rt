@@ -1,5 +1,5 @@
 //! Exchanges of the starts of two interventions.
-ghost use Rattle.std.specs.Prelude.{◌≡◌, ◌<◌, ◌≤◌, length};
+ghost use Rattle.std.specs.Prelude.{◌<◌, ◌≤◌, length};
 ghost use Rattle.plan_moves.specs.declared.change.Change.{Change};
 ghost use Rattle.plan_moves.specs.KeptPlans.{present};
 ghost use Rattle.local_search.specs.Progress.{LeadsTo, LowersNot, IfStill, NoSwapLowers};

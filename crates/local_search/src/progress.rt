@@ -1,5 +1,5 @@
 //! How far a descent has come: the one place where it makes changes.
-ghost use Rattle.std.specs.Prelude.{◌≡◌, ◌+◌, ◌<◌, ◌≤◌, ◌↔◌, [], length, IfOk, IsTrue};
+ghost use Rattle.std.specs.Prelude.{◌≡◌, ◌+◌, ◌<◌, ◌≤◌, ◌↔◌, [], IfOk, IsTrue};
 ghost use Rattle.std.specs.Bool.{OnFalse};
 ghost use Rattle.plan_moves.specs.Changing.{CanChange};
 ghost use Rattle.plan_moves.specs.KeptPlans.{present};

@@ -1,5 +1,5 @@
 //! Rounds over all neighbours, until a whole one finds none of lower key.
-ghost use Rattle.std.specs.Prelude.{◌≡◌, ℕ, ◌<◌, ◌≤◌, ◌↔◌, length, IsTrue};
+ghost use Rattle.std.specs.Prelude.{ℕ, ◌<◌, ◌≤◌, ◌↔◌, length, IsTrue};
 ghost use Rattle.std.specs.Bool.{OnFalse};
 ghost use Rattle.plan_moves.specs.KeptPlans.{present};
 ghost use Rattle.local_search.specs.Descents.{IsLocalOptimum};

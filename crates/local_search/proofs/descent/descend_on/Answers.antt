@@ -1,4 +1,4 @@
-use Rattle.std.proofs.Common.{◌≡◌, ◌∙◌, ap, sym, subst, List, ℕ, eqb}
+use Rattle.std.proofs.Common.{◌∙◌, ap, sym, subst, List, ℕ, eqb}
 use Rattle.plan_moves.specs.declared.change.Change.{Change}
 use Rattle.local_search.specs.Descents.{IsDescent}
 use Rattle.local_search.specs.Progress.{Made}

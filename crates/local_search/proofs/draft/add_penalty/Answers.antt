@@ -1,4 +1,4 @@
-use Rattle.std.proofs.Common.{◌≤◌, arith}
+use Rattle.std.proofs.Common.{arith}
 use Rattle.duration_calendar.proofs.WindowLemmas.{in_horizon}
 use Rattle.local_search.proofs.draft.add_penalty.Goals as goal
 
