@@ -1,8 +1,7 @@
 -- Where an element that passes a test first stands in a list, and where in a list with one element more.
-use Rattle.std.proofs.Common.{◌≡◌, ℕ, zero, suc, ◌+◌, ◌<◌, ◌≤◌, refl, sym, ◌∙◌, ap, arith, List, []}
-use Rattle.std.proofs.Common.{◌∷◌, ◌++◌, length, Bool}
-use Rattle.std.proofs.Common.{true, false, not, cond, nat_lt, nat_eq, position, Some, None, string_bytes, String}
-use Rattle.std.specs.List.{prefix_len, position_or_len, list_any}
+use Rattle.std.proofs.Common.{◌≡◌, ℕ, suc, ◌+◌, ◌≤◌, refl, sym, ◌∙◌, ap, arith, List, [], ◌∷◌, ◌++◌, length, Bool, true}
+use Rattle.std.proofs.Common.{false, not, cond, nat_lt, nat_eq, position, Some, None, string_bytes, String}
+use Rattle.std.specs.List.{position_or_len, list_any}
 use Rattle.std.specs.Prelude.{◌||◌, is_some, bytes_eq}
 use Rattle.std.proofs.lemmas.Bool.{false≢true}
 use Rattle.std.proofs.lemmas.Bool.Decides.{nat_tests}
