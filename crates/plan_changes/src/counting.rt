@@ -1,5 +1,5 @@
 //! How many starts are changes.
-ghost use Rattle.std.specs.Prelude.{◌≡◌, ◌≤◌, ◌<◌, length, slice_index};
+ghost use Rattle.std.specs.Prelude.{◌≡◌, ◌≤◌, ◌<◌, length};
 ghost use Rattle.instance_model.specs.Plans.{start_of};
 ghost use Rattle.plan_changes.specs.Changes.{is_changed, changes_of};
 
