@@ -1,11 +1,11 @@
 -- Files that are written one after another, from the contracts of the calls that write them.
-use Rattle.std.proofs.Common.{◌≡◌, ℕ, ◌+◌, ◌<◌, List, [], ◌∷◌, ◌++◌, length, take, get_or, Option, Result, Ok, Err}
-use Rattle.std.proofs.Common.{refl, sym, ◌∙◌, ap, subst}
+use Rattle.std.proofs.Common.{◌≡◌, ℕ, ◌+◌, ◌<◌, List, [], ◌∷◌, ◌++◌, length, take, get_or, Ok, Err, refl, sym, ◌∙◌, ap}
+use Rattle.std.proofs.Common.{subst}
 use Rattle.std.proofs.lemmas.List.{take_more}
 use Rattle.plan_desk.specs.declared.call.DeskCall.{DeskCall}
 use Rattle.plan_desk.specs.declared.call.DeskCall.TheVariants.{TakeIn, Read, PutOut, Write, FinishOut, Say}
 use Rattle.plan_desk.specs.declared.call.Failed.{Failed}
-use Rattle.plan_desk.specs.Desk.{Shown, Input, Output, ShowsSame, none_taken, none_open, file_open, input_after_write}
+use Rattle.plan_desk.specs.Desk.{Shown, ShowsSame, none_taken, none_open, file_open, input_after_write}
 use Rattle.plan_desk.specs.Desk.{output_after_write, after_put_out, after_failed_put_out, after_write, after_finish_out}
 use Rattle.plan_desk.specs.Calls.{PutsOut, FinishesOut}
 use Rattle.plan_desk.specs.Written.{WritesText}

@@ -3,13 +3,11 @@ use Rattle.std.proofs.Common.{◌≡◌, ℕ, ◌+◌, ◌<◌, List, [], ◌∷
 use Rattle.std.proofs.Common.{None, Result, Ok, Err, IsErr, true≢false, refl, sym, ◌∙◌, ap, subst, arith}
 use Rattle.std.specs.List.{flat_map}
 use Rattle.std.specs.Prelude.{IfSome}
-use Rattle.std.proofs.lemmas.List.{append-nil, take-append-le, length-append, take_more, take_all, take-append-drop}
-use Rattle.std.proofs.lemmas.List.{drop_more}
+use Rattle.std.proofs.lemmas.List.{append-nil, take-append-le, length-append, take_more, take-append-drop, drop_more}
 use Rattle.std.proofs.lemmas.Grind.{flat_map-append}
 use Rattle.std.proofs.Math.Seq.{take-append-add}
 use Rattle.plan_desk.specs.declared.call.Failed.{Failed}
 use Rattle.plan_desk.specs.Desk.{Shown, Fault, ShowsSame}
-use Rattle.plan_desk.specs.Faults.{FailsOnce}
 use Rattle.plan_desk.specs.Written.{Way, after_text, IsFaultIn, PutsText, HasPut}
 use Rattle.plan_desk.specs.Written.Way.{writing, saying}
 use Rattle.plan_desk.proofs.Appended.{write_none, write_more, say_none, say_more}

@@ -1,5 +1,5 @@
 -- Files that are opened, written whole and ended one after another, and what a write leaves that stopped.
-use Rattle.std.specs.Prelude.{◌≡◌, ℕ, ◌<◌, ◌≤◌, List, [], ◌∷◌, length, take, slice_index_or}
+use Rattle.std.specs.Prelude.{ℕ, ◌<◌, List, [], ◌∷◌, length, take, slice_index_or}
 use Rattle.plan_desk.specs.declared.call.DeskCall.{DeskCall}
 use Rattle.plan_desk.specs.declared.call.DeskCall.TheVariants.{TakeIn, Read, PutOut, Write, FinishOut, Say}
 use Rattle.plan_desk.specs.Desk.{Shown, ShowsSame, after_put_out, after_failed_put_out, after_write, after_finish_out}

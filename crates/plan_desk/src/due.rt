@@ -1,5 +1,5 @@
 //! Which call is to fail.
-ghost use Rattle.std.specs.Prelude.{◌≡◌, ◌+◌, ◌-◌, ◌<◌, ◌^◌, ◌==◌, ◌&&◌, ℕ, slice_index, slice_set};
+ghost use Rattle.std.specs.Prelude.{◌≡◌, ◌<◌, ◌==◌, ◌&&◌, slice_set};
 ghost use Rattle.std.specs.List.{list_any};
 ghost use Rattle.plan_desk.specs.Mem.{next_of, number_of};
 

@@ -1,6 +1,5 @@
 //! How faults are counted and kept.
 ghost use Rattle.std.specs.Prelude.{◌≡◌, ◌≤◌, ◌↔◌, List, length, IfSome, IsSome};
-ghost use Rattle.plan_desk.specs.Desk.{Fault};
 ghost use Rattle.plan_desk.specs.Faults.{one_more};
 ghost use Rattle.plan_desk.specs.Mem.{fault_of, IsLastAt};
 ghost use Rattle.plan_desk.specs.Stored.{Stored};

@@ -1,6 +1,6 @@
 //! The file of a name, and changes to it.
 ghost use Rattle.std.specs.Prelude.{◌≡◌, ◌+◌, ◌-◌, ◌^◌, ◌<◌, ◌≤◌, take, drop, length, min, MatchOption, OnOk, OnErr};
-ghost use Rattle.std.specs.Prelude.{IfOk, IsOk, IsSome, None, bytes_eq, vec_len, ◌++◌, [], List, ◌∷◌, slice_set};
+ghost use Rattle.std.specs.Prelude.{IfOk, IsOk, IsSome, None, bytes_eq, vec_len, ◌++◌, [], ◌∷◌, slice_set};
 ghost use Rattle.std.specs.Prelude.{option_copied};
 ghost use Rattle.plan_desk.specs.Mem.{held_by, IsAt, IsPut, file_at};
 

@@ -1,6 +1,6 @@
 //! Loops over a desk, until a file is read or a piece is taken whole.
-ghost use Rattle.std.specs.Prelude.{◌≡◌, ℕ, ◌+◌, ◌<◌, ◌≤◌, List, [], ◌++◌, length, take, drop, vec_len, IfOk, OnOk};
-ghost use Rattle.std.specs.Prelude.{OnErr, IfErr, IfSome, IsErrOf, IsTrue};
+ghost use Rattle.std.specs.Prelude.{◌≡◌, ℕ, ◌+◌, ◌<◌, ◌≤◌, [], ◌++◌, length, vec_len, IfOk, OnOk, OnErr, IfErr, IfSome};
+ghost use Rattle.std.specs.Prelude.{IsErrOf, IsTrue};
 ghost use Rattle.std.specs.List.{flat_map};
 ghost use Rattle.plan_desk.specs.Desk.{ShowsSame, after_take_in, after_read, all_read};
 ghost use Rattle.plan_desk.specs.Faults.{CountsReadFault, IsFaultOf, IsReadFaultOf};

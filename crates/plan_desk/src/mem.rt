@@ -1,6 +1,6 @@
 //! Files in memory.
-ghost use Rattle.std.specs.Prelude.{◌≡◌, ◌<◌, ◌≤◌, ◌↔◌, ◌-◌, ◌++◌, ◌∷◌, [], ◌||◌, drop, length, min, not, is_some};
-ghost use Rattle.std.specs.Prelude.{is_err, IfOk, OnOk, OnErr, IsErr, IsSome, IsTrue, option_copied};
+ghost use Rattle.std.specs.Prelude.{◌≡◌, ◌<◌, ◌≤◌, ◌↔◌, ◌++◌, ◌∷◌, [], ◌||◌, drop, length, min, not, is_some, is_err};
+ghost use Rattle.std.specs.Prelude.{IfOk, OnOk, OnErr, IsErr, IsSome, IsTrue, option_copied};
 ghost use Rattle.plan_desk.specs.Calls.{TakesIn, Reads, PutsOut, Writes, FinishesOut, Speaks};
 ghost use Rattle.plan_desk.specs.declared.call.DeskCall.{DeskCall};
 
