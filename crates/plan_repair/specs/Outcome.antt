@@ -1,7 +1,7 @@
 -- What a run of the words promises: that of the command that they ask for, or that they are refused.
 --
 -- `old` and `new` are what the desk shows before and after a run.
-use Rattle.std.specs.Prelude.{◌≡◌, ℕ, List, Option, Some, None}
+use Rattle.std.specs.Prelude.{◌≡◌, ℕ, List, Some, None}
 use Rattle.plan_desk.specs.Desk.{Shown}
 use Rattle.plan_desk.specs.Contents.{Says}
 use Rattle.instance_model.specs.Limits.{standard_limits}

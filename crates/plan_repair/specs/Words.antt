@@ -1,6 +1,5 @@
 -- The command line. A word is the list of its bytes; words count from 1, and word 1 is the name of the command.
-use Rattle.std.specs.Prelude.{◌≡◌, ℕ, List, [], ◌∷◌, codes, bytes_eq, ◌&&◌, Option, Some, None, option_map}
-use Rattle.std.specs.Prelude.{if◌then◌else◌}
+use Rattle.std.specs.Prelude.{◌≡◌, ℕ, List, [], ◌∷◌, codes, bytes_eq, ◌&&◌, Option, None, option_map, if◌then◌else◌}
 use Rattle.command_words.specs.Files.{is_file_word, are_file_words, are_apart}
 use Rattle.command_words.specs.Numbers.{turns_of}
 use Rattle.command_words.specs.Ends.{source_of}
