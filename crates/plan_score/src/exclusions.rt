@@ -1,5 +1,5 @@
 //! The first broken exclusion, with the first period in which it is.
-ghost use Rattle.std.specs.Prelude.{◌≡◌, ℕ, ◌+◌, ◌<◌, ◌≤◌, length, IfSome, IfNone, IsTrue};
+ghost use Rattle.std.specs.Prelude.{◌≡◌, ℕ, ◌<◌, length, IfSome, IfNone};
 ghost use Rattle.instance_model.specs.Plans.{start_of, RunsAreAllowed, runs_at};
 ghost use Rattle.instance_model.specs.Rules.{clash_rule_at, first_clash_rule};
 ghost use Rattle.duration_calendar.specs.Windows.{in_window, IsInHorizon};

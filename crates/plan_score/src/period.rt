@@ -1,8 +1,6 @@
 //! The scenario sums of a period, from scratch, and what they come to: contracts cite the definitions.
-ghost use Rattle.std.specs.Prelude.{◌≡◌, ◌+◌, ◌*◌, ◌<◌, ◌≤◌, ◌^◌, pos, ◌+ℤ◌, length, IfOk, OnOk, IsTrue, unsigned_abs};
-ghost use Rattle.std.specs.Prelude.{All, slice_index_or};
+ghost use Rattle.std.specs.Prelude.{◌≡◌, ◌+◌, ◌*◌, ◌<◌, ◌≤◌, ◌^◌, pos, length, IfOk, OnOk, unsigned_abs, All};
 ghost use Rattle.fixed_num.specs.Sums.{total, list_of};
-ghost use Rattle.instance_model.specs.Tables.{scenarios_of, risk_of, is_allowed, in_run};
 ghost use Rattle.instance_model.specs.Plans.{start_of, soft_at, soft_count, scenario_sums, sums_before, RunsAreAllowed};
 ghost use Rattle.instance_model.specs.Plans.{IsSmallSum};
 ghost use Rattle.plan_score.specs.Periods.{IsPeriod};
