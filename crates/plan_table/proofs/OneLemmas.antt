@@ -2,8 +2,6 @@
 use Rattle.std.proofs.Common.{◌≡◌, ℕ, List, refl, subst, sym}
 use Rattle.instance_model.specs.Tables.{Tables}
 use Rattle.plan_table.specs.declared.report.PeriodReport.{PeriodReport}
-use Rattle.plan_table.specs.declared.report.LoadLine.{LoadLine}
-use Rattle.plan_table.specs.declared.report.RunLine.{RunLine}
 use Rattle.plan_table.specs.Reports.{IsReport, report_of}
 use Rattle.plan_table.specs.Laws.{OneReport}
 
