@@ -1,9 +1,9 @@
 //! A plan is read from its text.
-ghost use Rattle.std.specs.Prelude.{◌≡◌, ◌≢◌, ◌⊎◌, ℕ, List, Option, None, Ok, Err, length, vec_len, replicate, IfOk};
-ghost use Rattle.std.specs.Prelude.{IfErr, OnOk};
-ghost use Rattle.plan_text.specs.Spelling.{IsPlan, lines_of};
+ghost use Rattle.std.specs.Prelude.{◌≡◌, ◌≢◌, ℕ, List, Option, None, Ok, Err, length, vec_len, replicate, IfOk, IfErr};
+ghost use Rattle.std.specs.Prelude.{OnOk};
+ghost use Rattle.plan_text.specs.Spelling.{IsPlan};
 ghost use Rattle.plan_text.specs.FirstFault.{HasPlanFault, Answers};
-ghost use Rattle.plan_text.specs.Steps.{Enters, Refuses, HasRead};
+ghost use Rattle.plan_text.specs.Steps.{Enters, Refuses};
 
 use crate::line::{entry_of, is_blank, without_return};
 use crate::{Plan, PlanFault};
