@@ -3,11 +3,10 @@
 //!
 //! What prices add and worths are in parts of 10^-12. Amounts stop at the ends of their type: nothing rests on them,
 //! since the worth of the list that is kept is computed again.
-ghost use Rattle.std.specs.Prelude.{◌≡◌, ◌*◌, ◌<◌, ◌≤◌, ◌^◌, length, All, IfOk, OnOk, IsTrue, unsigned_abs};
+ghost use Rattle.std.specs.Prelude.{◌≡◌, ◌*◌, ◌<◌, length, IfOk, OnOk, IsTrue};
 ghost use Rattle.instance_model.specs.Tables.{is_allowed};
 ghost use Rattle.instance_model.specs.Plans.{AreAllowedStarts};
 ghost use Rattle.lagrange_bound.specs.Prices.{IsPriceList};
-ghost use Rattle.price_ladder.specs.Kept.{AreSmall};
 ghost use Rattle.price_ladder.specs.Phase.{AreSpots};
 
 use crate::aim::{Aim, Outcome};

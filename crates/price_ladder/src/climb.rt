@@ -1,5 +1,5 @@
 //! A ladder is climbed: steps are taken as long as one gains enough.
-ghost use Rattle.std.specs.Prelude.{◌≡◌, ◌≤◌, ◌+◌, ◌≤ℤ◌, length, OnOk};
+ghost use Rattle.std.specs.Prelude.{◌≤◌, ◌+◌, ◌≤ℤ◌, length, OnOk};
 ghost use Rattle.instance_model.specs.Plans.{AreAllowedStarts};
 ghost use Rattle.lagrange_bound.specs.Prices.{IsPriceList};
 ghost use Rattle.lagrange_bound.specs.Worth.{price_total};
@@ -9,7 +9,6 @@ use crate::ladder::Ladder;
 use crate::least_gain::least_gain;
 use crate::scan::try_all;
 use instance_model::Instance;
-use lagrange_bound::Prices;
 use std::alloc::{AllocError, Global};
 
 /// How many steps lead to a worth that is good enough.

@@ -1,6 +1,6 @@
 //! Numbers that are kept for starts, in one list by intervention, then start.
-ghost use Rattle.std.specs.Prelude.{◌≡◌, ℕ, ◌+◌, ◌-◌, ◌*◌, ◌/◌, ◌%◌, ◌<◌, ◌≤◌, ◌^◌, ◌+ℤ◌, ◌*ℤ◌, pos, length, IfOk};
-ghost use Rattle.std.specs.Prelude.{All, IsTrue, unsigned_abs};
+ghost use Rattle.std.specs.Prelude.{◌≡◌, ◌+◌, ◌-◌, ◌*◌, ◌/◌, ◌%◌, ◌<◌, ◌≤◌, ◌^◌, length, IfOk, All, IsTrue};
+ghost use Rattle.std.specs.Prelude.{unsigned_abs};
 ghost use Rattle.instance_model.specs.Tables.{is_allowed};
 ghost use Rattle.lagrange_bound.specs.Prices.{IsPriceList};
 ghost use Rattle.lagrange_bound.specs.Goals.{risk_base};

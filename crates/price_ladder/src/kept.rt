@@ -1,5 +1,5 @@
 //! The ladder that keeps the prices of all starts: a changed list is judged by what its change adds to them.
-ghost use Rattle.std.specs.Prelude.{◌≡◌, ◌*◌, ◌<◌, ◌≤◌, ◌≤ℤ◌, ◌^◌, length, IfOk, OnOk, Some, unsigned_abs};
+ghost use Rattle.std.specs.Prelude.{◌≡◌, ◌*◌, ◌<◌, ◌≤◌, ◌≤ℤ◌, ◌^◌, IfOk, OnOk, Some, unsigned_abs};
 ghost use Rattle.instance_model.specs.Plans.{AreAllowedStarts};
 ghost use Rattle.lagrange_bound.specs.Prices.{PriceList, IsPriceList, IsTail, tail_of, zero_list};
 ghost use Rattle.lagrange_bound.specs.Changes.{with_tail};

@@ -1,6 +1,5 @@
 //! Bases by a list with another tail: those of starts that don't run in its period stay as they are.
-ghost use Rattle.std.specs.Prelude.{◌≡◌, ◌+◌, ◌*◌, ◌/◌, ◌%◌, ◌<◌, ◌≤◌, ◌-ℤ◌, ◌^◌, All, length, IfOk, IsTrue};
-ghost use Rattle.std.specs.Prelude.{unsigned_abs};
+ghost use Rattle.std.specs.Prelude.{◌≡◌, ◌+◌, ◌*◌, ◌/◌, ◌%◌, ◌<◌, ◌≤◌, ◌^◌, All, length, IfOk, IsTrue, unsigned_abs};
 ghost use Rattle.instance_model.specs.Tables.{is_allowed};
 ghost use Rattle.instance_model.specs.Plans.{AreAllowedStarts};
 ghost use Rattle.lagrange_bound.specs.Prices.{IsPriceList};

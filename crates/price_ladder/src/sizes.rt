@@ -1,6 +1,6 @@
 //! The steps at one place: by each power of ten, up and down. The two stand apart, as one ends at the greatest price
 //! and the other at 0.
-ghost use Rattle.std.specs.Prelude.{◌≡◌, ◌≤◌, IfOk, OnOk};
+ghost use Rattle.std.specs.Prelude.{◌≤◌, IfOk, OnOk};
 ghost use Rattle.lagrange_bound.specs.Prices.{IsPriceList};
 ghost use Rattle.lagrange_bound.specs.Boxes.{HasStarts};
 ghost use Rattle.certificate_tree.specs.Trees.{root_box};

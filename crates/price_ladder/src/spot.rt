@@ -1,7 +1,7 @@
 //! Exclusions in periods of their seasons with their prices, while the first phase moves these.
 //!
 //! What prices add is in parts of 10^-12. Amounts stop at the ends of their type: nothing rests on them.
-ghost use Rattle.std.specs.Prelude.{◌≡◌, ◌*◌, ◌<◌, ◌≤◌, length, All, IfOk, OnOk};
+ghost use Rattle.std.specs.Prelude.{◌≡◌, ◌*◌, ◌<◌, length, All, IfOk, OnOk};
 ghost use Rattle.lagrange_bound.specs.Prices.{IsPriceList};
 ghost use Rattle.lagrange_bound.specs.Changes.{IsExPlace};
 ghost use Rattle.price_ladder.specs.Phase.{IsWithin, IsSpot, AreSpots};

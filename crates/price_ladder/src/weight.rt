@@ -1,6 +1,6 @@
 //! What one more of a number adds to the prices of starts, and whatever the starts are.
 ghost use Rattle.std.specs.Prelude.{◌≡◌, ◌<◌, ◌≤◌, ◌*◌, ◌^◌, length, Some, IsTrue, unsigned_abs};
-ghost use Rattle.instance_model.specs.Tables.{is_allowed, exclusion_of};
+ghost use Rattle.instance_model.specs.Tables.{is_allowed};
 ghost use Rattle.instance_model.specs.Plans.{load_at};
 ghost use Rattle.lagrange_bound.specs.Worth.{times_named};
 ghost use Rattle.price_ladder.specs.Places.{IsPlace};
