@@ -5,7 +5,6 @@ use Rattle.std.proofs.Common.{sym, ap, subst, ◌∙◌, inl, inr, arith}
 use Rattle.std.proofs.lemmas.Bool.{cases_Bool}
 use Rattle.std.proofs.lemmas.Int.{ints}
 use Rattle.std.proofs.lemmas.List.Elements.{Contains-get_or, Contains-append_right}
-use Rattle.std.proofs.lemmas.List.Sums.{sum_by-cons, sum_by-append}
 use Rattle.std.specs.List.{Contains}
 use Rattle.quantile_index.specs.declared.entry.Entry.{Entry}
 use Rattle.quantile_index.specs.Order.{IsBefore, AllEntries, IsOrdered}

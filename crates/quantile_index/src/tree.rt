@@ -1,10 +1,9 @@
 //! A height-balanced tree of entries. Contracts see it as its entries in order, beside its height.
-ghost use Rattle.std.specs.Prelude.{◌≡◌, true, false, ◌+◌, ◌*◌, ◌^◌, ◌<◌, ◌≤◌, max, [], ◌∷◌, ◌++◌, map, length, All};
-ghost use Rattle.std.specs.Prelude.{IfOk};
+ghost use Rattle.std.specs.Prelude.{◌≡◌, true, false, ◌+◌, ◌^◌, ◌<◌, max, [], ◌∷◌, ◌++◌, map, length, All, IfOk};
 ghost use Rattle.quantile_index.specs.Order.{IsOrdered};
 ghost use Rattle.quantile_index.specs.SortKeys.{entry_of, IsKeyIn};
 ghost use Rattle.quantile_index.specs.Ranking.{HasSumAt};
-ghost use Rattle.quantile_index.specs.Tree.{contents, entries_of, IsLow, IsSound, IsSoundLink, DifferByAtMost};
+ghost use Rattle.quantile_index.specs.Tree.{contents, IsLow, IsSound, IsSoundLink, DifferByAtMost};
 
 use crate::entry::Entry;
 use crate::ranks::entry_at;
