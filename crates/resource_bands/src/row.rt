@@ -1,6 +1,6 @@
 //! The loads of one resource: contracts see the list by period.
-ghost use Rattle.std.specs.Prelude.{◌≡◌, ℕ, ◌+◌, ◌-◌, ◌*◌, ◌^◌, ◌<◌, ◌≤◌, pos, ◌+ℤ◌, ◌-ℤ◌, length, replicate};
-ghost use Rattle.std.specs.Prelude.{slice_index_or, slice_set, unsigned_abs, IfOk};
+ghost use Rattle.std.specs.Prelude.{◌≡◌, ◌+◌, ◌-◌, ◌*◌, ◌^◌, ◌<◌, ◌≤◌, pos, ◌+ℤ◌, length, replicate, slice_index_or};
+ghost use Rattle.std.specs.Prelude.{slice_set, unsigned_abs, IfOk};
 ghost use Rattle.resource_bands.specs.Gaps.{gap_at, row_gap, IsRow};
 
 use crate::limit::{above, below};
