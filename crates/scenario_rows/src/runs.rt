@@ -1,9 +1,7 @@
 //! The scenario sums of a period, from scratch.
-ghost use Rattle.std.specs.Prelude.{◌≡◌, ◌+◌, ◌<◌, ◌≤◌, pos, ◌+ℤ◌, Some, length, map, IfOk, IsTrue, All};
-ghost use Rattle.std.specs.Prelude.{slice_index_or};
+ghost use Rattle.std.specs.Prelude.{◌≡◌, ◌+◌, ◌<◌, ◌≤◌, pos, Some, length, map, IfOk};
 ghost use Rattle.fixed_num.specs.Sums.{list_of};
-ghost use Rattle.instance_model.specs.Tables.{scenarios_of, risk_of, is_allowed, in_run as in_run_of};
-ghost use Rattle.instance_model.specs.Plans.{AreAllowedStarts, scenario_sums, sums_before, IsSmallSum};
+ghost use Rattle.instance_model.specs.Plans.{AreAllowedStarts, scenario_sums, sums_before};
 
 use duration_calendar::{in_run, run};
 use fixed_num::{Steps, Sum};
