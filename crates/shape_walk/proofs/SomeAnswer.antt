@@ -1,7 +1,7 @@
 -- Each file has an answer: an instance, or a fault.
 use Rattle.std.specs.Prelude.{◌≡◌, ℕ, ℤ, List, [], Option, Some, None}
 use Rattle.std.proofs.Common.{inl, inr, refl}
-use Rattle.json_grammar.specs.Tree.{Tree, events_of}
+use Rattle.json_grammar.specs.Tree.{Tree}
 use Rattle.json_laws.specs.Answers as text
 use Rattle.json_laws.specs.Answers.{TextAnswer, IsAnswerTo}
 use Rattle.json_laws.proofs.Ascending.{events_ascend}

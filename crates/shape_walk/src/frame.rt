@@ -1,6 +1,6 @@
 //! What is open in a text.
 
-ghost use Rattle.std.specs.Prelude.{◌≡◌, ◌↔◌, ℕ, List, ◌++◌, true, None, IfOk, OnOk, IsTrue};
+ghost use Rattle.std.specs.Prelude.{◌≡◌, ◌↔◌, ℕ, List, true, None, IfOk, IsTrue};
 ghost use Rattle.instance_model.specs.declared.limits.Limits.{Limits as Sizes};
 ghost use Rattle.instance_shape.specs.declared.spot.Kind.TheVariants as kinds;
 ghost use Rattle.instance_shape.specs.Keys.{is_digits, number_of};

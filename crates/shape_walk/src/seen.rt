@@ -1,6 +1,6 @@
 //! The keys that an open object has had.
 
-ghost use Rattle.std.specs.Prelude.{◌≡◌, ℕ, List, ◌∷◌, ◌++◌, [], None, true, cond, IfOk, string_bytes, not, ◌&&◌};
+ghost use Rattle.std.specs.Prelude.{◌≡◌, ℕ, List, ◌∷◌, ◌++◌, [], None, true, IfOk, string_bytes, not, ◌&&◌};
 ghost use Rattle.instance_model.specs.declared.limits.Limits.{Limits as Sizes};
 ghost use Rattle.instance_shape.specs.declared.spot.Kind.TheVariants as kinds;
 ghost use Rattle.instance_shape.specs.declared.fault.Flaw.TheVariants as flaws;
