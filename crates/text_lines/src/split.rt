@@ -1,5 +1,5 @@
 //! A text is cut at a byte, and into its lines.
-ghost use Rattle.std.specs.Prelude.{◌≡◌, ◌≢◌, ◌<◌, [], ◌∷◌, ◌++◌, length, All, IfSome, IfNone};
+ghost use Rattle.std.specs.Prelude.{◌≡◌, ◌≢◌, ◌<◌, ◌∷◌, ◌++◌, length, All, IfSome, IfNone};
 ghost use Rattle.text_lines.specs.Lines.{lines_of};
 
 /// What stands before the first such byte of a text, and what follows it.
