@@ -1,6 +1,5 @@
 //! Loads of one intervention, worked out by hand.
-ghost use Rattle.std.specs.Prelude.{◌≡◌, ◌<◌, length, IsTrue};
-ghost use Rattle.instance_model.specs.Tables.{is_allowed};
+ghost use Rattle.std.specs.Prelude.{◌≡◌, ◌<◌, length};
 ghost use Rattle.resource_bands.specs.BoardLoads.{kept_row};
 
 use crate::samples::loaded;

@@ -1,6 +1,6 @@
 //! Rows of sums, of both kinds: ranks found among few sums and among as many as there may be.
 
-ghost use Rattle.std.specs.Prelude.{◌≡◌, ◌<◌, ◌≤◌, length};
+ghost use Rattle.std.specs.Prelude.{◌≡◌, ◌<◌, length};
 
 use fixed_num::{Fixed, Steps, Sum};
 use quantile_index::{FlatRow, Row, TreeRow, height_limits};
