@@ -1,6 +1,6 @@
 //! Whether a plan is feasible, by its reports.
 
-ghost use Rattle.std.specs.Prelude.{◌≡◌, ◌↔◌, ◌≤◌, IfOk, IsTrue, Some, map, All};
+ghost use Rattle.std.specs.Prelude.{◌≡◌, ◌↔◌, IfOk, IsTrue, Some, map, All};
 ghost use Rattle.instance_model.specs.Plans.{AreAllowedStarts};
 ghost use Rattle.instance_model.specs.Rules.{IsFeasible};
 ghost use Rattle.plan_table.specs.Laws.{ShowsNoFault};

@@ -1,4 +1,4 @@
-use Rattle.std.proofs.Common.{◌≡◌, ◌+◌, ◌∙◌, sym, arith, true, false}
+use Rattle.std.proofs.Common.{◌+◌, ◌∙◌, sym, arith, true, false}
 use Rattle.worked_tables.proofs.FeasibleLemmas.{shown_by_definition, shown_by_report, feasible_from_shown}
 use Rattle.worked_tables.proofs.FeasibleLemmas.{shown_from_feasible, shown_more}
 use Rattle.worked_tables.proofs.feasible.is_feasible.Goals as goal
