@@ -1,1 +1,4 @@
+mod Apart
+mod KeyMarks
+mod MoreKeys
 mod Places

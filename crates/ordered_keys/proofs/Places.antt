@@ -1,6 +1,7 @@
 -- Where an element that passes a test first stands in a list, and where in a list with one element more.
-use Rattle.std.proofs.Common.{◌≡◌, ℕ, suc, ◌+◌, ◌≤◌, refl, sym, ◌∙◌, ap, arith, List, [], ◌∷◌, ◌++◌, length, Bool, true}
-use Rattle.std.proofs.Common.{false, not, cond, nat_lt, nat_eq, position, Some, None, string_bytes, String}
+use Rattle.std.proofs.Common.{◌≡◌, ℕ, suc, ◌+◌, ◌≤◌, refl, sym, ◌∙◌, ap, arith, List, []}
+use Rattle.std.proofs.Common.{◌∷◌, ◌++◌, length, Bool}
+use Rattle.std.proofs.Common.{true, false, not, cond, nat_lt, nat_eq, position, Some, None, string_bytes, String}
 use Rattle.std.specs.List.{position_or_len, list_any}
 use Rattle.std.specs.Prelude.{◌||◌, is_some, bytes_eq}
 use Rattle.std.proofs.lemmas.Bool.{false≢true}
@@ -63,7 +64,7 @@ turned_by xs ys false true e f =
     absurd (false≢true (sym e ∙ (bytes_eq-Decides xs ys).1 (sym ((bytes_eq-Decides ys xs).0 f))))
 turned_by xs ys false false e f = e ∙ sym f
 
-turned : (xs ys : List ℕ) → bytes_eq xs ys ≡ bytes_eq ys xs
+pub turned : (xs ys : List ℕ) → bytes_eq xs ys ≡ bytes_eq ys xs
 turned xs ys = turned_by xs ys (bytes_eq xs ys) (bytes_eq ys xs) refl refl
 
 -- where texts are found once one is added that isn't among them

@@ -1,6 +1,7 @@
 //! Distinct numbers.
 
-ghost use Rattle.std.specs.Prelude.{◌≡◌, ◌∷◌, [], ◌++◌, ℕ, not, length, IfOk, OnOk, OnErr, if◌then◌else◌, nat_eq};
+ghost use Rattle.std.specs.Prelude.{◌≡◌, ◌≢◌, ◌∷◌, [], ◌++◌, ℕ, not, length, AllPairs};
+ghost use Rattle.std.specs.Prelude.{IfOk, OnOk, OnErr, if◌then◌else◌, nat_eq};
 ghost use Rattle.std.specs.List.{list_any};
 ghost use Rattle.std.specs.Ordering.{nat_cmp};
 ghost use Rattle.std.specs.BTreeSet.{contains};
@@ -15,6 +16,7 @@ pub struct NumberSet {
     pub numbers: Vec<u32>,
     /// The same, by their size.
     sorted: BTreeSet<u32>,
+    pub ghost once: { AllPairs (λ a b. a ≢ b) numbers.items },
     ghost same: { (n : ℕ) → contains nat_cmp sorted n ≡ list_any (nat_eq n) numbers.items },
 }
 

@@ -1,6 +1,6 @@
 //! Keys that come again, and where they are found.
 
-use crate::{NumberSet, TextSet};
+use crate::{KeySet, NumberSet, TextSet};
 use std::test::Fail;
 
 #[test]
@@ -19,7 +19,45 @@ fn texts_are_found_where_they_were_added(rt: HostRuntime) -> Result<(), Fail> {
     assert_eq!(rt; texts.index_of("north"), Some(1));
     assert_eq!(rt; texts.index_of(""), Some(2));
     assert_eq!(rt; texts.index_of("nort"), None);
-    assert_eq!(rt; texts.contains("south"), true);
+    Ok(())
+}
+
+#[test]
+fn keys_come_once(rt: HostRuntime) -> Result<(), Fail> {
+    let mut keys = KeySet::new(rt.alloc());
+    for (key, new) in [
+        ("", true),
+        ("max", true),
+        ("", false),
+        // 15 bytes, these and a 16th, another 16th, another 15th
+        ("Scenarios_numbe", true),
+        ("Scenarios_number", true),
+        ("Scenarios_numbes", true),
+        ("Scenarios_numbf", true),
+        ("Scenarios_numbe", false),
+        ("Scenarios_number", false),
+        ("\0", true),
+        ("\0\0", true),
+        ("max\0", true),
+        ("max", false),
+        ("\0max", true),
+        ("max\0", false),
+        ("ma\u{e4}", true),
+        ("ma\u{e5}", true),
+    ] {
+        assert_eq!(rt; keys.add(rt.alloc(), key)?, new);
+        assert_eq!(rt; keys.contains(key), true);
+    }
+    assert_eq!(rt; keys.len(), 12);
+    for key in [
+        "min",
+        "Scenarios_numb",
+        "Scenarios_numbet",
+        "Scenarios_numbers",
+        "\0\0\0",
+    ] {
+        assert_eq!(rt; keys.contains(key), false);
+    }
     Ok(())
 }
 

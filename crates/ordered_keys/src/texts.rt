@@ -1,7 +1,7 @@
 //! Distinct texts.
 
-ghost use Rattle.std.specs.Prelude.{◌≡◌, ◌∷◌, [], ◌++◌, ℕ, List, not, length, position, IfOk, OnOk, OnErr};
-ghost use Rattle.std.specs.Prelude.{if◌then◌else◌, bytes_eq, string_bytes, string_eq};
+ghost use Rattle.std.specs.Prelude.{◌≡◌, ◌≢◌, ◌∷◌, [], ◌++◌, ℕ, List, not, length, map, position, AllPairs};
+ghost use Rattle.std.specs.Prelude.{IfOk, OnOk, OnErr, if◌then◌else◌, bytes_eq, string_bytes, string_eq};
 ghost use Rattle.std.specs.List.{list_any};
 ghost use Rattle.std.specs.BTreeMap.{get_by_text};
 
@@ -15,6 +15,7 @@ pub struct TextSet {
     pub texts: Vec<String>,
     /// Where each text stands among them, by the order of the texts' bytes.
     places: BTreeMap<String, usize>,
+    pub ghost once: { AllPairs (λ a b. a ≢ b) (map string_bytes texts.items) },
     ghost placed: { (q : List ℕ) → get_by_text places q ≡ position (λ k. bytes_eq q (string_bytes k)) texts.items },
 }
 
@@ -44,7 +45,7 @@ impl TextSet {
     }
 
     /// Whether a text is one of them.
-    pub fn contains(&self, text: &str) -> bool
+    fn contains(&self, text: &str) -> bool
         ensures { result ≡ list_any (λ k. bytes_eq text.now (string_bytes k)) self.now.texts.items }
     {
         self.index_of(text).is_some()

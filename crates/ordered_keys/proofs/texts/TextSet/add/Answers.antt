@@ -1,10 +1,11 @@
-use Rattle.std.proofs.Common.{◌≡◌, ◌∙◌, sym, ap, ℕ, ◌<◌, List, [], ◌∷◌, ◌++◌, Option, Some, cond}
-use Rattle.std.proofs.Common.{string_bytes, bytes_eq, Bool, false, true}
+use Rattle.std.proofs.Common.{◌≡◌, ◌≢◌, ◌∙◌, sym, ap, ℕ, ◌<◌, List, [], ◌∷◌, ◌++◌, Option, Some, cond}
+use Rattle.std.proofs.Common.{string_bytes, bytes_eq, Bool, false, true, map, subst, AllPairs}
 use Rattle.std.proofs.Common.{if◌then◌else◌, String, Global, position, arith, length}
 use Rattle.std.specs.Prelude.{is_ok, vec_len, vec_capacity}
 use Rattle.std.specs.List.{list_any}
 use Rattle.std.proofs.lemmas.Grind.{common_steps}
 use Rattle.std.proofs.lemmas.Map.Text.{btree_map_updates_text}
+use Rattle.ordered_keys.proofs.Apart.{texts_apart}
 use Rattle.ordered_keys.proofs.Places.{text_place}
 use Rattle.ordered_keys.proofs.texts.TextSet.add.Goals as goal
 
@@ -21,8 +22,12 @@ invariant_of-self-2 c =
     let new : list_any (λ k. bytes_eq (string_bytes c.in_ok-copy.copy) (string_bytes k)) xs ≡ false =
     ap (λ (bs : List ℕ). list_any (λ k. bytes_eq bs (string_bytes k)) xs) (copied ∙ sym c.as_str.ensures.value)
     ∙ sym c.contains.ensures ∙ c.if-contains.false in
+    let other : list_any (λ k. bytes_eq (string_bytes t) (string_bytes k)) xs ≡ false =
+    ap (λ (bs : List ℕ). list_any (λ k. bytes_eq bs (string_bytes k)) xs) (sym copied) ∙ new in
     let many : c.len.result ≡ length xs = grind (arith, common_steps) in
     record {
+      once = subst (λ ys. AllPairs (λ a b. a ≢ b) (map string_bytes ys)) (sym items)
+          (texts_apart xs t other c.args.self.now.once);
       placed = λ q.
           btree_map_updates_text (string_bytes c.in_ok-copy.copy) c.args.self.now.places c.insert.new.self
           (Some c.len.result) c.in_ok-insert.ensures.updates q
