@@ -1,12 +1,11 @@
 -- Defines the keys that a set holds.
-use Rattle.std.specs.Prelude.{ℕ, List, [], ◌∷◌, string_bytes}
+use Rattle.std.specs.Prelude.{ℕ, List, [], ◌∷◌}
 use Rattle.instance_shape.specs.Keys.{Key, by_text, by_number}
-use Rattle.std.specs.declared.string.String.{String}
 
 -- texts as keys
-abbrev pub texts_of : {Y : Type 0} → List (String Y) → List Key
+abbrev pub texts_of : List (List ℕ) → List Key
 texts_of [] = []
-texts_of (s ∷ ss) = by_text (string_bytes s) ∷ texts_of ss
+texts_of (k ∷ ks) = by_text k ∷ texts_of ks
 
 -- periods or starts as keys
 abbrev pub numbers_of : List ℕ → List Key

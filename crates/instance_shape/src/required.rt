@@ -9,7 +9,7 @@ ghost use Rattle.instance_shape.specs.declared.spot.Spot.TheVariants as spots;
 
 use crate::fault::Known;
 use crate::spot::Spot;
-use ordered_keys::TextSet;
+use ordered_keys::KeySet;
 
 /// How a required key is written.
 pub fn text_of(known: Known) -> &'static str
@@ -34,22 +34,22 @@ pub fn text_of(known: Known) -> &'static str
 }
 
 /// Whether an object has had a key.
-fn has(seen: &TextSet, key: &str) -> bool
-    ensures { result ≡ has_key (texts_of seen.now.texts.items) (by_text key.now) }
+fn has(seen: &KeySet, key: &str) -> bool
+    ensures { result ≡ has_key (texts_of seen.now.added.keys) (by_text key.now) }
 {
     seen.contains(key)
 }
 
 /// The key, if an object hasn't had it, and else what is missing after it.
-fn missing_or(seen: &TextSet, key: &str, known: Known, after: Option<Known>) -> Option<Known>
-    ensures { result ≡ cond (has_key (texts_of seen.now.texts.items) (by_text key.now)) after (Some known) }
+fn missing_or(seen: &KeySet, key: &str, known: Known, after: Option<Known>) -> Option<Known>
+    ensures { result ≡ cond (has_key (texts_of seen.now.added.keys) (by_text key.now)) after (Some known) }
 {
     if has(seen, key) { after } else { Some(known) }
 }
 
 /// The first of the later required keys that the root lacks.
-fn missing_late(seen: &TextSet) -> Option<Known>
-    ensures { result ≡ first_missing late_keys (texts_of seen.now.texts.items) }
+fn missing_late(seen: &KeySet) -> Option<Known>
+    ensures { result ≡ first_missing late_keys (texts_of seen.now.added.keys) }
 {
     let alpha = missing_or(seen, "Alpha", Known::Alpha, None);
     let quantile = missing_or(seen, "Quantile", Known::Quantile, alpha);
@@ -58,8 +58,8 @@ fn missing_late(seen: &TextSet) -> Option<Known>
 }
 
 /// The first required key that the root lacks.
-fn missing_in_root(seen: &TextSet) -> Option<Known>
-    ensures { result ≡ first_missing (required spots.Root) (texts_of seen.now.texts.items) }
+fn missing_in_root(seen: &KeySet) -> Option<Known>
+    ensures { result ≡ first_missing (required spots.Root) (texts_of seen.now.added.keys) }
 {
     let exclusions = missing_or(seen, "Exclusions", Known::Exclusions, missing_late(seen));
     let interventions = missing_or(seen, "Interventions", Known::Interventions, exclusions);
@@ -68,16 +68,16 @@ fn missing_in_root(seen: &TextSet) -> Option<Known>
 }
 
 /// The first required key that a resource lacks.
-fn missing_in_resource(seen: &TextSet) -> Option<Known>
-    ensures { result ≡ first_missing (required spots.Resource) (texts_of seen.now.texts.items) }
+fn missing_in_resource(seen: &KeySet) -> Option<Known>
+    ensures { result ≡ first_missing (required spots.Resource) (texts_of seen.now.added.keys) }
 {
     let min = missing_or(seen, "min", Known::Min, None);
     missing_or(seen, "max", Known::Max, min)
 }
 
 /// The first required key that an intervention lacks.
-fn missing_in_intervention(seen: &TextSet) -> Option<Known>
-    ensures { result ≡ first_missing (required spots.Intervention) (texts_of seen.now.texts.items) }
+fn missing_in_intervention(seen: &KeySet) -> Option<Known>
+    ensures { result ≡ first_missing (required spots.Intervention) (texts_of seen.now.added.keys) }
 {
     let risk = missing_or(seen, "risk", Known::Risk, None);
     let workload = missing_or(seen, "workload", Known::Workload, risk);
@@ -86,8 +86,8 @@ fn missing_in_intervention(seen: &TextSet) -> Option<Known>
 }
 
 /// The first required key that the object at a spot lacks, given the keys that it has.
-pub fn missing_key(spot: Spot, seen: &TextSet) -> Option<Known>
-    ensures { result ≡ first_missing (required spot) (texts_of seen.now.texts.items) }
+pub fn missing_key(spot: Spot, seen: &KeySet) -> Option<Known>
+    ensures { result ≡ first_missing (required spot) (texts_of seen.now.added.keys) }
 {
     match spot {
         Spot::Root => missing_in_root(seen),

@@ -1,21 +1,21 @@
 //! The keys that an open object has had.
 
-ghost use Rattle.std.specs.Prelude.{◌≡◌, ◌∷◌, [], ◌++◌, not, IfOk, IsTrue, string_bytes};
+ghost use Rattle.std.specs.Prelude.{◌≡◌, ◌∷◌, [], ◌++◌, not, IfOk, IsTrue};
 ghost use Rattle.instance_shape.specs.Keys.{has_key, by_text, by_number};
 ghost use Rattle.instance_shape.specs.Seen.{texts_of, numbers_of};
 
-use ordered_keys::{NumberSet, TextSet};
-use std::alloc::AllocError;
+use ordered_keys::{KeySet, NumberSet};
+use std::alloc::{AllocError, Global};
 
 /// Adds a text, and says whether it is new.
-pub fn add_text(seen: &mut TextSet, text: String) -> Result<bool, AllocError>
+pub fn add_text(alloc: Global, seen: &mut KeySet, text: &str) -> Result<bool, AllocError>
     ensures new { IfOk result
-        (λ new. new ≡ not (has_key (texts_of seen.old.texts.items) (by_text (string_bytes text)))) }
+        (λ new. new ≡ not (has_key (texts_of seen.old.added.keys) (by_text text.now))) }
     ensures added { IfOk result
         (λ new. IsTrue new
-        → texts_of seen.new.texts.items ≡ texts_of seen.old.texts.items ++ by_text (string_bytes text) ∷ []) }
+        → texts_of seen.new.added.keys ≡ texts_of seen.old.added.keys ++ by_text text.now ∷ []) }
 {
-    let new = seen.add(text)?;
+    let new = seen.add(alloc, text)?;
     Ok(new)
 }
 

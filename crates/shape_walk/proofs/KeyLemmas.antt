@@ -1,7 +1,6 @@
 -- What is wrong with a key, by how the keys of its object count.
 use Rattle.std.proofs.Common.{◌≡◌, ℕ, List, ◌++◌, [], ◌∷◌, Bool, true, false, cond, not, sym, ◌∙◌, ap, subst, refl}
 use Rattle.std.proofs.Common.{length, ◌&&◌, Some, None, arith, append-nil}
-use Rattle.std.specs.declared.string.String.{String}
 use Rattle.instance_model.specs.declared.limits.Limits.{Limits}
 use Rattle.instance_shape.specs.declared.fault.Flaw.TheVariants as flaw
 use Rattle.instance_shape.specs.declared.fault.Fault.{Fault}
@@ -19,7 +18,7 @@ use Rattle.shape_walk.specs.declared.taken.Read.TheVariants.{Whole}
 use Rattle.shape_walk.specs.Reads.{read_of_key}
 use Rattle.shape_walk.specs.Seen.{counts_by_text}
 
-length-texts_of : {Y : Type 0} (ks : List (String Y)) → length (texts_of ks) ≡ length ks
+length-texts_of : (ks : List (List ℕ)) → length (texts_of ks) ≡ length ks
 length-texts_of [] = refl
 length-texts_of (k ∷ ks) = omega (arith, length-texts_of ks)
 
@@ -34,7 +33,7 @@ new_by_text kind.Names ks k at rest h e = simp (e, append-nil)
 new_by_text _ ks k at rest h e = cc
 
 -- a new key that counts by its text
-pub text_case : {Y : Type 0} (limits : Limits) (s : Spot) (ks : List (String Y)) (k : List ℕ) (before at : ℕ)
+pub text_case : (limits : Limits) (s : Spot) (ks : List (List ℕ)) (k : List ℕ) (before at : ℕ)
     → counts_by_text (kind_of s) ≡ true
     → has_key (texts_of ks) (by_text k) ≡ false → before ≡ length ks
     → first_flaw (where_so (takes_names (kind_of s) && not (is_name k)) at flaw.BadName

@@ -10,7 +10,7 @@ use Rattle.shape_walk.specs.declared.seen.Seen.TheVariants.{Texts, Numbers, Noth
 
 -- the keys that an object has had
 abbrev pub seen_of : Seen → List Key
-seen_of (Texts s) = texts_of s.texts.items
+seen_of (Texts s) = texts_of s.added.keys
 seen_of (Numbers s) = numbers_of s
 seen_of Nothing = []
 

@@ -1,6 +1,6 @@
 //! The keys that an open object has had.
 
-ghost use Rattle.std.specs.Prelude.{◌≡◌, ℕ, List, ◌∷◌, ◌++◌, [], None, true, IfOk, string_bytes, not, ◌&&◌};
+ghost use Rattle.std.specs.Prelude.{◌≡◌, ℕ, List, ◌∷◌, ◌++◌, [], None, true, IfOk, not, ◌&&◌};
 ghost use Rattle.instance_model.specs.declared.limits.Limits.{Limits as Sizes};
 ghost use Rattle.instance_shape.specs.declared.spot.Kind.TheVariants as kinds;
 ghost use Rattle.instance_shape.specs.declared.fault.Flaw.TheVariants as flaws;
@@ -18,14 +18,14 @@ use crate::number_keys::NumberKeys;
 use crate::taken::{Read, Taken};
 use instance_model::Limits;
 use instance_shape::{Flaw, Kind, Spot, Which, add_text, is_name, kind_of, missing_key, number_of};
-use ordered_keys::TextSet;
+use ordered_keys::KeySet;
 use std::alloc::{AllocError, Global};
 
 /// The keys by what they count as: names and required keys by their texts, periods and starts by their numbers. In
 /// other objects they don't count.
 #[derive(Drop)]
 pub enum Seen {
-    Texts(TextSet),
+    Texts(KeySet),
     Numbers(NumberKeys),
     Nothing,
 }
@@ -37,7 +37,7 @@ impl Seen {
         ensures suits { suits result (shape.kind_of spot) ≡ true }
     {
         match kind_of(spot) {
-            Kind::Record | Kind::Names => Seen::Texts(TextSet::new(alloc)),
+            Kind::Record | Kind::Names => Seen::Texts(KeySet::new(alloc)),
             Kind::Numbers => Seen::Numbers(NumberKeys::none(alloc)),
             _ => Seen::Nothing,
         }
@@ -73,7 +73,7 @@ impl Seen {
     {
         match self {
             Seen::Texts(texts) => {
-                let flaw = take_text(limits, spot, texts, String::from_str(alloc, key)?)?;
+                let flaw = take_text(alloc, limits, spot, texts, key)?;
                 Ok(Judged::unread(spot, flaw))
             }
             Seen::Numbers(numbers) => take_number(spot, numbers, key),
@@ -130,20 +130,21 @@ fn new_text_flaw(limits: &Limits, spot: Spot, before: usize, key: &str) -> Optio
 
 /// Adds a key that counts by its text.
 fn take_text(
+    alloc: Global,
     limits: &Limits,
     spot: Spot,
-    texts: &mut TextSet,
-    key: String,
+    texts: &mut KeySet,
+    key: &str,
 ) -> Result<Option<Flaw>, AllocError>
     requires { counts_by_text (shape.kind_of spot) ≡ true }
     ensures flaw { IfOk result (λ r. (at : ℕ) → r
-        ≡ first_flaw (key_faults limits.now spot (texts_of texts.old.texts.items) at (string_bytes key))) }
+        ≡ first_flaw (key_faults limits.now spot (texts_of texts.old.added.keys) at key.now)) }
     ensures added { IfOk result (λ r. r ≡ None
-        → texts_of texts.new.texts.items
-        ≡ texts_of texts.old.texts.items ++ key_of (shape.kind_of spot) (string_bytes key)) }
+        → texts_of texts.new.added.keys
+        ≡ texts_of texts.old.added.keys ++ key_of (shape.kind_of spot) key.now) }
 {
-    let flaw = new_text_flaw(limits, spot, texts.len(), key.as_str());
-    let new = add_text(texts, key)?;
+    let flaw = new_text_flaw(limits, spot, texts.len(), key);
+    let new = add_text(alloc, texts, key)?;
     Ok(if new { flaw } else { Some(Flaw::Double) })
 }
 

@@ -3,8 +3,8 @@ use Rattle.instance_shape.proofs.SeenLemmas.{texts_has, texts_more}
 use Rattle.instance_shape.proofs.seen.add_text.Goals as goal
 
 pub returns-clause-new : goal.returns-clause-new
-returns-clause-new c = c.in_ok-new.ensures.new ∙ ap not (sym (texts_has c.args.seen.now.texts.items c.args.text))
+returns-clause-new c = c.in_ok-new.ensures.new ∙ ap not (sym (texts_has c.args.seen.now.added.keys c.args.text.now))
 
 pub returns-clause-added : goal.returns-clause-added
 returns-clause-added c =
-    texts_more c.args.seen.now.texts.items _ c.args.text _ c.in_ok-new.ensures.new c.in_ok-new.ensures.texts
+    texts_more c.args.seen.now.added.keys _ c.args.text.now _ c.in_ok-new.ensures.new c.in_ok-new.ensures.added

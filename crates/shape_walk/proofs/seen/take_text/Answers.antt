@@ -5,18 +5,14 @@ use Rattle.instance_shape.specs.Seen.{texts_of}
 use Rattle.instance_shape.specs.Shape.{kind_of}
 use Rattle.instance_shape.specs.ShapeFaults.{where_so, takes_names, first_past, key_limit}
 use Rattle.shape_walk.specs.Flaws.{first_flaw}
-use Rattle.std.specs.Prelude.{string_bytes}
 use Rattle.shape_walk.proofs.KeyLemmas.{text_case, is_new}
 use Rattle.shape_walk.proofs.seen.take_text.Goals as goal
 
 pub returns-then-new-clause-flaw : goal.returns-then-new-clause-flaw
 returns-then-new-clause-flaw c at =
-    let new : has_key (texts_of c.args.texts.now.texts.items) (by_text (string_bytes c.args.key)) ≡ false =
+    let new : has_key (texts_of c.args.texts.now.added.keys) (by_text c.args.key.now) ≡ false =
     is_new _ (sym c.in_ok-new.ensures.new ∙ c.if-new.true) in
     let spot = c.args.spot in
-    let limit = key_limit c.args.limits.now spot in
     c.new_text_flaw-flaw.ensures at
-    ∙ ap (λ (key : List ℕ). first_flaw (where_so (takes_names (kind_of spot) && not (is_name key)) at flaw.BadName
-    ++ first_past limit c.len.result at)) c.as_str.ensures.value
-    ∙ text_case c.args.limits.now spot c.args.texts.now.texts.items (string_bytes c.args.key) c.len.result at
+    ∙ text_case c.args.limits.now spot c.args.texts.now.added.keys c.args.key.now c.len.result at
     c.requires new c.len.ensures.len
