@@ -8,6 +8,7 @@ ghost use Rattle.price_ladder.specs.Beside.{IsWhole};
 
 use crate::ascent::Ascent;
 use crate::kept::Kept;
+use crate::ladder::Ladder;
 use crate::spot::{Spot, all_spots, priced_spots};
 use crate::whole::whole;
 use instance_model::Instance;
