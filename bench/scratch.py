@@ -1,7 +1,7 @@
 """Programs over crates of the repository, for measurements alone: proved and built in a copy, which is then removed.
 
-The copy has the libraries that were built of these crates, where they stand; what isn't built is proved there first.
-`rt lib` in the folder of the uppermost crate builds it and all below for good.
+tools/planner_build makes them there, as it makes the programs of the repository. The copy has the libraries of crates
+that stand; what doesn't is proved there first. `./planner --build` has all that its program stands on proved for good.
 """
 import os
 import re
@@ -12,8 +12,9 @@ from contextlib import contextmanager
 from tempfile import TemporaryDirectory
 
 TOP = os.path.dirname(os.path.dirname(os.path.abspath(__file__)))
-# What a copy has of a crate.
-PARTS = ("src", "specs", "proofs", "out/rlib")
+# What a copy has of a crate, and of the repository.
+PARTS = ("src", "specs", "proofs")
+WHOLE = ("KIT", "out/proved", "out/libraries")
 
 
 def rows():
@@ -34,8 +35,18 @@ def below(names, listed):
     return found
 
 
+def take(path, folder):
+    """Gives a file or folder of the repository, if it is there, a second name in a folder."""
+    have, there = os.path.join(TOP, path), os.path.join(folder, path)
+    os.makedirs(os.path.dirname(there), exist_ok=True)
+    if os.path.isdir(have):
+        shutil.copytree(have, there, copy_function=link_or_copy)
+    elif os.path.exists(have):
+        link_or_copy(have, there)
+
+
 def link_or_copy(one, other):
-    """Links a file of a library, which `rt` removes before it builds it anew, and never changes."""
+    """Links a file that is never changed, but replaced."""
     try:
         os.link(one, other)
     except OSError:
@@ -58,26 +69,18 @@ def program(name, uses, source, proofs):
     listed = rows()
     with TemporaryDirectory(prefix="bench-") as folder:
         names = below(uses, listed)
-        for crate in names:
-            for part in PARTS:
-                have = os.path.join(TOP, "crates", crate, part)
-                copy = link_or_copy if part == "out/rlib" else shutil.copy2
-                if os.path.isdir(have):
-                    shutil.copytree(have, os.path.join(folder, "crates", crate, part), copy_function=copy)
+        for path in [*WHOLE, *(os.path.join("crates", crate, part) for crate in names for part in PARTS)]:
+            take(path, folder)
         own = os.path.join(folder, "crates", name)
         write(os.path.join(own, "src", "main.rt"), source)
         for path, text in proofs.items():
             write(os.path.join(own, "proofs", path), text.replace("CRATE", name))
         lines = [listed[crate] for crate in sorted(names)] + [f"{name}: {' '.join(uses)}"]
         write(os.path.join(folder, "crates.txt"), "\n".join(lines) + "\n")
-        print(f"{name} is proved and built", file=sys.stderr)
-        # (without words it says which it wants, and fails)
-        ran = subprocess.run(["rt", "run"], cwd=own, stdin=subprocess.DEVNULL, stdout=subprocess.PIPE,
-                             stderr=subprocess.STDOUT, text=True, errors="replace", check=False)
-        built = os.path.join(own, "out", name)
-        if not os.access(built, os.X_OK):
-            sys.exit(ran.stdout + f"{name} is not proved")
-        yield built
+        build = [sys.executable, "-I", os.path.join(TOP, "tools", "planner_build"), folder, name]
+        if subprocess.run(build, stdin=subprocess.DEVNULL, check=False).returncode:
+            sys.exit(f"{name} is not proved and built")
+        yield os.path.join(folder, "out", name)
 
 
 def lines_by_word(printed):
