@@ -11,7 +11,7 @@ use Rattle.instance_model.proofs.DeviationLemmas.{scale_mono}
 use Rattle.lagrange_bound.proofs.ExLemmas.{sum_below-pos}
 
 -- what the prices u and v on the limits of a load within them add: never more than nothing
-band_le : (u v : ℕ) (load lower upper : ℤ) → lower ≤ℤ load → load ≤ℤ upper
+pub band_le : (u v : ℕ) (load lower upper : ℤ) → lower ≤ℤ load → load ≤ℤ upper
     → ((pos u -ℤ pos v) *ℤ load +ℤ (pos v *ℤ lower -ℤ pos u *ℤ upper)) ≤ℤ pos 0
 band_le u v load lower upper h k =
     let p = scale_mono u load upper k in
@@ -34,7 +34,7 @@ band_le u v load lower upper h k =
         difference a b = omega (arith, signed_arith)
 
 -- what the prices of all limits of one resource add over the periods
-bands_le : (p : ℕ) (u v : ℕ → ℕ) (load lower upper : ℕ → ℤ)
+pub bands_le : (p : ℕ) (u v : ℕ → ℕ) (load lower upper : ℕ → ℤ)
     → ((t : ℕ) → t < p → (lower t ≤ℤ load t) × (load t ≤ℤ upper t))
     → (sum_below p (λ t. (pos (u t) -ℤ pos (v t)) *ℤ load t)
     +ℤ sum_below p (λ t. (pos (v t) *ℤ lower t) -ℤ (pos (u t) *ℤ upper t))) ≤ℤ pos 0

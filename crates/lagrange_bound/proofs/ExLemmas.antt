@@ -11,12 +11,12 @@ use Rattle.instance_model.proofs.EntryLemmas.{count_sum_same}
 use Rattle.lagrange_bound.specs.declared.ex_price.ExPrice.{ExPrice}
 use Rattle.lagrange_bound.specs.Worth.{ex_share, ex_part, ex_total}
 
-count_sum-add : (n : ℕ) (f g : ℕ → ℕ) → count_sum n (λ i. f i + g i) ≡ count_sum n f + count_sum n g
+pub count_sum-add : (n : ℕ) (f g : ℕ → ℕ) → count_sum n (λ i. f i + g i) ≡ count_sum n f + count_sum n g
 unfolding count_sum
 count_sum-add zero f g = refl
 count_sum-add (suc n) f g = omega (arith, count_sum-add n f g)
 
-count_sum-none : (n : ℕ) → count_sum n (λ i. 0) ≡ 0
+pub count_sum-none : (n : ℕ) → count_sum n (λ i. 0) ≡ 0
 unfolding count_sum
 count_sum-none zero = refl
 count_sum-none (suc n) = omega (arith, count_sum-none n)

@@ -22,11 +22,12 @@ use Rattle.lagrange_bound.specs.Goals.{Bases, BasesAreSmall}
 use Rattle.lagrange_bound.specs.Boxes.{span_of, starts_in}
 use Rattle.lagrange_bound.specs.Worth.{ex_share, ex_part, ex_total, price_total, band_share, band_part, price_of}
 use Rattle.lagrange_bound.specs.Worth.{limit_share, fixed_part, worth_of, WorthsAreSmall}
+use Rattle.lagrange_bound.proofs.ExLemmas.{count_sum-add}
 
 -- ---- sums by resource and period
 
 -- each term is bounded by one of natural numbers
-sum_below-bounded : (n : ℕ) (f : ℕ → ℤ) (g : ℕ → ℕ) → ((k : ℕ) → k < n → unsigned_abs (f k) ≤ g k)
+pub sum_below-bounded : (n : ℕ) (f : ℕ → ℤ) (g : ℕ → ℕ) → ((k : ℕ) → k < n → unsigned_abs (f k) ≤ g k)
     → unsigned_abs (sum_below n f) ≤ count_sum n g
 unfolding count_sum
 sum_below-bounded zero f g h = rw (sum_below-zero f) (omega arith)
@@ -79,13 +80,8 @@ rows_sum-le : (k : ℕ) (xs : List ℕ) (m n : ℕ) → length xs ≡ m * n
 rows_sum-le k xs m n e =
     omega (arith, rows_sum k xs m n (omega (arith, e)), mul-le-mul_left k (first_sum-le xs (m * n)))
 
-count_sum-add : (n : ℕ) (f g : ℕ → ℕ) → count_sum n (λ k. f k + g k) ≡ count_sum n f + count_sum n g
-unfolding count_sum
-count_sum-add zero f g = omega arith
-count_sum-add (suc n) f g = omega (arith, count_sum-add n f g)
-
 -- a sum over resources and periods, where each term is bounded by k times the numbers of two lists at its place
-rows_bounded : (k : ℕ) (xs ys : List ℕ) (m n : ℕ) (f : ℕ → ℕ → ℤ) → length xs ≡ m * n → length ys ≡ m * n
+pub rows_bounded : (k : ℕ) (xs ys : List ℕ) (m n : ℕ) (f : ℕ → ℕ → ℤ) → length xs ≡ m * n → length ys ≡ m * n
     → ((c u : ℕ) → c < m → u < n → unsigned_abs (f c u)
     ≤ k * get_or xs (c * n + ((u + 1) - 1)) 0 + k * get_or ys (c * n + ((u + 1) - 1)) 0)
     → unsigned_abs (sum_below m (λ c. sum_below n (f c))) ≤ k * sum xs + k * sum ys
@@ -189,7 +185,7 @@ price_small base inst prices i s f h few l b =
 -- ---- the worth of a box
 
 -- what a filter keeps passes its test
-kept_passes : (p : ℕ → Bool) (xs : List ℕ) (x : ℕ) → Contains (filter p xs) x → p x ≡ true
+pub kept_passes : (p : ℕ → Bool) (xs : List ℕ) (x : ℕ) → Contains (filter p xs) x → p x ≡ true
 kept_passes p [] x (k, h, e) = absurd (omega (arith, h))
 kept_passes p (y ∷ xs) x c = at (p y) refl (kept_passes p xs x) c
   where

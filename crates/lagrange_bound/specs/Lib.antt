@@ -7,6 +7,7 @@ pub mod Bases
 pub mod Goals
 pub mod Boxes
 pub mod Worth
+pub mod Pricings
 pub mod Tabulated
 pub mod TailLemmas
 pub mod TermLemmas

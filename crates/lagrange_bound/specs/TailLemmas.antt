@@ -60,7 +60,7 @@ least_over-sum_below n f ks h =
 -- ---- places of a list that pass a test
 
 -- each of a list that ascends above a is above a
-above_all : (a : ℕ) (ks : List ℕ) → AscendAbove a ks → (k : ℕ) → Contains ks k → a < k
+pub above_all : (a : ℕ) (ks : List ℕ) → AscendAbove a ks → (k : ℕ) → Contains ks k → a < k
 above_all a [] up k (i, l, e) = absurd (omega (arith, l))
 above_all a (j ∷ ks) up k (zero, l, e) = omega (arith, up.0, e)
 above_all a (j ∷ ks) up k (suc i, l, e) = omega (arith, up.0, above_all j ks up.1 k (i, omega (arith, l), e))
@@ -105,7 +105,7 @@ places_count p (x ∷ xs) a (k ∷ ks) up h =
         later j (i, l, e) = (suc i, omega (arith, l), e)
 
 -- each member passes or not
-count_split : (p : ℤ → Bool) (xs : List ℤ) → count_by p xs + count_by (λ x. not (p x)) xs ≡ length xs
+pub count_split : (p : ℤ → Bool) (xs : List ℤ) → count_by p xs + count_by (λ x. not (p x)) xs ≡ length xs
 count_split p [] = refl
 count_split p (x ∷ xs) =
     at (p x) (count_split p xs) (sum_by-cons (λ y. cond (p y) 1 0) x xs) (sum_by-cons (λ y. cond (not (p y)) 1 0) x xs)

@@ -153,7 +153,7 @@ weighed-sum alpha n m f tail some =
 -- ---- against the score of one period
 
 -- a weight of at most 1000 thousandths
-below_excess : (b : ℕ) (v : ℤ) → b ≤ 1000 → (pos b *ℤ v) ≤ℤ (pos 1000 *ℤ int_max (pos 0) v)
+pub below_excess : (b : ℕ) (v : ℤ) → b ≤ 1000 → (pos b *ℤ v) ≤ℤ (pos 1000 *ℤ int_max (pos 0) v)
 below_excess b v h =
     by_lt_z v (pos 0)
     (λ l. let o = lt_out v (pos 0) l in
@@ -178,7 +178,7 @@ below_excess b v h =
         omega (arith, p, r, s)
 
 -- products of natural numbers with a whole number, in another order
-scale-scale : (a b : ℕ) (z : ℤ) → pos (a * b) *ℤ z ≡ pos a *ℤ (pos b *ℤ z)
+pub scale-scale : (a b : ℕ) (z : ℤ) → pos (a * b) *ℤ z ≡ pos a *ℤ (pos b *ℤ z)
 scale-scale a b z =
     let p = product_is (pos b) z in
     let u = ap (λ (t : ℕ). a * t) p.0 in
@@ -186,10 +186,10 @@ scale-scale a b z =
     same_in (pos (a * b) *ℤ z) (pos a *ℤ (pos b *ℤ z))
     (omega (arith, product_is (pos (a * b)) z, product_is (pos a) (pos b *ℤ z), u, v))
 
-scale-swap : (a b : ℕ) (z : ℤ) → pos a *ℤ (pos b *ℤ z) ≡ pos b *ℤ (pos a *ℤ z)
+pub scale-swap : (a b : ℕ) (z : ℤ) → pos a *ℤ (pos b *ℤ z) ≡ pos b *ℤ (pos a *ℤ z)
 scale-swap a b z = sym (scale-scale a b z) ∙ ap (λ (t : ℕ). pos t *ℤ z) (mul_comm a b) ∙ scale-scale b a z
 
-thousand_times : (a d : ℕ) (s x e : ℤ) → x ≤ℤ (pos 1000 *ℤ e)
+pub thousand_times : (a d : ℕ) (s x e : ℤ) → x ≤ℤ (pos 1000 *ℤ e)
     → ((pos (1000 * a) *ℤ s) +ℤ (pos d *ℤ x)) ≤ℤ (pos 1000 *ℤ ((pos a *ℤ s) +ℤ (pos d *ℤ e)))
 thousand_times a d s x e h =
     let m = scale_mono d x (pos 1000 *ℤ e) h in

@@ -26,7 +26,7 @@ mod term;
 
 pub use ex_price::ExPrice;
 pub use goal::Goal;
-pub use laws::{worth_bounds_plans, worths_are_small};
+pub use laws::{lawful_worths_bound_plans, prices_are_lawful, worth_bounds_plans, worths_are_small};
 pub use places::Places;
 pub use prices::Prices;
 pub use pricing::price;
