@@ -19,11 +19,10 @@ use Rattle.certificate_lines.specs.declared.line.Bound.{Bound}
 use Rattle.certificate_lines.specs.declared.line.Bound.TheVariants.{NoPlan, Least}
 use Rattle.certificate_tree.specs.declared.node.Node.{Node}
 use Rattle.certificate_tree.specs.declared.node.Node.TheVariants.{Split, Cost, Point, Band, Excl, Empty}
-use Rattle.certificate_tree.specs.declared.certificate.Certificate.{Certificate}
 use Rattle.certificate_tree.specs.Trees.{Leaf, Tree, leaf, split, leaves, below, above, root_box}
 use Rattle.certificate_tree.specs.Ranges.{IsLeafInRange, IsTreeInRange}
 use Rattle.certificate_tree.specs.Holding.{IsAtLeast, list_at, LeafHolds}
-use Rattle.certificate_tree.specs.Validity.{CertLeafHolds}
+use Rattle.certificate_tree.specs.Validity.{CertLeafHolds, BoundsPlans}
 use Rattle.certificate_tree.specs.Laws.{ValidBoundsPlans}
 use Rattle.certificate_tree.proofs.RootLemmas.{root_at, length-root, parts_hold_plans}
 use Rattle.certificate_tree.proofs.Refuting.{band_refutes, excl_refutes, start_in, single_plan, feasible_allowed}
@@ -31,7 +30,7 @@ use Rattle.certificate_tree.proofs.Refuting.{band_refutes, excl_refutes, start_i
 at_most_trans : (a b c : ℤ) → a ≤ℤ b → b ≤ℤ c → a ≤ℤ c
 at_most_trans a b c h k = omega (arith, signed_arith)
 
-at_least_more : (bound : Bound) (x y : ℤ) → IsAtLeast bound x → x ≤ℤ y → IsAtLeast bound y
+pub at_least_more : (bound : Bound) (x y : ℤ) → IsAtLeast bound x → x ≤ℤ y → IsAtLeast bound y
 at_least_more NoPlan x y h l = absurd h
 at_least_more (Least b) x y h l = at_most_trans b x y h l
 
@@ -60,7 +59,7 @@ list_in_range inst lists zero l h = zero_in_range inst
 list_in_range inst lists (suc j) l h = h j (zero_list inst) (omega (arith, l))
 
 -- ---- a leaf
-leaf_sound : (base : Bases) (value : PlanValue) (inst : Tables) (bound : Bound) (lists : List PriceList)
+pub leaf_sound : (base : Bases) (value : PlanValue) (inst : Tables) (bound : Bound) (lists : List PriceList)
     (box : List Span) (starts : List ℕ) (n : Node) → WorthBoundsPlans base value → IsFitting inst
     → All (IsPriceList inst) lists → length box ≡ length inst.names → IsLeafInRange inst (length lists) n
     → IsPlanIn inst box starts → LeafHolds base value inst bound lists box n → IsAtLeast bound (value inst starts)
@@ -92,26 +91,25 @@ each_in_turn : (P : Leaf → Type 0) (xs : List Leaf) → All P xs → AllByRecu
 each_in_turn P [] h = tt
 each_in_turn P (x ∷ xs) h = (h 0 x (omega arith), each_in_turn P xs (λ i d l. h (suc i) d (omega (arith, l))))
 
-tree_sound : (base : Bases) (value : PlanValue) (inst : Tables) (cert : Certificate) (starts : List ℕ) (t : Tree)
-    (box : List Span) → WorthBoundsPlans base value → IsFitting inst → All (IsPriceList inst) cert.lists
-    → length box ≡ length inst.names → IsTreeInRange inst (length cert.lists) box t
-    → AllByRecursion (CertLeafHolds base value inst cert) (leaves box t) → IsPlanIn inst box starts
-    → IsAtLeast cert.bound (value inst starts)
-tree_sound base value inst cert starts (leaf n) box law f r len t h p =
-    leaf_sound base value inst cert.bound cert.lists box starts n law f r len t p h.0
-tree_sound base value inst cert starts (split i m l x) box law f r len t h p =
-    at (λ p'. tree_sound base value inst cert starts l (below box i m) law f r
+-- where each leaf that holds bounds a plan of its box, the leaves of a tree bound one of the box of the tree
+tree_bounds : (inst : Tables) (starts : List ℕ) (Bounded : Type 0) (lists : ℕ) (Holds : Leaf → Type 0)
+    → ((leaf : Leaf) → length leaf.box ≡ length inst.names → IsLeafInRange inst lists leaf.node
+    → IsPlanIn inst leaf.box starts → Holds leaf → Bounded)
+    → (t : Tree) (box : List Span) → length box ≡ length inst.names → IsTreeInRange inst lists box t
+    → AllByRecursion Holds (leaves box t) → IsPlanIn inst box starts → Bounded
+tree_bounds inst starts Bounded lists Holds sound (leaf n) box len t h p =
+    sound (record { box = box; node = n }) len t p h.0
+tree_bounds inst starts Bounded lists Holds sound (split i m l x) box len t h p =
+    at (λ p'. tree_bounds inst starts Bounded lists Holds sound l (below box i m)
     (length-set box i (record { from = (span_of box i).from; to = m }) ∙ len) t.1
-    (fronts (CertLeafHolds base value inst cert) (leaves (below box i m) l) (leaves (above box i m) x) h) p')
-    (λ p'. tree_sound base value inst cert starts x (above box i m) law f r
+    (fronts Holds (leaves (below box i m) l) (leaves (above box i m) x) h) p')
+    (λ p'. tree_bounds inst starts Bounded lists Holds sound x (above box i m)
     (length-set box i (record { from = m + 1; to = (span_of box i).to }) ∙ len) t.2
-    (backs (CertLeafHolds base value inst cert) (leaves (below box i m) l) (leaves (above box i m) x) h) p')
+    (backs Holds (leaves (below box i m) l) (leaves (above box i m) x) h) p')
     (parts_hold_plans inst box i m starts len t.0 p)
   where
-    at : (IsPlanIn inst (below box i m) starts → IsAtLeast cert.bound (value inst starts))
-        → (IsPlanIn inst (above box i m) starts → IsAtLeast cert.bound (value inst starts))
-        → IsPlanIn inst (below box i m) starts ⊎ IsPlanIn inst (above box i m) starts
-        → IsAtLeast cert.bound (value inst starts)
+    at : (IsPlanIn inst (below box i m) starts → Bounded) → (IsPlanIn inst (above box i m) starts → Bounded)
+        → IsPlanIn inst (below box i m) starts ⊎ IsPlanIn inst (above box i m) starts → Bounded
     at one two (inl q) = one q
     at one two (inr q) = two q
 
@@ -127,8 +125,19 @@ root_plan inst starts each feasible = record {
       ((is_allowed_facts inst i (get_or starts i 0) (feasible_allowed inst starts each feasible i h)).1);
 }
 
+-- where each leaf that holds bounds the plans of its box, a tree in range over the box of all starts whose leaves hold
+-- bounds every feasible plan
+pub leaves_bound_plans : (value : PlanValue) (inst : Tables) (bound : Bound) (lists : ℕ) (Holds : Leaf → Type 0)
+    → ((starts : List ℕ) (leaf : Leaf) → length leaf.box ≡ length inst.names → IsLeafInRange inst lists leaf.node
+    → IsPlanIn inst leaf.box starts → Holds leaf → IsAtLeast bound (value inst starts))
+    → (t : Tree) → IsTreeInRange inst lists (root_box inst) t → All Holds (leaves (root_box inst) t)
+    → BoundsPlans value inst bound
+leaves_bound_plans value inst bound lists Holds sound t r h starts each feasible =
+    tree_bounds inst starts (IsAtLeast bound (value inst starts)) lists Holds (sound starts) t (root_box inst)
+    (length-root inst) r (each_in_turn Holds (leaves (root_box inst) t) h) (root_plan inst starts each feasible)
+
 pub valid_bounds_plans : (base : Bases) (value : PlanValue) → WorthBoundsPlans base value → ValidBoundsPlans base value
-valid_bounds_plans base value law inst cert f r v starts each feasible =
-    tree_sound base value inst cert starts v.tree (root_box inst) law f r.lists (length-root inst) v.of_nodes.in_range
-    (each_in_turn (CertLeafHolds base value inst cert) (leaves (root_box inst) v.tree) v.holds)
-    (root_plan inst starts each feasible)
+valid_bounds_plans base value law inst cert f r v =
+    leaves_bound_plans value inst cert.bound (length cert.lists) (CertLeafHolds base value inst cert)
+    (λ starts leaf len k p h. leaf_sound base value inst cert.bound cert.lists leaf.box starts leaf.node law f r.lists
+    len k p h) v.tree v.of_nodes.in_range v.holds
