@@ -24,23 +24,23 @@ use Rattle.certificate_lines.proofs.FormLemmas.{only_ex, only_tree, only_split, 
 use Rattle.certificate_lines.proofs.FormLemmas.{only_excl, only_empty}
 
 -- words are those of one number, or of some
-one_once : (n m : ℕ) → IsNumber n → IsNumber m → words (n ∷ []) ≡ words (m ∷ []) → n ≡ m
+pub one_once : (n m : ℕ) → IsNumber n → IsNumber m → words (n ∷ []) ≡ words (m ∷ []) → n ≡ m
 one_once n m ns ms e = (word_once n m [] [] ns ms tt tt e).0
 
-two_once : (a b n m : ℕ) → IsNumber a × IsNumber b → IsNumber n × IsNumber m
+pub two_once : (a b n m : ℕ) → IsNumber a × IsNumber b → IsNumber n × IsNumber m
     → words (a ∷ b ∷ []) ≡ words (n ∷ m ∷ []) → (a ≡ n) × (b ≡ m)
 two_once a b n m h g e =
     let first = word_once a n (words (b ∷ [])) (words (m ∷ [])) h.0 g.0 refl refl e in
     (first.0, one_once b m h.1 g.1 first.1)
 
-three_once : (a b c n m k : ℕ) → IsNumber a × IsNumber b × IsNumber c → IsNumber n × IsNumber m × IsNumber k
+pub three_once : (a b c n m k : ℕ) → IsNumber a × IsNumber b × IsNumber c → IsNumber n × IsNumber m × IsNumber k
     → words (a ∷ b ∷ c ∷ []) ≡ words (n ∷ m ∷ k ∷ []) → (a ≡ n) × (b ≡ m) × (c ≡ k)
 three_once a b c n m k h g e =
     let first = word_once a n (words (b ∷ c ∷ [])) (words (m ∷ k ∷ [])) h.0 g.0 refl refl e in
     let later = two_once b c m k (h.1, h.2) (g.1, g.2) first.1 in
     (first.0, later.0, later.1)
 
-words_once : (ns ms : List ℕ) → All IsNumber ns → All IsNumber ms → words ns ≡ words ms → ns ≡ ms
+pub words_once : (ns ms : List ℕ) → All IsNumber ns → All IsNumber ms → words ns ≡ words ms → ns ≡ ms
 words_once [] [] h g e = refl
 words_once [] (m ∷ ms) h g e = absurd (cc)
 words_once (n ∷ ns) [] h g e = absurd (cc)
@@ -146,14 +146,14 @@ one_line a b h g e =
     same_behind a b h g (sym (keyword_once (keyword_of a) (keyword_of b) cut.0)) cut.1
 
 -- a byte of a line is no control character
-abbrev Above : ℕ → Type 0
+abbrev pub Above : ℕ → Type 0
 Above b = 32 ≤ b
 
 digits_above : (n : ℕ) → n < 10 ^ 37 → All Above (decimal n)
 digits_above n small =
     All-weaker (λ b. 48 ≤ b) Above (λ b h. omega (arith, h)) (decimal n) (decimal_digits n (omega (arith, small)))
 
-words_above : (ns : List ℕ) → All IsNumber ns → All Above (words ns)
+pub words_above : (ns : List ℕ) → All IsNumber ns → All Above (words ns)
 words_above [] h = All-nil Above
 words_above (n ∷ ns) h =
     let small : IsNumber n = All-head IsNumber n ns h in

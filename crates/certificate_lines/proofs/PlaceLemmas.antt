@@ -32,7 +32,7 @@ begins (p ∷ front) (q ∷ numbers) rest f n b e =
     record { more = later.more; is = (λ i. both.0 i ∷ later.is i); left = later.left }
 
 -- the element behind the first ones
-behind_front : (P : ℕ → Type 0) (front more : List ℕ) (m : ℕ) → All P (front ++ m ∷ more) → P m
+pub behind_front : (P : ℕ → Type 0) (front more : List ℕ) (m : ℕ) → All P (front ++ m ∷ more) → P m
 behind_front P [] more m h = All-head P m more h
 behind_front P (p ∷ front) more m h = behind_front P front more m (All-tail P p (front ++ m ∷ more) h)
 

@@ -18,5 +18,7 @@ mod write;
 pub use laws::lines_are_spelled_one_way;
 pub use line::{Bound, CertificateLine, Side, Version};
 pub use numbers::Numbers;
+pub use places::places_of;
 pub use read::line_of;
-pub use write::{write_line, write_tail};
+pub use words::{cut_word, next_number, one, three, two};
+pub use write::{write_line, write_places, write_tail, write_words};

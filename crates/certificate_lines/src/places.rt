@@ -27,7 +27,7 @@ pub fn tail(alloc: Global, rest: &[u8]) -> Result<Option<CertificateLine>, Alloc
 }
 
 /// The ascending numbers that are all words of a text.
-fn places_of(alloc: Global, text: &[u8]) -> Result<Option<Vec<u64>>, AllocError>
+pub fn places_of(alloc: Global, text: &[u8]) -> Result<Option<Vec<u64>>, AllocError>
     requires { IsBreak text.now }
     ensures found { IfOk result (λ read. IfSome read (λ places. text.now ≡ words places.items)) }
     ensures small { IfOk result (λ read. IfSome read (λ places. All IsNumber places.items)) }

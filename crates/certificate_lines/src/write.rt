@@ -134,7 +134,7 @@ fn write_pair_and_words<D: Desk>(
 }
 
 /// Writes numbers, each behind a blank.
-fn write_words<D: Desk>(numbers: &[u64], desk: &mut D) -> Result<(), Failed>
+pub fn write_words<D: Desk>(numbers: &[u64], desk: &mut D) -> Result<(), Failed>
     requires opened { IsTrue (D.shows desk.old).output.opened }
     ensures { WritesText (words numbers.now) (D.shows desk.old) (D.shows desk.new) result }
 {
@@ -145,7 +145,7 @@ fn write_words<D: Desk>(numbers: &[u64], desk: &mut D) -> Result<(), Failed>
 }
 
 /// The same of smaller numbers.
-fn write_places<D: Desk>(places: &[u32], desk: &mut D) -> Result<(), Failed>
+pub fn write_places<D: Desk>(places: &[u32], desk: &mut D) -> Result<(), Failed>
     requires opened { IsTrue (D.shows desk.old).output.opened }
     ensures { WritesText (words places.now) (D.shows desk.old) (D.shows desk.new) result }
 {

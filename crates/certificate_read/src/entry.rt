@@ -48,7 +48,7 @@ pub fn read_entry(
 }
 
 /// Sets the entry of a line, if it is one with its numbers in range.
-fn set_entry(
+pub fn set_entry(
     alloc: Global,
     inst: &Instance,
     line: &CertificateLine,

@@ -59,7 +59,7 @@ pub fn read_bound(
     }
 }
 
-fn bound_of(version: Version, line: &CertificateLine) -> Result<Bound, Refusal>
+pub fn bound_of(version: Version, line: &CertificateLine) -> Result<Bound, Refusal>
     ensures ok { IfOk result (λ bound. (line.now ≡ form.Bound bound) × IsBoundInRange bound) }
     ensures err { (inst : Tables) → IfErr result (Refuses inst (place.bound version) line.now) }
 {
@@ -86,7 +86,7 @@ pub fn read_count(alloc: Global, version: Version, lines: &mut Lines<'_>) -> Res
     }
 }
 
-fn count_of(version: Version, line: &CertificateLine) -> Result<u32, Refusal>
+pub fn count_of(version: Version, line: &CertificateLine) -> Result<u32, Refusal>
     ensures ok { IfOk result (λ count. (line.now ≡ form.Lists count) × (count ≤ 16)) }
     ensures err { (inst : Tables) → IfErr result (Refuses inst (place.count version) line.now) }
 {

@@ -25,6 +25,13 @@ pub use certificate_tree::{
     has_start, has_starts, nodes_are_one_tree, parts_are_boxes, parts_hold_plans,
     valid_bounds_plans,
 };
+pub use entry::set_entry;
 pub use fault::CertFault;
+pub use fits::counts_to;
+pub use header::{bound_of, count_of};
+pub use key::{EntryKey, key_of};
 pub use laws::texts_are_told;
+pub use lines::Lines;
+pub use nodes::read_nodes;
 pub use read::read_certificate;
+pub use refusal::Refusal;

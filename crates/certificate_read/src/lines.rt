@@ -1,5 +1,5 @@
 //! The lines of a text, one after another.
-ghost use Rattle.std.specs.Prelude.{◌≡◌, IfOk, IfErr, length};
+ghost use Rattle.std.specs.Prelude.{◌≡◌, ◌+◌, ◌<◌, ◌^◌, IfOk, IfErr, length};
 ghost use Rattle.std.specs.Bool.{OnTrue, OnFalse};
 ghost use Rattle.certificate_read.specs.Reading.{ReadsLine, IsNoLine, IsBeforeMark, IsBeforeNoMark, IsMore, fault_at};
 
@@ -38,6 +38,15 @@ impl<'a> Lines<'a> {
             rest: text,
             count: 0,
         }
+    }
+
+    /// What is left of a text behind `count` lines.
+    pub fn behind(text: &'a [u8], count: u64) -> Lines<'a>
+        requires { count + length text.now < 2 ^ 63 }
+        ensures rest { result.rest ≡ text.now }
+        ensures count { result.count ≡ count }
+    {
+        Lines { rest: text, count }
     }
 
     /// Reads a line.

@@ -100,7 +100,7 @@ ascend_all a [] h = All-nil (λ k. a < k)
 ascend_all a (k ∷ ks) h = All-cons (λ l. a < l) k ks h.0 (All-weaker (λ l. k < l) (λ l. a < l) (λ l m. let n = h.0 in
     omega (arith, m, n)) ks (ascend_all k ks h.1))
 
-ascend_pairs : (a : ℕ) (ks : List ℕ) → AscendAbove a ks → AllPairs (λ k l. k < l) ks
+pub ascend_pairs : (a : ℕ) (ks : List ℕ) → AscendAbove a ks → AllPairs (λ k l. k < l) ks
 ascend_pairs a [] h = λ i j d l m. absurd (omega (arith, m))
 ascend_pairs a (k ∷ ks) h = AllPairs-cons (λ k l. k < l) k ks (ascend_all k ks h.1) (ascend_pairs k ks h.1)
 
@@ -110,19 +110,19 @@ scenarios_small inst t fits from to = let each = fits.scenarios_each in
     let w = fits.scenarios_few (t - 1) 0 (omega (arith, each)) in w.1
 
 module _ (inst : Tables) (fits : IsFitting inst) where
-  few_periods : inst.periods ≤ 512
+  pub few_periods : inst.periods ≤ 512
   few_periods = fits.few_periods
 
-  few_resources : length inst.resource_names ≤ 32
+  pub few_resources : length inst.resource_names ≤ 32
   few_resources = fits.resources.few
 
-  few_exclusions : length inst.exclusion_names ≤ 65_536
+  pub few_exclusions : length inst.exclusion_names ≤ 65_536
   few_exclusions = fits.exclusions.few
 
-  few_names : length inst.names ≤ 1024
+  pub few_names : length inst.names ≤ 1024
   few_names = fits.names.few
 
-  limit_numbers : (c t v : ℕ) → IsLimitPrice inst c t v → IsNumber c × IsNumber t × IsNumber v
+  pub limit_numbers : (c t v : ℕ) → IsLimitPrice inst c t v → IsNumber c × IsNumber t × IsNumber v
   limit_numbers c t v h = (omega (arith, few_resources), omega (arith, few_periods), omega arith)
 
   tail_form : (t : ℕ) (tail : Tail) → 1 ≤ t → t ≤ inst.periods → IsTail inst t tail → IsLine (tail_line t tail)
@@ -132,7 +132,7 @@ module _ (inst : Tables) (fits : IsFitting inst) where
       All-weaker (λ k. k ≤ scenarios_of inst t) IsNumber (λ k l. omega (arith, few, l)) tail.places h.within in
       (omega (arith, few_periods), omega (arith, h.weight), places, ascend_pairs 0 tail.places h.ascend)
 
-  ex_form : (x : ExPrice) → IsExPrice inst x → IsLine (ex_line x)
+  pub ex_form : (x : ExPrice) → IsExPrice inst x → IsLine (ex_line x)
   ex_form x h = (omega (arith, few_exclusions, h.number), omega (arith, few_periods, h.to), omega (arith, h.small))
 
   pub tail_fits : (p : PriceList) → IsPriceList inst p → (i : ℕ) (tail : Tail) → i < length p.tails
@@ -142,7 +142,7 @@ module _ (inst : Tables) (fits : IsFitting inst) where
       let f : 1 + i - 1 ≡ i = omega arith in
       ok.tails (1 + i) (omega arith) (omega (arith, h, each)) tail (ap (λ k. get_or p.tails k None) f ∙ e)
 
-  entries_form : (p : PriceList) → IsPriceList inst p → AllByRecursion IsLine (entry_lines inst p)
+  pub entries_form : (p : PriceList) → IsPriceList inst p → AllByRecursion IsLine (entry_lines inst p)
   entries_form p ok =
       let each = ok.tails_each in
       each_append IsLine (limit_lines line.Up inst.periods 0 p.up)
@@ -209,7 +209,7 @@ module _ (inst : Tables) (fits : IsFitting inst) where
               get_or_past (root_box inst) i (record { from = 0; to = 0 }) (omega (arith, l, e)) in
               subst (λ (s : Span). s.to ≤ 512) (sym f) (omega arith)
 
-  leaf_form : (m : ℕ) (n : Node) → m ≤ 16 → IsLeafInRange inst m n → IsLine (node_line n)
+  pub leaf_form : (m : ℕ) (n : Node) → m ≤ 16 → IsLeafInRange inst m n → IsLine (node_line n)
   leaf_form m (node.Split i last) few h = absurd h
   leaf_form m (node.Cost list) few h = omega (arith, few, h)
   leaf_form m node.Point few h = tt
@@ -240,7 +240,7 @@ module _ (inst : Tables) (fits : IsFitting inst) where
             (each_append P (map node_line (pre_order l)) (map node_line (pre_order r)) left right),
       )
 
-bound_form : (b : Bound) → IsBoundInRange b → IsLine (line.Bound b)
+pub bound_form : (b : Bound) → IsBoundInRange b → IsLine (line.Bound b)
 bound_form NoPlan h = tt
 bound_form (Least n) h = omega (arith, h)
 

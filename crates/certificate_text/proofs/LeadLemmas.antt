@@ -218,7 +218,7 @@ leaf_leads inst m (node.Band c t side) box boxes h =
 leaf_leads inst m (node.Excl e) box boxes h = (tt, (omega arith, omega (arith, h)), refl)
 leaf_leads inst m (node.Empty i) box boxes h = (tt, (omega arith, omega (arith, h)), refl)
 
-tree_leads : (inst : Tables) (m : ℕ) (t : Tree) (box : List Span) (boxes : List (List Span))
+pub tree_leads : (inst : Tables) (m : ℕ) (t : Tree) (box : List Span) (boxes : List (List Span))
     → IsTreeInRange inst m box t → Leads inst (nodes m (box ∷ boxes)) (map node_line (pre_order t)) (nodes m boxes)
 tree_leads inst m (leaf n) box boxes h = leaf_leads inst m n box boxes h
 tree_leads inst m (split i last l r) box boxes h =

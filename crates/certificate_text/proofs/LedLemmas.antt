@@ -33,7 +33,7 @@ use Rattle.certificate_text.proofs.ExLemmas.{all_before}
 use Rattle.certificate_text.proofs.GrowLemmas.{some_each, ex_above, up_grows, lo_grows, tail_grows, ex_grows}
 use Rattle.certificate_text.proofs.GrowLemmas.{zero_has_none, zero_up_to}
 
-one_back : (i : ℕ) → 1 ≤ i → i - 1 + 1 ≡ i
+pub one_back : (i : ℕ) → 1 ≤ i → i - 1 + 1 ≡ i
 one_back i h = omega (arith, h)
 
 -- ---- nodes
@@ -267,12 +267,12 @@ one_more inst v n left old new a lines e r = record {
 
 -- ---- entries
 -- a list that an entry is written into
-record IsGrown (inst : Tables) (v : Version) (old : PriceList) (a : CertificateLine) (key : EntryKey) : Type 0 where
-  new : PriceList
-  in_range : IsPriceList inst new
-  has_prices : HasPricesOf v new
-  lines : entry_lines inst new ≡ entry_lines inst old ++ a ∷ []
-  up_to : IsUpTo inst new key
+pub record IsGrown (inst : Tables) (v : Version) (old : PriceList) (a : CertificateLine) (key : EntryKey) : Type 0 where
+  pub new : PriceList
+  pub in_range : IsPriceList inst new
+  pub has_prices : HasPricesOf v new
+  pub lines : entry_lines inst new ≡ entry_lines inst old ++ a ∷ []
+  pub up_to : IsUpTo inst new key
 
 -- prices on exclusions that are the same are as they were
 same_ex : (v : Version) (old new : PriceList) → new.ex ≡ old.ex → HasPricesOf v old → HasPricesOf v new
@@ -293,7 +293,7 @@ module _ (inst : Tables) (v : Version) (prices : PriceList) (last : EntryKey) (o
     to = fit.to;
   }
 
-  up_more : (c t w : ℕ) → KeyBelow last (up_key c t) → IsLimitPrice inst c t w
+  pub up_more : (c t w : ℕ) → KeyBelow last (up_key c t) → IsLimitPrice inst c t w
       → IsGrown inst v prices (line.Up c t w) (up_key c t)
   up_more c t w next fit =
       let new : PriceList = with_up inst prices (c - 1) t w in
@@ -309,7 +309,7 @@ module _ (inst : Tables) (v : Version) (prices : PriceList) (last : EntryKey) (o
         up_to = grows.up_to;
       }
 
-  lo_more : (c t w : ℕ) → KeyBelow last (lo_key c t) → IsLimitPrice inst c t w
+  pub lo_more : (c t w : ℕ) → KeyBelow last (lo_key c t) → IsLimitPrice inst c t w
       → IsGrown inst v prices (line.Lo c t w) (lo_key c t)
   lo_more c t w next fit =
       let new : PriceList = with_lo inst prices (c - 1) t w in
@@ -348,7 +348,7 @@ module _ (inst : Tables) (v : Version) (prices : PriceList) (last : EntryKey) (o
   at_end x (y ∷ ys) h zero d l = h.0
   at_end x (y ∷ ys) h (suc j) d l = at_end x ys h.1 j d (omega (arith, l))
 
-  ex_more : v ≡ Two → (e t w : ℕ) → KeyBelow last (ex_key e t) → 1 ≤ e → IsExPrice inst (price_at (e - 1) t w)
+  pub ex_more : v ≡ Two → (e t w : ℕ) → KeyBelow last (ex_key e t) → 1 ≤ e → IsExPrice inst (price_at (e - 1) t w)
       → IsGrown inst v prices (line.Ex e t w) (ex_key e t)
   ex_more two e t w next from fit =
       let x : ExPrice = price_at (e - 1) t w in

@@ -45,17 +45,17 @@ pub each_append : {A : Type 0} (P : A → Type 0) (xs ys : List A) → AllByRecu
 each_append P [] ys h k = k
 each_append P (x ∷ xs) ys h k = (h.0, each_append P xs ys h.1 k)
 
-begins_out : {A : Type 0} (In : A → Type 0) (xs : List A) → AllByRecursion (λ x. In x → ⊥) xs → BeginsOut In xs
+pub begins_out : {A : Type 0} (In : A → Type 0) (xs : List A) → AllByRecursion (λ x. In x → ⊥) xs → BeginsOut In xs
 begins_out In [] h = tt
 begins_out In (x ∷ xs) h = h.0
 
-begins_out-append : {A : Type 0} (In : A → Type 0) (xs ys : List A) → BeginsOut In xs → BeginsOut In ys
+pub begins_out-append : {A : Type 0} (In : A → Type 0) (xs ys : List A) → BeginsOut In xs → BeginsOut In ys
     → BeginsOut In (xs ++ ys)
 begins_out-append In [] ys h k = k
 begins_out-append In (x ∷ xs) ys h k = h
 
 -- the lines of each part are such, where each line of its form is
-limits_each : (P : CertificateLine → Type 0) (form : ℕ → ℕ → ℕ → CertificateLine) → ((c t v : ℕ) → P (form c t v))
+pub limits_each : (P : CertificateLine → Type 0) (form : ℕ → ℕ → ℕ → CertificateLine) → ((c t v : ℕ) → P (form c t v))
     → (n k : ℕ) (vs : List ℕ) → AllByRecursion P (limit_lines form n k vs)
 unfolding limit_lines
 limits_each P form h n k [] = tt
@@ -74,7 +74,7 @@ tails_each P h t [] = tt
 tails_each P h t (None ∷ tails) = tails_each P h (t + 1) tails
 tails_each P h t (Some tail ∷ tails) = (h t tail, tails_each P h (t + 1) tails)
 
-ex_each : (P : CertificateLine → Type 0) → ((x : ExPrice) → P (ex_line x)) → (xs : List ExPrice)
+pub ex_each : (P : CertificateLine → Type 0) → ((x : ExPrice) → P (ex_line x)) → (xs : List ExPrice)
     → AllByRecursion P (map ex_line xs)
 ex_each P h [] = tt
 ex_each P h (x ∷ xs) = (h x, ex_each P h xs)
@@ -137,7 +137,7 @@ module _ (inst : Tables) where
       let ex = ex_lines_tell p.ex q.ex three.1 in
       λ j. record { up = up j; lo = lo j; tails = tails j; ex = ex j }
 
-  entries_each : (p : PriceList) → AllByRecursion IsEntry (entry_lines inst p)
+  pub entries_each : (p : PriceList) → AllByRecursion IsEntry (entry_lines inst p)
   entries_each p =
       each_append IsEntry (limit_lines line.Up inst.periods 0 p.up) _
       (limits_each IsEntry line.Up (λ c t v. tt) inst.periods 0 p.up)

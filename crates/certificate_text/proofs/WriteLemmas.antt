@@ -34,7 +34,7 @@ HasLines lines old new = HasPut writing (text_of_lines lines) old new
 abbrev pub PutsLines : {T : Type 0} → List CertificateLine → (old new : Shown) → Result T Failed → Type 0
 PutsLines lines old new result = PutsText writing (text_of_lines lines) old new result
 
-text-append : (xs ys : List CertificateLine) → text_of_lines (xs ++ ys) ≡ text_of_lines xs ++ text_of_lines ys
+pub text-append : (xs ys : List CertificateLine) → text_of_lines (xs ++ ys) ≡ text_of_lines xs ++ text_of_lines ys
 text-append xs ys = flat_map-append line_text xs ys
 
 -- a last call writes what is left

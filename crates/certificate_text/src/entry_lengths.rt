@@ -14,7 +14,7 @@ use instance_model::Instance;
 use lagrange_bound::{ExPrice, Prices, Tail};
 
 /// All entries of a price list.
-pub(crate) fn entries_length(inst: &Instance, prices: &Prices) -> u64
+pub fn entries_length(inst: &Instance, prices: &Prices) -> u64
     requires { IsPriceList inst.now prices.now }
     ensures { result ≡ counted_length (text_of_lines (entry_lines inst.now prices.now)) }
 {
@@ -110,7 +110,7 @@ fn tail_length(t: u32, tail: &Tail) -> u64
 }
 
 /// The scenarios of a tail.
-fn places_length(places: &[u32]) -> u64
+pub fn places_length(places: &[u32]) -> u64
     ensures { result ≡ counted_length (words places.now) }
 {
     let mut total: u64 = 0;

@@ -53,7 +53,7 @@ fn list_length(inst: &Instance, prices: &Prices) -> u64
 }
 
 /// The tree.
-fn tree_length(nodes: &[Node]) -> u64
+pub fn tree_length(nodes: &[Node]) -> u64
     ensures { result ≡ counted_length (text_of_lines (tree_lines nodes.now)) }
 {
     nodes_length(nodes).saturating_add(5)

@@ -15,9 +15,13 @@ mod line_lengths;
 mod put;
 mod write;
 
+pub use entries::write_entries;
+pub use entry_lengths::{entries_length, places_length};
 pub use laws::{
     entries_grow, lead_to_certificates, lines_are_cut_one_way, texts_are_short, texts_lead,
     texts_tell, zeros_have_no_entry,
 };
-pub use lengths::text_length;
-pub use write::write_certificate;
+pub use lengths::{text_length, tree_length};
+pub use line_lengths::{bound_length, count_length, word_length};
+pub use put::put_line;
+pub use write::{write_certificate, write_tree};

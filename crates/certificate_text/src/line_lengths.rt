@@ -11,7 +11,7 @@ use fixed_num::Line;
 use lagrange_bound::ExPrice;
 
 /// How many bytes a blank and a number have.
-pub(crate) fn word_length(n: u64) -> u64
+pub fn word_length(n: u64) -> u64
     ensures value { result ≡ length (word n) }
     ensures small { result ≤ 65 }
 {
@@ -30,7 +30,7 @@ pub(crate) fn title_length(version: Version) -> u64
 }
 
 /// The line of a bound.
-pub(crate) fn bound_length(bound: Bound) -> u64
+pub fn bound_length(bound: Bound) -> u64
     ensures value { result ≡ length (line_text (CertificateLine.Bound bound)) }
     ensures small { result ≤ 300 }
 {
@@ -41,7 +41,7 @@ pub(crate) fn bound_length(bound: Bound) -> u64
 }
 
 /// The line that says how many price lists follow.
-pub(crate) fn count_length(count: u64) -> u64
+pub fn count_length(count: u64) -> u64
     ensures value { result ≡ length (line_text (CertificateLine.Lists count)) }
     ensures small { result ≤ 300 }
 {

@@ -61,7 +61,7 @@ fn write_list<D: Desk>(inst: &Instance, prices: &Prices, desk: &mut D) -> Result
     write_entries(inst, prices, desk)
 }
 
-fn write_tree<D: Desk>(nodes: &[Node], desk: &mut D) -> Result<(), Failed>
+pub fn write_tree<D: Desk>(nodes: &[Node], desk: &mut D) -> Result<(), Failed>
     requires opened { IsTrue (D.shows desk.old).output.opened }
     ensures { WritesText (text_of_lines (tree_lines nodes.now)) (D.shows desk.old) (D.shows desk.new) result }
 {
