@@ -10,7 +10,7 @@ use instance_model::Instance;
 use lagrange_bound::{Goal, PriceTable, Span, worth};
 
 /// Whether the bound is a number, and a worth or value is at least it.
-pub(crate) fn is_at_least(bound: Bound, z: i128) -> bool
+pub fn is_at_least(bound: Bound, z: i128) -> bool
     requires bound { IsBoundInRange bound }
     requires small { unsigned_abs z < 10 ^ 37 }
     ensures { IsTrue result ↔ IsAtLeast bound z }

@@ -13,7 +13,8 @@ mod tables;
 mod verdict;
 
 pub use checking::check_for;
-pub use point::{is_single, starts_of};
+pub use cost::is_at_least;
+pub use point::{is_single, point_holds, starts_of};
 pub use score::check;
 pub use tables::tables_of;
 pub use verdict::CertVerdict;

@@ -151,7 +151,7 @@ least_loop_all f a k b best r h e small is =
 
 pub worth_is : (table : PriceRows) (box : List Span) (sum fixed : ℤ) → fixed ≡ table.fixed
     → sum ≡ sum_below (length table.rows) (λ i. least_over (λ s. unwrap_or (entry_of table i s) (pos 0))
-    (priced_in table i (span_of box i))) → unsigned_abs sum ≤ 1024 * 2_000_000_000_000_000_000_000_000_000_000_000
+    (priced_in table i (span_of box i))) → unsigned_abs sum ≤ 1024 * 8_000_000_000_000_000_000_000_000_000_000_000
     → unsigned_abs fixed < 10 ^ 36 → by_bits (by_bits sum +ℤ by_bits fixed) ≡ worth_in table box
 unfolding worth_in
 worth_is table box sum fixed p q h k =

@@ -55,15 +55,15 @@ entry_refused base inst prices i s b e q = let no : is_allowed inst i s ≡ fals
 
 pub entry_priced : (base : ℕ → ℕ → ℤ) (inst : Tables) (prices : PriceList) (i s : ℕ) (b : Bool) (z : ℤ)
     → b ≡ is_allowed inst i s → b ≡ true → z ≡ price_of base inst prices i s
-    → unsigned_abs z < 2_000_000_000_000_000_000_000_000_000_000_000
+    → unsigned_abs z < 8_000_000_000_000_000_000_000_000_000_000_000
     → Some (by_bits z) ≡ price_entry base inst prices i s
 entry_priced base inst prices i s b z e q is small =
     let yes : is_allowed inst i s ≡ true = sym e ∙ q in
     let back : by_bits z ≡ z = back_from_abs z (omega (arith, small)) in
     rw (yes, back, is) refl
 
-pub entry_small : (z : ℤ) → unsigned_abs z < 2_000_000_000_000_000_000_000_000_000_000_000
-    → unsigned_abs (by_bits z) < 2_000_000_000_000_000_000_000_000_000_000_000
+pub entry_small : (z : ℤ) → unsigned_abs z < 8_000_000_000_000_000_000_000_000_000_000_000
+    → unsigned_abs (by_bits z) < 8_000_000_000_000_000_000_000_000_000_000_000
 entry_small z small = let back : by_bits z ≡ z = back_from_abs z (omega (arith, small)) in rw back small
 
 -- ---- the sums of one intervention

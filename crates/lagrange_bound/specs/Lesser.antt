@@ -15,4 +15,4 @@ least_entry f k (suc n) = lesser_of (least_entry f k n) (f (k + n))
 
 -- a price, where there is one, is small
 abbrev pub IsSmallPrice : Option ℤ → Type 0
-IsSmallPrice price = IfSome price (λ z. unsigned_abs z < 2_000_000_000_000_000_000_000_000_000_000_000)
+IsSmallPrice price = IfSome price (λ z. unsigned_abs z < 8_000_000_000_000_000_000_000_000_000_000_000)

@@ -28,7 +28,7 @@ pub(crate) fn least_price(row: &[Option<i128>], span: Span) -> i128
     requires small { (k : ℕ) → IsSmallPrice (slice_index_or row.now k None) }
     ensures value { result ≡ unwrap_or (least_entry (λ k. slice_index_or row.now k None) (span.from - 1)
         (span.to - (span.from - 1))) (pos 0) }
-    ensures small { unsigned_abs result < 2_000_000_000_000_000_000_000_000_000_000_000 }
+    ensures small { unsigned_abs result < 8_000_000_000_000_000_000_000_000_000_000_000 }
 {
     let mut best = None;
     for k in span.from as usize - 1..span.to as usize {

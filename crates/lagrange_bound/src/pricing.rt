@@ -24,7 +24,7 @@ pub(crate) fn price_with<G: Goal>(
     requires ex { ex ≡ ex_part inst.now prices.now.ex i s }
     requires few { ex ≤ 2 ^ 25 * 2_000_000_000 }
     ensures value { result ≡ price_of (G.base_gives goal.now inst.now prices.now) inst.now prices.now i s }
-    ensures small { unsigned_abs result < 2_000_000_000_000_000_000_000_000_000_000_000 }
+    ensures small { unsigned_abs result < 8_000_000_000_000_000_000_000_000_000_000_000 }
 {
     let base = goal.base(inst, prices, i, s);
     base + band_cost(inst, prices, i, s) + 1_000_000_000_000 * ex as i128

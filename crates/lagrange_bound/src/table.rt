@@ -1,8 +1,10 @@
 //! The prices of all starts in a table, and the worth of a box: contracts see the entries and what no start changes.
-ghost use Rattle.std.specs.Prelude.{◌≡◌, ◌<◌, ◌≤◌, ◌*◌, ◌^◌, List, IfOk, length, pos, unsigned_abs, unwrap_or};
+ghost use Rattle.std.specs.Prelude.{◌≡◌, ℕ, ◌<◌, ◌≤◌, ◌*◌, ◌^◌, List, [], None, IfOk, length, map, pos, unsigned_abs};
+ghost use Rattle.std.specs.Prelude.{slice_index_or, unwrap_or};
 ghost use Rattle.fixed_num.specs.Sums.{sum_below};
 ghost use Rattle.lagrange_bound.specs.Least.{least_over};
 ghost use Rattle.lagrange_bound.specs.declared.span.Span.{Span};
+ghost use Rattle.lagrange_bound.specs.Lesser.{IsSmallPrice};
 ghost use Rattle.lagrange_bound.specs.Prices.{IsPriceList};
 ghost use Rattle.lagrange_bound.specs.Boxes.{IsBox, HasStarts, span_of};
 ghost use Rattle.lagrange_bound.specs.Worth.{worth_of};
@@ -39,6 +41,18 @@ impl Model for PriceTable {
 }
 
 impl PriceTable {
+    /// The table of these rows, by intervention, then start, and of what is added whatever the starts are.
+    pub fn from_rows(rows: Vec<Vec<Option<i128>>>, fixed: i128) -> PriceTable
+        requires few { length rows.items ≤ 1024 }
+        requires prices { (i k : ℕ) →
+            IsSmallPrice (slice_index_or (slice_index_or (map (λ row. row.items) rows.items) i []) k None) }
+        requires fixed { unsigned_abs fixed < 10 ^ 36 }
+        ensures rows { result.rows ≡ map (λ row. row.items) rows.items }
+        ensures fixed { result.fixed ≡ fixed }
+    {
+        PriceTable { rows, fixed }
+    }
+
     /// The entries of intervention `i`, by start; none where there is no such intervention.
     pub fn row(&self, i: u32) -> &[Option<i128>]
         ensures { result.now ≡ row_of self.now i }
@@ -90,7 +104,7 @@ fn least_prices(table: &PriceTable, spans: &[Span]) -> i128
     requires { IsPricedBox table.now spans.now }
     ensures value { result ≡ sum_below (length table.now.rows) (λ i.
         least_over (λ s. unwrap_or (entry_of table.now i s) (pos 0)) (priced_in table.now i (span_of spans.now i))) }
-    ensures small { unsigned_abs result ≤ 1024 * 2_000_000_000_000_000_000_000_000_000_000_000 }
+    ensures small { unsigned_abs result ≤ 1024 * 8_000_000_000_000_000_000_000_000_000_000_000 }
 {
     let mut sum: i128 = 0;
     for i in 0..table.rows.len() {

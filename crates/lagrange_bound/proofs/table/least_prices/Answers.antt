@@ -19,20 +19,20 @@ least_price-sum-requires-clause-small c =
 
 pub loop-i-preserved : goal.loop-i-preserved
 loop-i-preserved c =
-    let few : (c.loop-i.i + 1) * 2_000_000_000_000_000_000_000_000_000_000_000 < 2 ^ 127 =
+    let few : (c.loop-i.i + 1) * 8_000_000_000_000_000_000_000_000_000_000_000 < 2 ^ 127 =
     omega (arith, c.table.invariant.few) in
     let read = row_read c.table.inside.rows.items c.loop-i.i c.index.result.now (omega arith) c.index.ensures in
     let rows = row_count c.table.inside c.args.table.now c.table.view_is in
     let row : row_of c.args.table.now c.loop-i.i ≡ c.as_slice.result.now =
     sym (ap (λ (t : PriceRows). row_of t c.loop-i.i) c.table.view_is) ∙ read ∙ sym c.as_slice.ensures.value in
     record {
-      value = sum_step _ _ c.loop-i.i 2_000_000_000_000_000_000_000_000_000_000_000 _ c.loop-i.invariant.value
+      value = sum_step _ _ c.loop-i.i 8_000_000_000_000_000_000_000_000_000_000_000 _ c.loop-i.invariant.value
           c.loop-i.invariant.small
           (least_is c.args.table.now c.loop-i.i c.as_slice.result.now (span_of c.args.spans.now c.loop-i.i)
           c.least_price-sum.result row (c.requires.from c.loop-i.i (omega (arith, rows)))
           c.least_price-sum.ensures.value)
           (omega (arith, c.least_price-sum.ensures.small)) few;
       small = sum_step_small (to_z w128 c.loop-i.sum-bits) c.least_price-sum.result c.loop-i.i
-          2_000_000_000_000_000_000_000_000_000_000_000 c.loop-i.invariant.small
+          8_000_000_000_000_000_000_000_000_000_000_000 c.loop-i.invariant.small
           (omega (arith, c.least_price-sum.ensures.small)) few;
     }

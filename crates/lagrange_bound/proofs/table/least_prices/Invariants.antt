@@ -9,5 +9,5 @@ abbrev pub invariant-loop-i : goal.invariant-loop-i
 invariant-loop-i l = record {
   value : l.sum ≡ sum_below l.i (λ i. least_over (λ s. unwrap_or (entry_of l.table i s) (pos 0))
       (priced_in l.table i (span_of l.spans i)));
-  small : unsigned_abs l.sum ≤ l.i * 2_000_000_000_000_000_000_000_000_000_000_000;
+  small : unsigned_abs l.sum ≤ l.i * 8_000_000_000_000_000_000_000_000_000_000_000;
 }
