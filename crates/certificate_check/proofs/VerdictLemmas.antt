@@ -13,10 +13,10 @@ use Rattle.certificate_check.specs.declared.verdict.CertVerdict.{CertVerdict}
 use Rattle.certificate_check.specs.declared.verdict.CertVerdict.TheVariants.{Valid, LeafFails}
 use Rattle.certificate_check.specs.Verdicts.{IsVerdict}
 
-fails_or_all : (Holds : Leaf → Type 0) (ls : List Leaf) (n : ℕ) → All Holds ls → FailsFirst Holds ls n → Leaf → ⊥
+pub fails_or_all : (Holds : Leaf → Type 0) (ls : List Leaf) (n : ℕ) → All Holds ls → FailsFirst Holds ls n → Leaf → ⊥
 fails_or_all Holds ls n h f d = f.fails d (h (n - 1) d (omega (arith, f.from, f.to)))
 
-one_first : (Holds : Leaf → Type 0) (ls : List Leaf) (m n : ℕ) → FailsFirst Holds ls m
+pub one_first : (Holds : Leaf → Type 0) (ls : List Leaf) (m n : ℕ) → FailsFirst Holds ls m
     → FailsFirst Holds ls n → Leaf → m < n → ⊥
 one_first Holds ls m n f g d l = f.fails d (g.before (m - 1) d (omega (arith, f.from, l)))
 

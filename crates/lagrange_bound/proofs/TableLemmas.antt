@@ -79,7 +79,7 @@ entry_value base inst prices i s e = rw e refl
 -- ---- over a range
 
 -- two tests that agree on a range keep the same of it
-filter_range : (p q : ℕ → Bool) (a n : ℕ) → ((k : ℕ) → a ≤ k → k < a + n → p k ≡ q k)
+pub filter_range : (p q : ℕ → Bool) (a n : ℕ) → ((k : ℕ) → a ≤ k → k < a + n → p k ≡ q k)
     → filter p (range_with_len a n) ≡ filter q (range_with_len a n)
 filter_range p q a zero h = refl
 filter_range p q a (suc n) h =
@@ -88,7 +88,7 @@ filter_range p q a (suc n) h =
     ap (λ (xs : List ℕ). cond (p a) (a ∷ xs) xs) rest
     ∙ ap (λ (b : Bool). cond b (a ∷ filter q (range_with_len (a + 1) n)) (filter q (range_with_len (a + 1) n))) here
 
-kept_agree : (p : ℕ → Bool) (f g : ℕ → ℤ) (a n : ℕ) → ((k : ℕ) → a ≤ k → k < a + n → p k ≡ true → f k ≡ g k)
+pub kept_agree : (p : ℕ → Bool) (f g : ℕ → ℤ) (a n : ℕ) → ((k : ℕ) → a ≤ k → k < a + n → p k ≡ true → f k ≡ g k)
     → AllByRecursion (λ k. f k ≡ g k) (filter p (range_with_len a n))
 kept_agree p f g a zero h = tt
 kept_agree p f g a (suc n) h =
@@ -104,7 +104,7 @@ map_agree : (f g : ℕ → ℤ) (xs : List ℕ) → AllByRecursion (λ k. f k �
 map_agree f g [] h = refl
 map_agree f g (x ∷ xs) h = rw (h.0, map_agree f g xs h.1) refl
 
-least_agree : (f g : ℕ → ℤ) (xs : List ℕ) → AllByRecursion (λ k. f k ≡ g k) xs → least_over f xs ≡ least_over g xs
+pub least_agree : (f g : ℕ → ℤ) (xs : List ℕ) → AllByRecursion (λ k. f k ≡ g k) xs → least_over f xs ≡ least_over g xs
 unfolding least_over
 least_agree f g [] h = refl
 least_agree f g (x ∷ xs) h =
