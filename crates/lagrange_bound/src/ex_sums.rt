@@ -35,7 +35,7 @@ fn add_price(inst: &Instance, sums: &mut [u64], x: ExPrice)
 }
 
 /// What the prices of exclusions count for each intervention, by intervention, then period.
-pub(crate) fn ex_sums(
+pub fn exclusion_sums(
     alloc: Global,
     inst: &Instance,
     prices: &Prices,

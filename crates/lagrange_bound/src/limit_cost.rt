@@ -64,7 +64,7 @@ fn ex_total(inst: &Instance, prices: &Prices) -> u64
 }
 
 /// What the prices add whatever the starts are.
-pub(crate) fn fixed_cost(inst: &Instance, prices: &Prices) -> i128
+pub fn fixed_cost(inst: &Instance, prices: &Prices) -> i128
     requires { IsPriceList inst.now prices.now }
     ensures value { result ≡ fixed_part inst.now prices.now }
     ensures small { unsigned_abs result < 10 ^ 36 }

@@ -6,7 +6,7 @@ ghost use Rattle.lagrange_bound.specs.Lesser.{IsSmallPrice};
 ghost use Rattle.lagrange_bound.specs.ExSums.{AreExSums, AreExBefore};
 ghost use Rattle.lagrange_bound.specs.Tabulated.{price_entry, price_row as price_row_of};
 
-use crate::ex_sums::{ex_sums, prefix_sums};
+use crate::ex_sums::{exclusion_sums, prefix_sums};
 use crate::pricing::price_with;
 use crate::{Goal, Prices};
 use duration_calendar::run;
@@ -78,7 +78,7 @@ pub(crate) fn price_rows<G: Goal>(
     ensures small { IfOk result (λ rows. (i k : ℕ) →
         IsSmallPrice (slice_index_or (slice_index_or (map (λ row. row.items) rows.items) i []) k None)) }
 {
-    let sums = ex_sums(alloc, inst, prices)?;
+    let sums = exclusion_sums(alloc, inst, prices)?;
     let count = inst.interventions();
     let mut rows = Vec::with_capacity(alloc, count as usize)?;
     for i in 0..count {

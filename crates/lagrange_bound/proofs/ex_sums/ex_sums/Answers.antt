@@ -3,7 +3,7 @@ use Rattle.fixed_num.proofs.SumLemmas.{written_back}
 use Rattle.lagrange_bound.specs.ExSums.{AreExSums, sum_place, value_at}
 use Rattle.lagrange_bound.proofs.ExCountLemmas.{ex_few}
 use Rattle.lagrange_bound.proofs.ExSumsLemmas.{AreExSums-none, AreExSums-more, AreExSums-all, zeros_at, small_more}
-use Rattle.lagrange_bound.proofs.ex_sums.ex_sums.Goals as goal
+use Rattle.lagrange_bound.proofs.ex_sums.exclusion_sums.Goals as goal
 
 pub loop-x-init : goal.loop-x-init
 loop-x-init c =

@@ -1,6 +1,6 @@
 use Rattle.std.proofs.Common.{ℕ, ◌≤◌, ◌*◌, take, slice_index}
 use Rattle.lagrange_bound.specs.ExSums.{AreExSums}
-use Rattle.lagrange_bound.proofs.ex_sums.ex_sums.Given as goal
+use Rattle.lagrange_bound.proofs.ex_sums.exclusion_sums.Given as goal
 
 abbrev pub invariant-loop-x : goal.invariant-loop-x
 invariant-loop-x l = record {
