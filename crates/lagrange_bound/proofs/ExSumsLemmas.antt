@@ -21,7 +21,7 @@ use Rattle.lagrange_bound.specs.ExSums.{named_value, value_at, ex_at, ex_until, 
 
 -- ---- one price is added at two places
 
-added_at : (w i t j u v : ℕ) (xs : List ℕ) → t < w → u < w → i * w + t < length xs
+pub added_at : (w i t j u v : ℕ) (xs : List ℕ) → t < w → u < w → i * w + t < length xs
     → get_or (set xs (i * w + t) (get_or xs (i * w + t) 0 + v)) (j * w + u) 0
     ≡ get_or xs (j * w + u) 0 + cond (eqb i j && eqb t u) v 0
 added_at w i t j u v xs ht hu within = at (eqb i j && eqb t u) refl
@@ -50,7 +50,7 @@ shares true false false v = omega arith
 shares false true false v = omega arith
 shares false false false v = omega arith
 
-same_period : (p t : ℕ) → 1 ≤ p → 1 ≤ t → eqb (p - 1) (t - 1) ≡ eqb p t
+pub same_period : (p t : ℕ) → 1 ≤ p → 1 ≤ t → eqb (p - 1) (t - 1) ≡ eqb p t
 same_period p t h k = at (eqb (p - 1) (t - 1)) (eqb p t) refl refl
   where
     at : (a b : Bool) → eqb (p - 1) (t - 1) ≡ a → eqb p t ≡ b → eqb (p - 1) (t - 1) ≡ eqb p t
