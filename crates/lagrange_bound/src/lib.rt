@@ -27,7 +27,9 @@ mod term;
 pub use ex_price::ExPrice;
 pub use ex_sums::exclusion_sums;
 pub use goal::Goal;
-pub use laws::{lawful_worths_bound_plans, prices_are_lawful, worth_bounds_plans, worths_are_small};
+pub use laws::{
+    lawful_worths_bound_plans, prices_are_lawful, worth_bounds_plans, worths_are_small,
+};
 pub use limit_cost::fixed_cost;
 pub use places::Places;
 pub use prices::Prices;
