@@ -1,0 +1,12 @@
+pub mod GroupLemmas
+pub mod OffsetLemmas
+pub mod GroupTermLemmas
+pub mod GroupLaw
+pub mod GroupSizes
+pub mod SumsApart
+pub mod CapLemmas
+pub mod CliqueLemmas
+pub mod LimitLemmas
+pub mod RefinedLaw
+pub mod SizeLemmas
+pub mod ListLemmas
