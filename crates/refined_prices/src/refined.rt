@@ -29,11 +29,11 @@ impl Model for RefinedPrices {
     ghost Value = { RefinedList };
 
     ghost view = { λ p. record {
-        prices = p.prices;
-        capped = p.capped;
-        tails = p.tails.items;
-        offsets = p.offsets.items;
-        cliques = p.cliques.items;
+      prices = p.prices;
+      capped = p.capped;
+      tails = p.tails.items;
+      offsets = p.offsets.items;
+      cliques = p.cliques.items;
     } };
 }
 
