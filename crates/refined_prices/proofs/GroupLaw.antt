@@ -8,7 +8,7 @@ use Rattle.fixed_num.proofs.SumLemmas.{sum_below_same, sum_below-swap, sum_below
 use Rattle.instance_model.specs.Naturals.{count_sum}
 use Rattle.instance_model.specs.Tables.{Tables, scenarios_of, rank_of, in_run, risk_of}
 use Rattle.instance_model.specs.Fitting.{IsFitting}
-use Rattle.instance_model.specs.Plans.{start_of, risk_at, scenario_sum, scenario_sums}
+use Rattle.instance_model.specs.Plans.{start_of, AreAllowedStarts, risk_at, scenario_sum, scenario_sums}
 use Rattle.instance_model.specs.Values.{numerator_of, sum_of_floors}
 use Rattle.instance_model.proofs.FitLemmas.{scenarios_of_small, rank_of_from}
 use Rattle.instance_model.proofs.BoardLemmas.{start_of-starts}
