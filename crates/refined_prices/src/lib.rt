@@ -20,7 +20,8 @@ pub use group::Group;
 pub use group_tail::GroupTail;
 pub use groups::Groups;
 pub use laws::{
-    at_most_one_of_a_clique_runs, caps_keep_lower_limits, refined_lists_are_lawful, refined_prices_are_small,
+    at_most_one_of_a_clique_runs, caps_keep_lower_limits, refined_lists_are_lawful,
+    refined_prices_are_small,
 };
 pub use member::Member;
 pub use offset::Offset;
