@@ -18,7 +18,8 @@ refined_total list = price_total list.prices + clique_total list.cliques
 abbrev pub RefinedPricesAreSmall : Type 0
 RefinedPricesAreSmall =
     (inst : Tables) (list : RefinedList) (i s : ℕ) → IsFitting inst → IsRefinedList inst list → i < length inst.names
-    → IsTrue (is_allowed inst i s) → unsigned_abs (refined_price inst list i s) < 10 ^ 34
+    → IsTrue (is_allowed inst i s)
+    → unsigned_abs (refined_price inst list i s) < 8_000_000_000_000_000_000_000_000_000_000_000
 
 -- and so is the constant
 abbrev pub RefinedConstantsAreSmall : Type 0
