@@ -27,9 +27,9 @@ pub fn refined_lists_are_lawful()
     ensures lawful { RefinedListsAreLawful }
 {}
 
-/// Prices of allowed starts are below 8 * 10^33 and constants below 10^34 in absolute value, and the worth of a box with
-/// an allowed start in each interval fits 128 bits; where the prices of the list come to at most 4 * 10^10, it is at
-/// most 10^36.
+/// Prices of allowed starts are below 8 * 10^33 and constants below 10^34 in absolute value, and the worth of a box
+/// with an allowed start in each interval fits 128 bits; where the prices of the list come to at most 4 * 10^10, it is
+/// at most 10^36.
 pub fn refined_prices_are_small()
     ensures prices { RefinedPricesAreSmall }
     ensures constants { RefinedConstantsAreSmall }

@@ -1,0 +1,8 @@
+//! Certificates by refined price lists, as plain data, and which of them are in range.
+#![tactic(auto)]
+
+mod certificate;
+mod lists;
+
+pub use certificate::RefinedCertificate;
+pub use lists::RefinedLists;

@@ -1,0 +1,5 @@
+pub mod PlaceLemmas
+pub mod ValueLemmas
+pub mod LeadLemmas
+pub mod TellLemmas
+pub mod FormLemmas

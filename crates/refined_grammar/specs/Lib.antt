@@ -1,0 +1,4 @@
+-- What the contracts cite.
+pub mod Further
+pub mod Grammar
+pub mod Laws

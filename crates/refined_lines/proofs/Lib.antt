@@ -1,0 +1,4 @@
+pub mod KeyLemmas
+pub mod MemberLemmas
+pub mod ReadLemmas
+pub mod LawLemmas

@@ -1,0 +1,4 @@
+pub mod PieceLemmas
+pub mod TailLemmas
+pub mod WriteLemmas
+pub mod LengthLemmas
