@@ -29,15 +29,16 @@ say_out() {
     exit 0
 }
 
-# Builds a program where needed, and says where it is.
+# Builds a program where needed, for any processor, and says where it is.
 build_only() {
-    local known=" ${programs[*]} "
+    local known=" ${programs[*]} " stamp
     program=${1-${programs[0]}}
     [[ $program && $known == *" $program "* ]] ||
         fail 64 "--build takes one of ${programs[*]}, or no word more: ${1@Q} is none"
     (($# < 2)) || fail 64 '--build takes one word more at most: call it for one program'
     program=$top/out/$program
-    stands || build
+    # (a third line of a stamp names a level of processors that not all have)
+    { stands && mapfile -t stamp <"$program.stamp" && [[ -z ${stamp[2]-} ]]; } || build
     say_out "$program"
 }
 

@@ -118,7 +118,7 @@ distance() {
 
 # Tells the commit, the kit that the repository is proved with, the kit of `rt` here, and which programs stand.
 version() {
-    local commit= name kit
+    local commit= name stamp
     if [[ -f $top/receipt ]]; then
         tell_receipt
         return
@@ -130,8 +130,8 @@ version() {
     for name in "${programs[@]}"; do
         program=$top/out/$name
         if stands || stands_by_sums; then
-            read -r kit <"$program.stamp"
-            printf '%s: proved for these sources, with %s\n' "$name" "$kit"
+            mapfile -t stamp <"$program.stamp"
+            printf '%s: proved for these sources, with %s%s\n' "$name" "${stamp[0]}" "${stamp[2]+, for ${stamp[2]}}"
         else
             printf '%s: not proved for these sources\n' "$name"
         fi

@@ -59,7 +59,7 @@ own=(
     '--unproved COMMAND ..'
     'runs a command without any proof: slow, and needs no build'
     '--build [PROGRAM]'
-    'builds planner_cli, or PROGRAM, where needed; says where'
+    'builds planner_cli, or PROGRAM, for any x86-64-v2; says where'
     '--version'
     'tells the commit, the kit, and which programs stand'
     '--help'
@@ -91,5 +91,6 @@ statuses=(
     72 'an output cannot be written: its folder is missing, or may not be written to'
     73 'a folder of the repository cannot be written or read'
     74 'the disk is full, or what this script itself has to say could not be written'
+    127 'the processor lacks a feature that the program was built for; what --build builds needs x86-64-v2 alone'
     128+n 'signal n ended the run'
 )
