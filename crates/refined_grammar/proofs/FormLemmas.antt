@@ -1,7 +1,6 @@
 -- Each line of a certificate in range has a form.
-use Rattle.std.proofs.Common.{◌≡◌, ◌⊎◌, inl, inr, ℕ, zero, suc, ◌+◌, ◌-◌, ◌^◌, ◌<◌, ◌≤◌, refl, sym, ◌∙◌, ap, subst}
-use Rattle.std.proofs.Common.{arith}
-use Rattle.std.proofs.Common.{Bool, true, false, List, [], ◌∷◌, ◌++◌, length, map, get_or, Option, Some, None}
+use Rattle.std.proofs.Common.{◌≡◌, ℕ, zero, suc, ◌+◌, ◌-◌, ◌<◌, ◌≤◌, refl, ◌∙◌, ap, subst, arith}
+use Rattle.std.proofs.Common.{Bool, true, false, List, [], ◌∷◌, length, map, get_or, Option, Some, None}
 use Rattle.std.specs.List.{All, AllPairs, AllByRecursion, flat_map}
 use Rattle.std.proofs.lemmas.List.{get_or-map, length-map}
 use Rattle.std.proofs.lemmas.List.Elements.{All-nil, All-cons, All-weaker, All-map, All-from_recursion}
@@ -11,7 +10,6 @@ use Rattle.std.proofs.lemmas.List.Kept.{AllPairs-cons}
 use Rattle.instance_model.specs.Tables.{Tables, scenarios_of, rank_of}
 use Rattle.instance_model.specs.Fitting.{IsFitting}
 use Rattle.lagrange_bound.specs.Least.{AscendAbove}
-use Rattle.lagrange_bound.specs.Prices.{PriceList, IsPriceList}
 use Rattle.refined_prices.specs.declared.member.Member.{Member}
 use Rattle.refined_prices.specs.declared.group_tail.GroupTail.{GroupTail}
 use Rattle.refined_prices.specs.declared.offset.Offset.{Offset}
@@ -31,13 +29,11 @@ use Rattle.certificate_text.proofs.TellLemmas.{each_append}
 use Rattle.certificate_text.proofs.FormLemmas.{scenarios_small, few_periods, few_names, entries_form, leaf_form}
 use Rattle.certificate_text.proofs.FormLemmas.{bound_form}
 use Rattle.certificate_text.proofs.FormLemmas.{tree_such, root_small}
-use Rattle.refined_lines.specs.declared.members.LineMember.{LineMember}
-use Rattle.refined_lines.specs.declared.line.RefinedLine.{RefinedLine}
 use Rattle.refined_lines.specs.declared.line.RefinedLine.TheVariants.{Plain}
 use Rattle.refined_lines.specs.Spelling.{IsPlain, IsMember, MemberBefore, IsRefinedLine}
 use Rattle.refined_certificate.specs.Orders.{first_scenario, GroupBefore, AreGroupsInOrder, IsInOrder}
 use Rattle.refined_text.specs.Text.{line_member, group_line, group_lines, cap_lines, offset_line, clique_line}
-use Rattle.refined_text.specs.Text.{further_lines, refined_entry_lines, refined_list_lines, refined_certificate_lines}
+use Rattle.refined_text.specs.Text.{further_lines, refined_list_lines, refined_certificate_lines}
 use Rattle.refined_grammar.specs.Laws.{RefinedLinesHaveForms}
 use Rattle.refined_grammar.proofs.PlaceLemmas.{IsInside}
 use Rattle.refined_grammar.proofs.LeadLemmas.{inside_entries}

@@ -1,15 +1,15 @@
 -- The lines of a certificate in range lead from the first line to the end.
-use Rattle.std.proofs.Common.{◌≡◌, ◌≢◌, ℕ, zero, suc, ◌+◌, ◌-◌, ◌<◌, ◌≤◌, refl, sym, ◌∙◌, ap, subst, arith, Bool, true}
+use Rattle.std.proofs.Common.{◌≡◌, ℕ, zero, suc, ◌+◌, ◌-◌, ◌<◌, ◌≤◌, refl, sym, ◌∙◌, ap, subst, arith, Bool, true}
 use Rattle.std.proofs.Common.{false, List, [], ◌∷◌, ◌++◌, length, map, get_or, replicate, Option, Some, None}
 use Rattle.std.proofs.Common.{append_assoc}
 use Rattle.std.specs.List.{All, AllPairs, AllByRecursion, flat_map}
 use Rattle.std.proofs.lemmas.List.{append-nil, length-append, length-map}
-use Rattle.std.proofs.lemmas.List.Elements.{All-from_recursion, recursion_from_All, All-weaker, All-nil, All-map}
+use Rattle.std.proofs.lemmas.List.Elements.{recursion_from_All, All-weaker, All-nil, All-map}
 use Rattle.instance_model.specs.Tables.{Tables, scenarios_of, rank_of}
 use Rattle.instance_model.specs.Fitting.{IsFitting}
 use Rattle.instance_model.proofs.FitLemmas.{rank_of_from}
 use Rattle.lagrange_bound.specs.declared.tail.Tail.{Tail}
-use Rattle.lagrange_bound.specs.Prices.{PriceList, IsPriceList}
+use Rattle.lagrange_bound.specs.Prices.{PriceList}
 use Rattle.refined_prices.specs.declared.member.Member.{Member}
 use Rattle.refined_prices.specs.declared.group_tail.GroupTail.{GroupTail}
 use Rattle.refined_prices.specs.declared.offset.Offset.{Offset}
@@ -19,31 +19,28 @@ use Rattle.refined_prices.specs.Offsets.{group_tail_at, IsOffset, OffsetBefore}
 use Rattle.refined_prices.specs.Cliques.{IsPricedClique, CliqueBefore}
 use Rattle.refined_prices.specs.RefinedLists.{RefinedList, IsRefinedList}
 use Rattle.certificate_lines.specs.declared.line.Version.TheVariants.{Two}
-use Rattle.certificate_lines.specs.declared.line.CertificateLine.{CertificateLine}
 use Rattle.certificate_lines.specs.declared.line.CertificateLine.TheVariants as line
 use Rattle.certificate_tree.specs.declared.node.Node.{Node}
 use Rattle.certificate_tree.specs.declared.node.Node.TheVariants as node
-use Rattle.certificate_tree.specs.Trees.{Tree, pre_order, root_box}
-use Rattle.certificate_text.specs.Text.{limit_lines, tail_lines, ex_line, entry_lines, node_line, tree_lines}
-use Rattle.certificate_text.specs.Grammar.{EntryKey, before_entries, Place, bound, count, lists, nodes, Leads}
+use Rattle.certificate_tree.specs.Trees.{Tree, root_box}
+use Rattle.certificate_text.specs.Text.{limit_lines, tail_lines, entry_lines, node_line, tree_lines}
+use Rattle.certificate_text.specs.Grammar.{EntryKey, before_entries, Place, lists, nodes, Leads}
 use Rattle.certificate_text.proofs.TailLemmas.{no_tails}
 use Rattle.certificate_text.proofs.TellLemmas.{each_append, limits_each, ex_each}
 use Rattle.certificate_text.proofs.LeadLemmas.{entries_lead, tree_leads}
 use Rattle.refined_lines.specs.declared.line.RefinedLine.{RefinedLine}
-use Rattle.refined_lines.specs.declared.line.RefinedLine.TheVariants.{Title, Plain, Cap, Group, Clique as CliqueLine}
+use Rattle.refined_lines.specs.declared.line.RefinedLine.TheVariants.{Plain}
 use Rattle.refined_certificate.specs.Orders.{GroupBefore, AreGroupsInOrder, IsInOrder}
-use Rattle.refined_text.specs.Text.{line_member, group_line, group_lines, cap_lines, offset_line, clique_line}
-use Rattle.refined_text.specs.Text.{further_lines, refined_entry_lines, refined_list_lines, refined_certificate_lines}
-use Rattle.refined_grammar.specs.Further.{Further, no_further, group_of, groups_of, groups_at, with_group}
-use Rattle.refined_grammar.specs.Further.{with_group_at, HasEnough, IsNextGroup, GroupFits, IsNextOffset, OffsetFits}
-use Rattle.refined_grammar.specs.Further.{OffsetBelow, CliqueBelow, IsNextClique, CliqueFits, with_group_of}
-use Rattle.refined_grammar.specs.Further.{with_offset}
-use Rattle.refined_grammar.specs.Further.{with_clique, offset_of_line, clique_of_line}
-use Rattle.refined_grammar.specs.Grammar.{RefinedPlace, start, within, HasBegun, RefinedLeads}
+use Rattle.refined_text.specs.Text.{group_line, group_lines, cap_lines, offset_line, clique_line}
+use Rattle.refined_text.specs.Text.{further_lines, refined_entry_lines, refined_list_lines}
+use Rattle.refined_grammar.specs.Further.{Further, no_further, groups_of, with_group}
+use Rattle.refined_grammar.specs.Further.{HasEnough, IsNextGroup, GroupFits}
+use Rattle.refined_grammar.specs.Further.{OffsetBelow, CliqueBelow, with_group_of}
+use Rattle.refined_grammar.specs.Grammar.{within, HasBegun, RefinedLeads}
 use Rattle.refined_grammar.specs.Laws.{RefinedTextsLead}
 use Rattle.refined_grammar.proofs.PlaceLemmas.{goes_append, IsInside, inside_goes}
 use Rattle.refined_grammar.proofs.ValueLemmas.{pairs_before, tail_seam, group_seam, group_again, offset_again}
-use Rattle.refined_grammar.proofs.ValueLemmas.{offset_below, members_again, clique_again, clique_below}
+use Rattle.refined_grammar.proofs.ValueLemmas.{offset_below, clique_again, clique_below}
 
 -- what has been read, by its parts
 abbrev pub read_so_far : (kind period : ℕ) → Bool → List (Option GroupTail) → List Offset → List Clique → Further

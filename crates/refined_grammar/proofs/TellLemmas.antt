@@ -25,7 +25,6 @@ use Rattle.refined_lines.specs.declared.line.RefinedLine.{RefinedLine}
 use Rattle.refined_lines.specs.declared.line.RefinedLine.TheVariants.{Title, Plain, Cap, Group}
 use Rattle.refined_lines.specs.declared.line.RefinedLine.TheVariants as refined
 use Rattle.refined_lines.specs.Spelling.{refined_spelling, IsRefinedLine}
-use Rattle.refined_certificate.specs.declared.certificate.RefinedCertificate.{RefinedCertificate}
 use Rattle.refined_certificate.specs.Orders.{IsInOrder}
 use Rattle.refined_text.specs.Text.{line_member, group_line, group_lines, cap_lines, offset_line, clique_line}
 use Rattle.refined_text.specs.Text.{further_lines}
@@ -208,6 +207,7 @@ module _ (inst : Tables) (fits : IsFitting inst) where
 -- ---- certificates
 
 pub refined_lines_tell : RefinedLinesTell
+unfolding plain_of
 refined_lines_tell inst cert other fits a b e =
     let first : Plain (line.Bound cert.bound) ≡ Plain (line.Bound other.bound) = cc in
     let second : line.Bound cert.bound ≡ line.Bound other.bound = ap plain_of first in

@@ -1,8 +1,6 @@
 -- Values and the numbers of their lines, and lists in parts.
-use Rattle.std.proofs.Common.{◌≡◌, ◌⊎◌, inl, inr, ℕ, zero, suc, ◌+◌, ◌-◌, ◌<◌, ◌≤◌, refl, sym, ◌∙◌, ap, subst, arith}
-use Rattle.std.proofs.Common.{List}
+use Rattle.std.proofs.Common.{◌≡◌, ◌⊎◌, inl, inr, ℕ, suc, ◌+◌, ◌-◌, ◌<◌, ◌≤◌, refl, sym, ◌∙◌, ap, subst, arith, List}
 use Rattle.std.proofs.Common.{[], ◌∷◌, ◌++◌, length, map, get_or, set, Option, Some, None, IsTrue, cond, true, false}
-use Rattle.std.proofs.Common.{Bool}
 use Rattle.std.proofs.Common.{◌==◌, nat_lt, Less, Equal, Greater}
 use Rattle.std.specs.List.{All, AllPairs}
 use Rattle.std.specs.Cmp.Lexicographic.{slice_cmp}

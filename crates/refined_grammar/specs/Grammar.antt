@@ -2,12 +2,12 @@
 -- A line that version 2 has too stands where it stands there, with its numbers in the ranges that they have there; but
 -- behind an entry of version 3's own there is no price on a limit or an exclusion. Groups that are too few for their
 -- period are told at the line that ends them: the first behind them that is no group of this period.
-use Rattle.std.specs.Prelude.{◌≡◌, ℕ, ⊤, List, [], ◌∷◌, Option, Some, None}
+use Rattle.std.specs.Prelude.{◌≡◌, ℕ, ⊤, List, [], ◌∷◌, Some}
 use Rattle.instance_model.specs.Tables.{Tables}
 use Rattle.certificate_lines.specs.declared.line.Version.TheVariants.{Two}
 use Rattle.certificate_lines.specs.declared.line.CertificateLine.{CertificateLine}
 use Rattle.certificate_lines.specs.declared.line.CertificateLine.TheVariants as line
-use Rattle.certificate_text.specs.Grammar.{EntryKey, Place, bound, lists, Stands, Fits, after, HasEnded}
+use Rattle.certificate_text.specs.Grammar.{Place, bound, lists, Stands, Fits, after, HasEnded}
 use Rattle.refined_lines.specs.declared.line.RefinedLine.{RefinedLine}
 use Rattle.refined_lines.specs.declared.line.RefinedLine.TheVariants as refined
 use Rattle.refined_lines.specs.Spelling.{IsPlain}

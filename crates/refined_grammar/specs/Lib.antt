@@ -1,4 +1,5 @@
 -- What the contracts cite.
 pub mod Further
 pub mod Grammar
+pub mod SoFar
 pub mod Laws

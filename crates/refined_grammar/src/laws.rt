@@ -1,6 +1,7 @@
 //! Laws of the text. The functions do nothing: the contract is the law.
 ghost use Rattle.refined_grammar.specs.Laws.{RefinedTextsLead, RefinedLinesHaveForms, RefinedLinesTell};
-ghost use Rattle.refined_grammar.specs.Laws.{RefinedTextsTell};
+ghost use Rattle.refined_grammar.specs.Laws.{RefinedTextsTell, CapGrows, GroupGrows, OffsetGrows, CliqueGrows};
+ghost use Rattle.refined_grammar.specs.Laws.{ListsEnd};
 
 use refined_lines::refined_lines_are_spelled_one_way;
 
@@ -17,3 +18,13 @@ pub fn refined_texts_tell()
 {
     refined_lines_are_spelled_one_way();
 }
+
+/// An entry of version 3's own that may stand behind those so far, with its numbers in range, is one line more, at the
+/// end, and the list stays in range as far as it has been read; where the last groups are enough, it is in range.
+pub fn refined_entries_grow()
+    ensures cap { CapGrows }
+    ensures group { GroupGrows }
+    ensures offset { OffsetGrows }
+    ensures clique { CliqueGrows }
+    ensures end { ListsEnd }
+{}

@@ -4,4 +4,4 @@
 
 mod laws;
 
-pub use laws::{refined_texts_lead, refined_texts_tell};
+pub use laws::{refined_entries_grow, refined_texts_lead, refined_texts_tell};
