@@ -1,0 +1,6 @@
+-- What the contracts cite.
+pub mod Holding
+pub mod Priced
+pub mod Validity
+pub mod Laws
+pub mod Singles

@@ -1,0 +1,23 @@
+//! What a valid certificate proves, and which price lists are refined ones. The functions do nothing: the contract is
+//! the law.
+ghost use Rattle.refined_check.specs.Laws.{RefinedValidBoundsPlans};
+ghost use Rattle.refined_check.specs.Singles.{PriceListsAreRefined};
+
+use lagrange_bound::{RiskGoal, lawful_worths_bound_plans, worth_bounds_plans};
+use refined_prices::refined_lists_are_lawful;
+
+/// No feasible plan scores below the bound of a valid certificate in range by refined price lists; where the bound is
+/// none, there is no feasible plan.
+pub fn refined_valid_bounds_plans()
+    ensures { RefinedValidBoundsPlans }
+{
+    refined_lists_are_lawful();
+    worth_bounds_plans(&RiskGoal);
+    lawful_worths_bound_plans();
+}
+
+/// Each price list is a refined one: with the scenarios of each tail as groups of one, without caps, offsets and cliques,
+/// it is in range, and has the same price at each start and the same constant.
+pub fn price_lists_are_refined()
+    ensures { PriceListsAreRefined }
+{}
