@@ -1,5 +1,3 @@
-pub mod PricingTables
-pub mod TableLemmas
 pub mod RefinedSoundness
 pub mod WalkLemmas
 pub mod OneVerdict
