@@ -139,13 +139,13 @@ pub has_none : (k : ℕ) → has_scenario [] k ≡ false
 unfolding has_scenario
 has_none k = refl
 
-has_at : (xs : List Member) (p k : ℕ) (d : Member) → p < length xs → (get_or xs p d).scenario ≡ k
+pub has_at : (xs : List Member) (p k : ℕ) (d : Member) → p < length xs → (get_or xs p d).scenario ≡ k
     → has_scenario xs k ≡ true
 unfolding has_scenario
 has_at xs p k d l e = or_at (λ ys. has_scenario ys k) (λ x. x.scenario == k) refl (λ _ _. refl) xs p d l
     ((Decides-eqb (get_or xs p d).scenario k).1 e)
 
-has_found : (xs : List Member) (k : ℕ) → has_scenario xs k ≡ true
+pub has_found : (xs : List Member) (k : ℕ) → has_scenario xs k ≡ true
     → (p : ℕ) × (p < length xs) × ((d : Member) → (get_or xs p d).scenario ≡ k)
 unfolding has_scenario
 has_found [] k e = absurd (false≢true e)
@@ -160,7 +160,7 @@ has_found (x ∷ xs) k e = at (x.scenario == k) refl e (has_found xs k)
         let l = w.1 in
         (suc w.0, omega (arith, l), w.2)
 
-in_more : (groups : List (List Member)) (m k : ℕ) → m < length groups
+pub in_more : (groups : List (List Member)) (m k : ℕ) → m < length groups
     → in_groups (take (m + 1) groups) k ≡ (in_groups (take m groups) k || has_scenario (get_or groups m []) k)
 unfolding in_groups
 in_more groups m k l =
@@ -182,7 +182,7 @@ in_at (g ∷ gs) (suc m) (suc i) k low l e =
     either true = refl
     either false = refl
 
-in_found : (groups : List (List Member)) (m k : ℕ) → in_groups (take m groups) k ≡ true
+pub in_found : (groups : List (List Member)) (m k : ℕ) → in_groups (take m groups) k ≡ true
     → (i : ℕ) × (i < m) × (i < length groups) × (has_scenario (get_or groups i []) k ≡ true)
 unfolding in_groups
 in_found [] zero k e = absurd (false≢true e)
@@ -210,7 +210,8 @@ disjoint_from a b h =
     (λ q e m. λ same. h (get_or a p d).scenario (has_at a p (get_or a p d).scenario d l refl)
     (has_at b q (get_or a p d).scenario e m (sym same))))
 
-disjoint_apart : (a b : List Member) (k : ℕ) → AreDisjoint a b → has_scenario a k ≡ true → has_scenario b k ≡ true → ⊥
+pub disjoint_apart : (a b : List Member) (k : ℕ) → AreDisjoint a b → has_scenario a k ≡ true
+    → has_scenario b k ≡ true → ⊥
 disjoint_apart a b k h e f =
     let p = has_found a k e in
     let q = has_found b k f in

@@ -3,3 +3,10 @@ pub mod CapTableLemmas
 pub mod GroupTestLemmas
 pub mod OrderLemmas
 pub mod ListTestLemmas
+pub mod PaidLemmas
+pub mod LoadCostLemmas
+pub mod RiskTermLemmas
+pub mod OffsetRowLemmas
+pub mod OffsetSumLemmas
+pub mod ReadLemmas
+pub mod RowLemmas
