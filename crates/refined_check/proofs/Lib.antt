@@ -1,3 +1,5 @@
+pub mod PricingTables
+pub mod TableLemmas
 pub mod RefinedSoundness
 pub mod WalkLemmas
 pub mod OneVerdict

@@ -1,13 +1,13 @@
 -- A valid certificate by refined price lists bounds the score of every feasible plan.
-use Rattle.std.proofs.Common.{◌≡◌, ℕ, zero, suc, ◌≤◌, refl, subst, arith, ℤ, ◌≤ℤ◌, List, [], length, get_or, All}
+use Rattle.std.proofs.Common.{◌≡◌, ℕ, zero, suc, ◌≤◌, subst, arith, ℤ, ◌≤ℤ◌, List, [], length, get_or, All}
 use Rattle.instance_model.specs.Tables.{Tables}
 use Rattle.instance_model.specs.Fitting.{IsFitting}
 use Rattle.lagrange_bound.specs.declared.span.Span.{Span}
-use Rattle.lagrange_bound.specs.Prices.{PriceList, IsPriceList, zero_list}
+use Rattle.lagrange_bound.specs.Prices.{IsPriceList, zero_list}
 use Rattle.lagrange_bound.specs.Goals.{risk_base, risk_value}
 use Rattle.lagrange_bound.specs.Boxes.{IsPlanIn}
-use Rattle.lagrange_bound.specs.Worth.{worth_of, WorthBoundsPlans}
-use Rattle.lagrange_bound.specs.Pricings.{pricing_of, pricing_worth, LawfulWorthsBoundPlans}
+use Rattle.lagrange_bound.specs.Worth.{WorthBoundsPlans}
+use Rattle.lagrange_bound.specs.Pricings.{pricing_worth, LawfulWorthsBoundPlans}
 use Rattle.certificate_lines.specs.declared.line.Bound.{Bound}
 use Rattle.certificate_tree.specs.declared.node.Node.{Node}
 use Rattle.certificate_tree.specs.declared.node.Node.TheVariants.{Split, Cost, Point, Band, Excl, Empty}
@@ -19,12 +19,7 @@ use Rattle.refined_prices.specs.RefinedWorth.{refined_pricing, RefinedListsAreLa
 use Rattle.refined_check.specs.Holding.{refined_pricing_at, RefinedLeafHolds}
 use Rattle.refined_check.specs.Validity.{RefinedCertLeafHolds}
 use Rattle.refined_check.specs.Laws.{RefinedValidBoundsPlans}
-
--- the worth by a price list is that by its prices of starts and its constant
-worth_is : (base : ℕ → ℕ → ℤ) (inst : Tables) (prices : PriceList) (box : List Span)
-    → worth_of base inst prices box ≡ pricing_worth inst (pricing_of base inst prices) box
-unfolding worth_of pricing_worth
-worth_is base inst prices box = refl
+use Rattle.refined_check.proofs.TableLemmas.{worth_is}
 
 -- no plan of a box scores below its worth, by any list of a certificate
 worth_bounds : (inst : Tables) (lists : List RefinedList) (box : List Span) (starts : List ℕ) (j : ℕ)

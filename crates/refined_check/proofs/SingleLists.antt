@@ -131,7 +131,8 @@ price_same inst prices i s ok =
     (bands_same inst prices i s)
     ∙ regroup (base_of inst (tail_of prices) i s) (band_part inst prices i s) paid
   where
-    regroup : (x y : ℤ) (n : ℕ) → x +ℤ (y +ℤ pos (1_000_000_000_000 * (n + 0))) ≡ (x +ℤ y) +ℤ pos (1_000_000_000_000 * n)
+    regroup : (x y : ℤ) (n : ℕ) → x +ℤ (y +ℤ pos (1_000_000_000_000 * (n + 0)))
+        ≡ (x +ℤ y) +ℤ pos (1_000_000_000_000 * n)
     regroup x y n = omega (arith, signed_arith)
 
 -- ---- the same constant

@@ -10,6 +10,7 @@ ghost use Rattle.refined_check.specs.Priced.{AreRefinedTables};
 
 use crate::laws::refined_valid_bounds_plans;
 use crate::leaf::leaf_holds;
+use crate::tables::refined_tables_of;
 use certificate_check::CertVerdict;
 use certificate_tree::{BoxPath, Node, nodes_are_one_tree};
 use instance_model::Instance;
@@ -49,17 +50,16 @@ fn verdict_of(
     Ok(CertVerdict::Valid)
 }
 
-/// Whether a certificate by refined price lists is valid for the score, by the tables of its lists.
+/// Whether a certificate by refined price lists is valid for the score.
 ///
-/// Takes memory for one box, for a change for each level of the tree, and for the plan and the score of a point.
-pub fn check_by_tables(
+/// Takes memory for a table of each price list, for one box and a change for each level of the tree,
+/// and for the plan and the score of a point.
+pub fn check_refined(
     alloc: Global,
     inst: &Instance,
     cert: &RefinedCertificate,
-    tables: &[PriceTable],
 ) -> Result<CertVerdict, AllocError>
-    requires in_range { IsRefinedInRange inst.now cert.now }
-    requires tables { AreRefinedTables inst.now cert.now.lists tables.now }
+    requires { IsRefinedInRange inst.now cert.now }
     ensures verdict { IfOk result (IsRefinedVerdict inst.now cert.now) }
 
     // No other verdict is right.
@@ -72,6 +72,7 @@ pub fn check_by_tables(
     inst.fits();
     nodes_are_one_tree();
     refined_valid_bounds_plans();
-    let verdict = verdict_of(alloc, inst, cert, tables)?;
+    let tables = refined_tables_of(alloc, inst, cert.lists.as_slice())?;
+    let verdict = verdict_of(alloc, inst, cert, tables.as_slice())?;
     Ok(verdict)
 }

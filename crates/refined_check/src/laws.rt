@@ -16,8 +16,8 @@ pub fn refined_valid_bounds_plans()
     lawful_worths_bound_plans();
 }
 
-/// Each price list is a refined one: with the scenarios of each tail as groups of one, without caps, offsets and cliques,
-/// it is in range, and has the same price at each start and the same constant.
+/// Each price list is a refined one: with the scenarios of each tail as groups of one, without caps, offsets and
+/// cliques, it is in range, and has the same price at each start and the same constant.
 pub fn price_lists_are_refined()
     ensures { PriceListsAreRefined }
 {}

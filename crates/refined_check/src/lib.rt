@@ -9,7 +9,9 @@ mod checking;
 mod cost;
 mod laws;
 mod leaf;
+mod tables;
 
 pub use certificate_check::CertVerdict;
-pub use checking::check_by_tables;
+pub use checking::check_refined;
 pub use laws::{price_lists_are_refined, refined_valid_bounds_plans};
+pub use tables::{refined_table, refined_tables_of};

@@ -1,5 +1,5 @@
 use Rattle.refined_check.proofs.OneVerdict.{one_refined_verdict}
-use Rattle.refined_check.proofs.checking.check_by_tables.Goals as goal
+use Rattle.refined_check.proofs.checking.check_refined.Goals as goal
 
 pub returns-clause-only : goal.returns-clause-only
 returns-clause-only c = λ other h. one_refined_verdict c.nodes_are_one_tree.ensures c.args.inst.now c.args.cert.now

@@ -1,0 +1,44 @@
+use Rattle.std.proofs.Common.{◌∙◌, arith}
+use Rattle.refined_prices.specs.RefinedWorth.{refined_price, refined_constant, refined_pricing}
+use Rattle.lagrange_bound.proofs.RowLemmas.{items_of}
+use Rattle.refined_check.proofs.PricingTables.{row_count, rows_small, constant_back, IsPricingTable-from}
+use Rattle.refined_check.proofs.tables.refined_table.Goals as goal
+
+pub from_rows-requires-clause-few : goal.from_rows-requires-clause-few
+from_rows-requires-clause-few c =
+    let count = row_count (refined_price c.args.inst.now c.args.list.now) c.args.inst.now c.in_ok-rows.rows.items
+    c.in_ok-rows.ensures.rows in
+    let few = c.fits.ensures.names.few in
+    omega (arith, count, few)
+
+pub from_rows-requires-clause-prices : goal.from_rows-requires-clause-prices
+from_rows-requires-clause-prices c =
+    rows_small (refined_price c.args.inst.now c.args.list.now) c.args.inst.now (items_of c.in_ok-rows.rows.items)
+    (λ i s l a. c.refined_prices_are_small.ensures.prices c.args.inst.now c.args.list.now i s c.fits.ensures c.requires
+    l a) c.in_ok-rows.ensures.rows
+
+pub from_rows-requires-clause-fixed : goal.from_rows-requires-clause-fixed
+from_rows-requires-clause-fixed c =
+    let small = c.refined_prices_are_small.ensures.constants c.args.inst.now c.args.list.now c.fits.ensures
+    c.requires in
+    (constant_back c.in_ok-rows.constant (refined_constant c.args.inst.now c.args.list.now)
+    c.in_ok-rows.ensures.constant small).1
+
+pub returns-clause-rows : goal.returns-clause-rows
+returns-clause-rows c = c.from_rows.ensures.rows ∙ c.in_ok-rows.ensures.rows
+
+pub returns-clause-constant : goal.returns-clause-constant
+returns-clause-constant c =
+    let small = c.refined_prices_are_small.ensures.constants c.args.inst.now c.args.list.now c.fits.ensures
+    c.requires in
+    c.from_rows.ensures.fixed ∙ (constant_back c.in_ok-rows.constant (refined_constant c.args.inst.now
+    c.args.list.now) c.in_ok-rows.ensures.constant small).0
+
+pub returns-clause-worths : goal.returns-clause-worths
+returns-clause-worths c =
+    let small = c.refined_prices_are_small.ensures.constants c.args.inst.now c.args.list.now c.fits.ensures
+    c.requires in
+    IsPricingTable-from c.args.inst.now (refined_pricing c.args.inst.now c.args.list.now) c.from_rows.result
+    (c.from_rows.ensures.rows ∙ c.in_ok-rows.ensures.rows)
+    (c.from_rows.ensures.fixed ∙ (constant_back c.in_ok-rows.constant (refined_constant c.args.inst.now
+    c.args.list.now) c.in_ok-rows.ensures.constant small).0)
