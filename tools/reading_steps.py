@@ -65,9 +65,9 @@ STEPS = [
             OUTCOME: {"Outcome": ["checks"]},
             WORDS: {"Command": [], "command_of": [], "GoesByName": ["checks"]},
             ENDING: {"Behind": ["of_command"], "Answer": []},
-            BYTES: {"SpellsOne": ["spells"]},
+            BYTES: {"SpellsOneBy": ["spells"]},
             CHECKING: {
-                "RunsCheck": ["behind"],
+                "RunsCheckBy": ["behind"],
                 "BehindCheck": ["accepted"],
                 "ReportsAccepted": ["files", "bounds", "says"],
                 "DueCheck": [],
@@ -79,13 +79,13 @@ STEPS = [
         "`solve` writes only plans that keep the rules (0; with 9 and 10 none is written), and its certificates are"
         " always accepted by `check`: of the bytes that the certificate's file holds the relation of `check` says so"
         " (`accepted`), which is that of its clauses `exact` and `one`, and may be left unread.",
-        [(OUTCOME, ["Outcome"]), (WORDS, ["solve_of", "GoesByName"]), (CHECKING, ["RunsCheck"])],
+        [(OUTCOME, ["Outcome"]), (WORDS, ["solve_of", "GoesByName"]), (CHECKING, ["RunsCheckBy"])],
         {
             OUTCOME: {"Outcome": ["solves"]},
             WORDS: {"Command": [], "command_of": [], "GoesByName": ["solves"]},
             ENDING: {"Behind": ["of_command"]},
-            CHECKING: {"RunsCheck": ["exact", "one"]},
-            CHECK: {"AnswersCheck": []},
+            CHECKING: {"RunsCheckBy": ["exact", "one"]},
+            CHECK: {"AnswersCheckBy": []},
             SOLVING: {
                 "RunsSolve": ["behind", "no_plan_file"],
                 "BehindSolve": ["found", "nothing", "none"],
@@ -112,9 +112,9 @@ STEPS = [
         "Whatever else it says of `check`",
         "When a certificate is valid, so that it is accepted exactly then; which leaf fails; and a plan that is best.",
         [
-            (CHECKING, ["RunsCheck", "BehindCheck", "ReportsAccepted", "DueCheck"]),
-            (CHECK, ["AnswersCheck"]),
-            (BYTES, ["SpellsOne"]),
+            (CHECKING, ["RunsCheckBy", "BehindCheck", "ReportsAccepted", "DueCheck"]),
+            (CHECK, ["AnswersCheckBy"]),
+            (BYTES, ["SpellsOneBy"]),
         ],
     ),
     Step(

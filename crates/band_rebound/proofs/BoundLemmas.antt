@@ -1,6 +1,6 @@
 -- The bound of what leaves are worth.
 use Rattle.std.proofs.Common.{◌≡◌, ◌⊎◌, inl, inr, ◌<◌, ◌≤◌, ◌^◌, refl, sym, ap, subst, arith, ℤ, pos}
-use Rattle.std.proofs.Common.{◌+ℤ◌, ◌<ℤ◌}
+use Rattle.std.proofs.Common.{◌-ℤ◌, ◌<ℤ◌}
 use Rattle.std.proofs.Common.{◌≤ℤ◌, List, [], ◌∷◌, ◌++◌, length, All, Contains, unsigned_abs}
 use Rattle.std.proofs.lemmas.List.{append-nil}
 use Rattle.std.proofs.lemmas.List.Elements.{All-nil, All-head, All-contains, All-push, All-weaker, Contains-push}
@@ -104,9 +104,9 @@ all_at_least worths (Least b) h = h.least
 
 -- numbers from -10^36 on
 abbrev pub AreHigh : List ℤ → Type 0
-AreHigh worths = All (λ z. pos 0 ≤ℤ (z +ℤ pos (10 ^ 36))) worths
+AreHigh worths = All (λ z. (pos 0 -ℤ pos (10 ^ 36)) ≤ℤ z) worths
 
-within : (b : ℤ) → pos 0 ≤ℤ (b +ℤ pos (10 ^ 36)) → b ≤ℤ pos (10 ^ 36) → unsigned_abs b ≤ 10 ^ 36
+within : (b : ℤ) → (pos 0 -ℤ pos (10 ^ 36)) ≤ℤ b → b ≤ℤ pos (10 ^ 36) → unsigned_abs b ≤ 10 ^ 36
 within b l m = omega (arith, signed_arith)
 
 pub bound_in_range : (worths : List ℤ) (bound : Bound) → AreHigh worths → IsBoundOf worths bound
@@ -116,7 +116,7 @@ bound_in_range worths (Least b) high h = at h.among
   where
     at : (b ≡ pos (10 ^ 36)) ⊎ Contains worths b → unsigned_abs b ≤ 10 ^ 36
     at (inl e) = subst (λ (z : ℤ). unsigned_abs z ≤ 10 ^ 36) (sym e) (omega arith)
-    at (inr c) = within b (All-contains (λ z. pos 0 ≤ℤ (z +ℤ pos (10 ^ 36))) worths b high c) h.most
+    at (inr c) = within b (All-contains (λ z. (pos 0 -ℤ pos (10 ^ 36)) ≤ℤ z) worths b high c) h.most
 
 range_at_most : (a : ℤ) → unsigned_abs a ≤ 10 ^ 36 → a ≤ℤ pos (10 ^ 36)
 range_at_most a h = omega (arith, signed_arith)

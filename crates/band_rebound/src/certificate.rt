@@ -7,11 +7,10 @@ ghost use Rattle.band_rebound.specs.declared.rebounded.Rebounded.{Rebounded};
 ghost use Rattle.band_rebound.specs.Rebinding.{IsNoLower};
 ghost use Rattle.band_rebound.specs.Rebounds.{IsReboundOf};
 
-use crate::Rebounded;
-use crate::growth::Growth;
-use crate::walk::grow;
-use certificate_check::tables_of;
-use certificate_tree::{Certificate, Nodes, PriceLists, nodes_are_one_tree, valid_bounds_plans};
+use crate::{ReboundTree, Rebounded, rebound_by};
+use certificate_tree::{
+    Certificate, PriceLists, nodes_are_one_tree, tables_of, valid_bounds_plans,
+};
 use instance_model::Instance;
 use lagrange_bound::{Prices, RiskGoal, worths_are_small};
 use std::alloc::{AllocError, Global};
@@ -53,20 +52,20 @@ pub fn rebound(alloc: Global, inst: &Instance, cert: &Certificate) -> Result<Reb
     valid_bounds_plans(&RiskGoal);
     worths_are_small(&RiskGoal);
     let tables = tables_of(alloc, &RiskGoal, inst, cert.lists.as_slice())?;
-    let growth = grow(alloc, inst, cert, tables.as_slice())?;
+    let tree = rebound_by(alloc, inst, cert.nodes.as_slice(), tables.as_slice())?;
     let lists = copy_of(alloc, cert.lists.as_slice())?;
-    let Growth {
-        nodes,
+    let ReboundTree {
         bound,
+        nodes,
         kept,
         changed,
-    } = growth;
+    } = tree;
     Ok(Rebounded {
         cert: Certificate {
             version: cert.version,
             bound,
             lists: PriceLists::from_vec(lists),
-            nodes: Nodes::from_vec(nodes),
+            nodes,
         },
         kept,
         changed,

@@ -1,4 +1,4 @@
-//! What was made of a certificate so far.
+//! What was made of a tree so far.
 ghost use Rattle.std.specs.Prelude.{◌≡◌, ◌+◌, ◌<◌, ◌^◌, ◌<ℤ◌, ℤ, List, [], ◌++◌, IsTrue, OnOk, IfSome, ◌↔◌};
 ghost use Rattle.std.specs.Prelude.{unsigned_abs};
 ghost use Rattle.band_rebound.specs.declared.leaf.NewLeaf.{NewLeaf};
@@ -42,7 +42,7 @@ fn is_below(a: i128, b: i128) -> bool
 /// The bound of one leaf more.
 fn bound_with(bound: Bound, worth: Option<i128>) -> Bound
     requires { IfSome worth (λ z. unsigned_abs z < 10 ^ 37) }
-    ensures { (worths : List ℤ) → IsBoundOf worths bound → IsBoundOf (worths ++ some_worth worth) result }
+    ensures { (numbers : List ℤ) → IsBoundOf numbers bound → IsBoundOf (numbers ++ some_worth worth) result }
 {
     let Some(worth) = worth else {
         return bound;

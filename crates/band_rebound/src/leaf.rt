@@ -1,17 +1,18 @@
 //! What a leaf becomes on its box.
-ghost use Rattle.std.specs.Prelude.{◌≡◌, ◌<◌, ◌≤◌, ◌^◌, [], length, IsTrue, IfOk, IfSome, IfNone, ◌↔◌, unsigned_abs};
-ghost use Rattle.lagrange_bound.specs.Goals.{risk_base};
+ghost use Rattle.std.specs.Prelude.{◌≡◌, ℕ, ◌-◌, ◌<◌, ◌≤◌, ◌^◌, length, All, IsTrue, IfOk, IfSome, IfNone, ◌↔◌};
+ghost use Rattle.std.specs.Prelude.{unsigned_abs};
 ghost use Rattle.lagrange_bound.specs.Boxes.{IsBox, HasStarts};
+ghost use Rattle.lagrange_bound.specs.PricedTables.{IsPricedTable};
 ghost use Rattle.certificate_tree.specs.Ranges.{IsLeafInRange};
-ghost use Rattle.branch_search.specs.Boxes.{worth_by, IsGreatest};
-ghost use Rattle.certificate_check.specs.Priced.{AreTables};
+ghost use Rattle.certificate_tree.specs.Holding.{Worths};
+ghost use Rattle.certificate_tree.specs.PriceTables.{table_worths};
 ghost use Rattle.band_rebound.specs.Rebinding.{IsFirstEmpty, IsHeld, worths_at};
 ghost use Rattle.band_rebound.specs.Steps.{some_worth, IsNewLeaf};
 
 use certificate_check::{is_single, starts_of};
-use certificate_tree::{Certificate, Node, band_holds, excl_holds, has_start};
+use certificate_tree::{Node, band_holds, excl_holds, greatest_worth, has_start};
 use instance_model::{Instance, plan_of};
-use lagrange_bound::{Goal, PriceTable, RiskGoal, Span, worth};
+use lagrange_bound::{Goal, PriceTable, RiskGoal, Span};
 use plan_score::broken_rule;
 use std::alloc::{AllocError, Global};
 
@@ -37,12 +38,11 @@ fn first_empty(inst: &Instance, spans: &[Span]) -> Option<u32>
 }
 
 /// Whether a leaf is a `band` or an `excl` that holds.
-fn is_held(inst: &Instance, cert: &Certificate, spans: &[Span], leaf: Node) -> bool
+fn is_held(inst: &Instance, spans: &[Span], leaf: Node) -> bool
     requires spans { IsBox inst.now spans.now }
-    requires leaf { IsLeafInRange inst.now (length cert.now.lists) leaf }
+    requires leaf { (lists : ℕ) × IsLeafInRange inst.now lists leaf }
     ensures { IsTrue result ↔ IsHeld inst.now spans.now leaf }
 {
-    let _cert = cert;
     match leaf {
         Node::Band { c, t, side } => band_holds(inst, spans, c, t, side),
         Node::Excl { e } => excl_holds(inst, spans, e),
@@ -50,40 +50,12 @@ fn is_held(inst: &Instance, cert: &Certificate, spans: &[Span], leaf: Node) -> b
     }
 }
 
-/// The list of greatest worth, of the least number where several have it, and that worth. Takes no memory.
-fn greatest_worth(
-    inst: &Instance,
-    cert: &Certificate,
-    tables: &[PriceTable],
-    spans: &[Span],
-) -> (u32, i128)
-    requires few { length cert.now.lists ≤ 16 }
-    requires tables { AreTables risk_base inst.now cert.now.lists tables.now }
-    requires spans { IsBox inst.now spans.now }
-    requires starts { HasStarts inst.now spans.now }
-    ensures list { IsGreatest (worth_by risk_base inst.now cert.now.lists spans.now) (length cert.now.lists) result.0 }
-    ensures value { result.1 ≡ worth_by risk_base inst.now cert.now.lists spans.now result.0 }
-    ensures small { unsigned_abs result.1 < 10 ^ 37 }
-{
-    let _inst = inst;
-    let _cert = cert;
-    let mut list = 0;
-    let mut most = worth(&tables[0], spans);
-    for j in 1..tables.len() {
-        let other = worth(&tables[j], spans);
-        if most < other {
-            list = j as u32;
-            most = other;
-        }
-    }
-    (list, most)
-}
-
 /// The leaf of a box of single starts: it is worth the score of its plan, where that is feasible.
 fn point_leaf(alloc: Global, inst: &Instance, spans: &[Span]) -> Result<NewLeaf, AllocError>
     requires { IsBox inst.now spans.now }
     ensures node { IfOk result (λ new. new.node ≡ Node.Point) }
-    ensures worths { IfOk result (λ new. worths_at inst.now [] spans.now Node.Point ≡ some_worth new.worth) }
+    ensures worth { IfOk result (λ new. (worths : Worths) →
+        worths_at inst.now worths spans.now Node.Point ≡ some_worth new.worth) }
     ensures small { IfOk result (λ new. IfSome new.worth (λ z. unsigned_abs z < 10 ^ 37)) }
 {
     let starts = starts_of(alloc, spans)?;
@@ -105,16 +77,16 @@ fn point_leaf(alloc: Global, inst: &Instance, spans: &[Span]) -> Result<NewLeaf,
 pub(crate) fn new_leaf(
     alloc: Global,
     inst: &Instance,
-    cert: &Certificate,
     tables: &[PriceTable],
     spans: &[Span],
     old: Node,
 ) -> Result<NewLeaf, AllocError>
-    requires few { length cert.now.lists ≤ 16 }
-    requires tables { AreTables risk_base inst.now cert.now.lists tables.now }
+    requires some { 0 < length tables.now }
+    requires few { length tables.now ≤ 17 }
+    requires priced { All (IsPricedTable inst.now) tables.now }
     requires spans { IsBox inst.now spans.now }
-    requires leaf { IsLeafInRange inst.now (length cert.now.lists) old }
-    ensures { IfOk result (IsNewLeaf inst.now cert.now.lists spans.now old) }
+    requires leaf { IsLeafInRange inst.now (length tables.now - 1) old }
+    ensures { IfOk result (IsNewLeaf inst.now (length tables.now - 1) (table_worths tables.now) spans.now old) }
 {
     if let Some(i) = first_empty(inst, spans) {
         return Ok(NewLeaf {
@@ -122,7 +94,7 @@ pub(crate) fn new_leaf(
             worth: None,
         });
     }
-    if is_held(inst, cert, spans, old) {
+    if is_held(inst, spans, old) {
         return Ok(NewLeaf {
             node: old,
             worth: None,
@@ -131,7 +103,7 @@ pub(crate) fn new_leaf(
     if is_single(spans) {
         return point_leaf(alloc, inst, spans);
     }
-    let (list, worth) = greatest_worth(inst, cert, tables, spans);
+    let (list, worth) = greatest_worth(tables, spans);
     Ok(NewLeaf {
         node: Node::Cost { list },
         worth: Some(worth),

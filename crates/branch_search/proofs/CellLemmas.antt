@@ -1,6 +1,6 @@
 -- What stands at each number once a node is split.
 use Rattle.std.proofs.Common.{◌≡◌, ℕ, ◌+◌, ◌<◌, ◌⊎◌, inl, inr, sym, ◌∙◌, ap, subst, arith, List, [], ◌∷◌, ◌++◌, length}
-use Rattle.std.proofs.Common.{get_or, set}
+use Rattle.std.proofs.Common.{get_or}
 use Rattle.std.proofs.lemmas.Bool.{cases_eq, cases_order}
 use Rattle.std.proofs.lemmas.List.{length-set, length-append, get_or_append_left, get_or_at, get_or-append-add}
 use Rattle.std.proofs.lemmas.List.{get_or-set_same, get_or-set_other}

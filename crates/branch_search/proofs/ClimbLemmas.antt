@@ -1,6 +1,6 @@
 -- The box of a number, by the way up to the root.
 use Rattle.std.proofs.Common.{◌≡◌, ℕ, ◌+◌, ◌<◌, ◌≤◌, ◌⊎◌, inl, inr, sym, ◌∙◌, ap, subst, arith, ◌++◌, take, drop, List}
-use Rattle.std.proofs.Common.{length, get_or, set, max, min, Bool, cond, eqb}
+use Rattle.std.proofs.Common.{length, set, max, min, Bool, cond, eqb}
 use Rattle.std.proofs.lemmas.Bool.{cases_eq, eq-eqb, ne_eqb}
 use Rattle.std.proofs.lemmas.List.{length-set, get_or-set_same, get_or-set_other, ext_get_or, drop_all, take_all}
 use Rattle.std.proofs.lemmas.List.{append-nil}

@@ -1,7 +1,7 @@
 -- What the last state of a search shows: the statement.
-use Rattle.std.proofs.Common.{◌≡◌, ℕ, ◌<◌, ◌≤◌, inl, inr, refl, sym, ◌∙◌, ap, subst, arith, ℤ, ◌≤ℤ◌, ◌<ℤ◌, List, length}
-use Rattle.std.proofs.Common.{map, All, Contains, Option, Some, None, IfSome, IfNone, IsTrue, is_some, Bool, true}
-use Rattle.std.proofs.Common.{false}
+use Rattle.std.proofs.Common.{◌≡◌, ℕ, ◌+◌, ◌<◌, ◌≤◌, inl, inr, refl, sym, ◌∙◌, ap, subst, arith, ℤ, ◌≤ℤ◌, ◌<ℤ◌}
+use Rattle.std.proofs.Common.{List, length, map, All, Contains, Option, Some, None, IfSome, IfNone, IsTrue, is_some}
+use Rattle.std.proofs.Common.{Bool}
 use Rattle.std.specs.Prelude.{Any}
 use Rattle.std.specs.Bool.{OnFalse}
 use Rattle.std.proofs.lemmas.Bool.{false≢true}
@@ -10,27 +10,23 @@ use Rattle.std.proofs.lemmas.List.Elements.{All-contains}
 use Rattle.fixed_num.proofs.SignedLemmas.{signed_arith}
 use Rattle.instance_model.specs.Tables.{Tables}
 use Rattle.lagrange_bound.specs.declared.span.Span.{Span}
-use Rattle.lagrange_bound.specs.Prices.{PriceList}
 use Rattle.lagrange_bound.specs.Goals.{PlanValue}
 use Rattle.certificate_lines.specs.declared.line.Bound.{Bound}
 use Rattle.certificate_lines.specs.declared.line.Bound.TheVariants.{NoPlan, Least}
-use Rattle.certificate_lines.specs.declared.line.Version.{Version}
-use Rattle.certificate_lines.specs.declared.line.Version.TheVariants.{Two}
 use Rattle.certificate_tree.specs.declared.node.Node.{Node}
 use Rattle.certificate_tree.specs.declared.node.Node.TheVariants.{Split, Cost, Point, Band, Excl, Empty}
 use Rattle.certificate_tree.specs.Trees.{Leaf, leaves, root_box}
 use Rattle.certificate_tree.specs.Holding.{IsAtLeast, LeafHolds, first_starts}
 use Rattle.certificate_tree.specs.Ranges.{IsLeafInRange, IsTreeInRange}
+use Rattle.certificate_tree.specs.Validity.{IsProved}
 use Rattle.branch_search.specs.declared.best.Best.{Best}
 use Rattle.branch_search.specs.declared.tree.growth.Growth.{Growth}
-use Rattle.branch_search.specs.declared.tree_end.TreeEnd.{TreeEnd}
+use Rattle.branch_search.specs.declared.search_end.SearchEnd.{SearchEnd}
 use Rattle.branch_search.specs.Splits.{split_boxes}
-use Rattle.branch_search.specs.Best.{IsReached, IsShort, bound_of}
-use Rattle.branch_search.specs.Boxes.{worth_by}
-use Rattle.branch_search.specs.Searched.{lists_of, IsSplitBox, IsBounding, IsCostOf, IsAmong, IsLeastOf}
-use Rattle.branch_search.specs.Searched.{IsUnfinishedLeaf}
-use Rattle.branch_search.specs.Searched.{IsSearched}
-use Rattle.branch_search.specs.Tasks.{Task, worth_in}
+use Rattle.branch_search.specs.Best.{IsReached, IsShort, bound_of, Reaches}
+use Rattle.branch_search.specs.Searched.{IsSplitBox, IsBounding, IsCostOf, IsAmong, IsLeastOf, IsUnfinishedLeaf}
+use Rattle.branch_search.specs.Searched.{IsSearchedBy}
+use Rattle.branch_search.specs.Tasks.{Task, splits_before, given_claim}
 use Rattle.branch_search.specs.Growing.{node_at, box_at, IsLeafNode}
 use Rattle.branch_search.specs.Shapes.{top, numbers, tree_of}
 use Rattle.branch_search.specs.Settled.{IsSettled}
@@ -90,17 +86,17 @@ module _ (task : Task) (growth : Growth) (g : IsGrowth task growth) (left : Opti
     (some : IfSome left (IsLeftWorth growth.best growth.waiting))
     (none : IfNone left (NoneIsLeft growth.best growth.waiting)) where
   waits : (k j : ℕ) → k < length growth.cells.items → node_at growth.cells.items k ≡ Cost j
-      → Contains growth.waiting (worth_in task (box_at g.state.boxes k) j, k)
+      → Contains growth.waiting (task.worths (box_at g.state.boxes k) j, k)
   waits = g.state.waits.complete
 
   -- a leaf holds, for the bound
   holds_at : (k : ℕ) (node : Node) → k < length growth.cells.items → node_at growth.cells.items k ≡ node
       → IsLeafNode node → IsSettled task (plan_in growth.best) (box_at g.state.boxes k) node
-      → LeafHolds task.base task.value task.inst (bound_with left growth.best) task.lists (box_at g.state.boxes k) node
+      → LeafHolds task.value task.inst (bound_with left growth.best) task.worths (box_at g.state.boxes k) node
   holds_at k (Split i m) l e leaf h = absurd leaf
   holds_at k (Cost j) l e leaf h = record {
     starts = h.unrefuted.starts;
-    worth = cost_reaches growth.best left growth.waiting (worth_in task (box_at g.state.boxes k) j) k some none
+    worth = cost_reaches growth.best left growth.waiting (task.worths (box_at g.state.boxes k) j) k some none
         (waits k j l e);
   }
   holds_at k Point l e leaf h = record {
@@ -113,7 +109,7 @@ module _ (task : Task) (growth : Growth) (g : IsGrowth task growth) (left : Opti
   holds_at k (Empty i) l e leaf h = h.1
 
   bounding_at : (box : List Span) (node : Node) → IsSettled task (plan_in growth.best) box node
-      → IsBounding task.base task.value task.inst task.lists (plan_in growth.best) box node
+      → IsBounding task.value task.inst task.lists task.worths (plan_in growth.best) box node
   bounding_at box (Split i m) h = tt
   bounding_at box (Cost j) h = record { unrefuted = h.unrefuted; list = h.list; single = λ s. absurd (h.several s) }
   bounding_at box Point h = h.1
@@ -122,7 +118,7 @@ module _ (task : Task) (growth : Growth) (g : IsGrowth task growth) (left : Opti
   bounding_at box (Empty i) h = tt
 
   range_at : (best : Option (List ℕ)) (box : List Span) (node : Node) → IsLeafNode node → IsSettled task best box node
-      → IsLeafInRange task.inst (length task.lists) node
+      → IsLeafInRange task.inst task.lists node
   range_at best box (Split i m) leaf h = leaf
   range_at best box (Cost j) leaf h = h.list.number
   range_at best box Point leaf h = tt
@@ -153,13 +149,13 @@ module _ (task : Task) (growth : Growth) (g : IsGrowth task growth) (left : Opti
 
   -- a `cost` leaf is one that waits
   each_cost : All (λ leaf. (j : ℕ) → leaf.node ≡ Cost j
-      → (k : ℕ) × Contains growth.waiting (worth_by task.base task.inst task.lists leaf.box j, k))
+      → (k : ℕ) × Contains growth.waiting (task.worths leaf.box j, k))
       (leaves (root_box task.inst) (tree_of growth.cells.items g.state.shape))
   each_cost = each (λ leaf. (j : ℕ) → leaf.node ≡ Cost j
-      → (k : ℕ) × Contains growth.waiting (worth_by task.base task.inst task.lists leaf.box j, k))
+      → (k : ℕ) × Contains growth.waiting (task.worths leaf.box j, k))
       (λ k l leaf j e. (k, waits k j l e))
 
-  among_reaches : (y : ℤ) → IsAmong task.base task.value task.inst task.lists (plan_in growth.best)
+  among_reaches : (y : ℤ) → IsAmong task.value task.inst task.worths (plan_in growth.best)
       (leaves (root_box task.inst) (tree_of growth.cells.items g.state.shape)) y → IsAtLeast (bound_with left
       growth.best) y
   among_reaches y (inl (plan, e, v)) = value_reaches task.value task.inst growth.best left growth.waiting y some
@@ -168,16 +164,16 @@ module _ (task : Task) (growth : Growth) (g : IsGrowth task growth) (left : Opti
       (subst (λ (x : ℤ). task.value task.inst plan ≤ℤ x) v (omega (arith, signed_arith))))
   among_reaches y (inr (k, leaf, l, e, w)) =
       let c = subst (λ (x : Leaf). (j : ℕ) → x.node ≡ Cost j
-      → (k : ℕ) × Contains growth.waiting (worth_by task.base task.inst task.lists x.box j, k)) e
+      → (k : ℕ) × Contains growth.waiting (task.worths x.box j, k)) e
       (each_cost k leaf l) w.list w.node in
       subst (IsAtLeast (bound_with left growth.best)) w.worth
-      (cost_reaches growth.best left growth.waiting (worth_by task.base task.inst task.lists leaf.box w.list) c.0
+      (cost_reaches growth.best left growth.waiting (task.worths leaf.box w.list) c.0
       some none c.1)
 
   -- the leaf that is left
   left_leaf : (z : ℤ) → IsLeftWorth growth.best growth.waiting z → (P : Leaf → Type 0)
       → ((k j : ℕ) → k < length growth.cells.items → node_at growth.cells.items k ≡ Cost j
-      → z ≡ worth_in task (box_at g.state.boxes k) j
+      → z ≡ task.worths (box_at g.state.boxes k) j
       → P (record { box = box_at g.state.boxes k; node = node_at growth.cells.items k }))
       → Any P (leaves (root_box task.inst) (tree_of growth.cells.items g.state.shape))
   left_leaf z w P h =
@@ -185,16 +181,17 @@ module _ (task : Task) (growth : Growth) (g : IsGrowth task growth) (left : Opti
       (z, w.number) g.state.waits.sound w.member in
       one_of P w.number s.list s.within s.node (h w.number s.list s.within s.node s.worth)
 
-  few_of : length (split_boxes (root_box task.inst) (tree_of growth.cells.items g.state.shape)) ≡ growth.splits
+  few_of : length (split_boxes (root_box task.inst) (tree_of growth.cells.items g.state.shape))
+      ≡ splits_before task + growth.splits
   few_of = splits_are growth.cells.items (root_box task.inst) g.state.shape ∙ g.state.splits_are
 
 -- ---- the bound
 abbrev AmongOf : Task → Option Best → List Leaf → ℤ → Type 0
-AmongOf task best ls = IsAmong task.base task.value task.inst task.lists (plan_in best) ls
+AmongOf task best ls = IsAmong task.value task.inst task.worths (plan_in best) ls
 
 least_of : (task : Task) (best : Option Best) (left : Option ℤ) (ls : List Leaf)
     → IsValued task.value task.inst best
-    → ((z : ℤ) → left ≡ Some z → Any (IsCostOf task.base task.inst task.lists z) ls)
+    → ((z : ℤ) → left ≡ Some z → Any (IsCostOf task.worths z) ls)
     → ((y : ℤ) → AmongOf task best ls y → IsAtLeast (bound_with left best) y)
     → IsLeastOf (AmongOf task best ls) (bound_with left best)
 least_of task best (Some z) ls v some h = (inr (some z refl), h)
@@ -228,141 +225,177 @@ unfinished_of : (left : Option ℤ) (P Q : Type 0) → IfNone left Q → (Q → 
 unfinished_of (Some z) P Q none h p = refl
 unfinished_of None P Q none h p = absurd (h none p)
 
+-- ---- a floor of the last state
+reaches_floor : (task : Task) (growth : Growth) (boxes : List (List Span)) (left : Option ℤ) (b : ℤ)
+    → IsValued task.value task.inst growth.best
+    → IsFloor task growth.cells.items boxes (plan_in growth.best) (Least b)
+    → ((z : ℤ) → left ≡ Some z → b ≤ℤ z) → Reaches (bound_with left growth.best) b
+reaches_floor task growth boxes left b v h some =
+    at growth.best left v h.under_best some
+  where
+    at : (best : Option Best) (left : Option ℤ) → IsValued task.value task.inst best
+        → ((plan : List ℕ) → plan_in best ≡ Some plan → b ≤ℤ task.value task.inst plan)
+        → ((z : ℤ) → left ≡ Some z → b ≤ℤ z) → Reaches (bound_with left best) b
+    at best (Some z) v h some = some z refl
+    at None None v h some = tt
+    at (Some best) None v h some = subst (λ (x : ℤ). b ≤ℤ x) (sym v.is) (h best.starts refl)
+
+none_is_floor : (task : Task) (growth : Growth) (boxes : List (List Span)) (left : Option ℤ)
+    → IsFloor task growth.cells.items boxes (plan_in growth.best) NoPlan
+    → ((z : ℤ) → left ≡ Some z → ⊥) → bound_with left growth.best ≡ NoPlan
+none_is_floor task growth boxes left h some = at growth.best left h.under_best some
+  where
+    at : (best : Option Best) (left : Option ℤ)
+        → ((plan : List ℕ) → plan_in best ≡ Some plan → ⊥) → ((z : ℤ) → left ≡ Some z → ⊥)
+        → bound_with left best ≡ NoPlan
+    at best (Some z) h some = absurd (some z refl)
+    at None None h some = refl
+    at (Some best) None h some = absurd (h best.starts refl)
+
 -- ---- the answer of these parts
-abbrev answer_of : Version → Bound → List PriceList → List Node → Option (List ℕ) → Bool → TreeEnd
-answer_of v b l n p u = record {
-  cert = record { version = v; bound = b; lists = l; nodes = n };
-  best = p;
-  unfinished
-      = u;
-}
+abbrev answer_of : Bound → List Node → Option (List ℕ) → Bool → ℕ → ℕ → SearchEnd
+answer_of b n p u k c =
+    record { bound = b; nodes = n; best = p; unfinished = u; kept = k; changed = c }
 
 module _ (task : Task) (growth : Growth) (g : IsGrowth task growth) (left : Option ℤ)
     (some : IfSome left (IsLeftWorth growth.best growth.waiting))
-    (none : IfNone left (NoneIsLeft growth.best growth.waiting)) (prices : Option PriceList)
-    (lists : task.lists ≡ lists_of prices) (turns : ℕ) (few : growth.splits ≤ turns)
-    (spent : (z : ℤ) → IsLeftWorth growth.best growth.waiting z → growth.splits ≡ turns) where
-  searched_of : IsSearched task.base task.value task.inst prices task.incumbent turns
-      (answer_of Two (bound_with left growth.best) task.lists
-      (map (node_at growth.cells.items) (numbers g.state.shape)) (plan_in growth.best) (is_some left))
-  searched_of = record {
-    version = refl;
-    lists = lists;
-    tree = (tree_of growth.cells.items g.state.shape);
-    of_nodes = record {
-      order = order_is growth.cells.items g.state.shape g.state.is_shape.stands;
-      in_range = subst (λ (b : List Span). IsTreeInRange task.inst (length task.lists) b (tree_of growth.cells.items
-          g.state.shape))
+    (none : IfNone left (NoneIsLeft growth.best growth.waiting)) where
+  left_floor : (bound : Bound) (z : ℤ) → IsLeftWorth growth.best growth.waiting z
+      → IsFloor task growth.cells.items g.state.boxes (plan_in growth.best) bound → IsAtLeast bound z
+  left_floor bound z w h =
+      let s = All-contains (λ (e : ℤ × ℕ). IsEntry task growth.cells.items g.state.boxes e) growth.waiting
+      (z, w.number) g.state.waits.sound w.member in
+      subst (IsAtLeast bound) (sym s.worth) (h.under_costs w.number s.list s.within s.node)
+
+  -- the bound is no lower than one that the given tree proves
+  pub no_lower : (b : ℤ) → IsProved task.value task.inst (given_claim task (Least b))
+      → Reaches (bound_with left growth.best) b
+  no_lower b h =
+      let floor = g.state.floors (Least b) h in
+      reaches_floor task growth g.state.boxes left b g.valued floor
+      (λ z e. left_floor (Least b) z (left_of left (IsLeftWorth growth.best growth.waiting) z e some) floor)
+
+  pub no_plan : IsProved task.value task.inst (given_claim task NoPlan) → bound_with left growth.best ≡ NoPlan
+  no_plan h =
+      let floor = g.state.floors NoPlan h in
+      none_is_floor task growth g.state.boxes left floor
+      (λ z e. left_floor NoPlan z (left_of left (IsLeftWorth growth.best growth.waiting) z e some) floor)
+
+  module _ (turns kept changed : ℕ) (few : growth.splits ≤ turns)
+      (spent : (z : ℤ) → IsLeftWorth growth.best growth.waiting z → growth.splits ≡ turns) where
+    searched_of : IsSearchedBy task.value task.inst task.lists task.worths task.incumbent (splits_before task) turns
+        (answer_of (bound_with left growth.best) (map (node_at growth.cells.items) (numbers g.state.shape))
+        (plan_in growth.best) (is_some left) kept changed)
+    searched_of = record {
+      tree = tree_of growth.cells.items g.state.shape;
+      of_nodes = record {
+        order = order_is growth.cells.items g.state.shape g.state.is_shape.stands;
+        in_range = subst
+            (λ (b : List Span). IsTreeInRange task.inst task.lists b (tree_of growth.cells.items g.state.shape))
+            (root_is task growth g left some none)
+            (in_range task.inst growth.cells.items g.state.boxes g.state.are_boxes task.lists
+            (λ k l leaf. range_at task growth g left some none (plan_in growth.best) (box_at g.state.boxes k)
+            (node_at growth.cells.items k) leaf (g.state.settled k l))
+            g.state.shape g.state.is_shape.stands g.state.is_shape.within);
+      };
+      holds = each task growth g left some none
+          (λ leaf. LeafHolds task.value task.inst (bound_with left growth.best) task.worths leaf.box leaf.node)
+          (λ k l leaf. holds_at task growth g left some none k (node_at growth.cells.items k) l refl leaf
+          (g.state.settled k l));
+      few = omega (arith, few, few_of task growth g left some none);
+      splits = λ first. subst
+          (λ (b : List Span). All (IsSplitBox task.value task.inst task.lists task.worths task.incumbent
+          (bound_with left growth.best)) (split_boxes b (tree_of growth.cells.items g.state.shape)))
           (root_is task growth g left some none)
-          (in_range task.inst growth.cells.items g.state.boxes g.state.are_boxes (length task.lists)
-          (λ k l leaf. range_at task growth g left some none (plan_in growth.best) (box_at g.state.boxes k)
-          (node_at growth.cells.items k) leaf (g.state.settled k l))
-          g.state.shape g.state.is_shape.stands g.state.is_shape.within);
-    };
-    holds = each task growth g left some none
-        (λ leaf. LeafHolds task.base task.value task.inst (bound_with left growth.best) task.lists leaf.box leaf.node)
-        (λ k l leaf. holds_at task growth g left some none k (node_at growth.cells.items k) l refl leaf
-        (g.state.settled k l));
-    few = omega (arith, few, few_of task growth g left some none);
-    splits = subst
-        (λ (b : List Span). All (IsSplitBox task.base task.value task.inst task.incumbent
-        (answer_of Two (bound_with left growth.best) task.lists
-        (map (node_at growth.cells.items) (numbers g.state.shape)) (plan_in growth.best) (is_some left)).cert)
-        (split_boxes b (tree_of growth.cells.items g.state.shape))) (root_is task growth g left some none)
-        (each_split task.inst growth.cells.items g.state.boxes g.state.are_boxes
-        (IsSplitBox task.base task.value task.inst task.incumbent
-        (answer_of Two (bound_with left growth.best) task.lists
-        (map (node_at growth.cells.items) (numbers g.state.shape)) (plan_in growth.best) (is_some left)).cert)
-        (λ k i m l e. split_box k i m l e) g.state.shape g.state.is_shape.stands g.state.is_shape.within);
-    bounding = each task growth g left some none
-        (λ leaf. IsBounding task.base task.value task.inst task.lists (plan_in growth.best) leaf.box leaf.node)
-        (λ k l leaf. bounding_at task growth g left some none (box_at g.state.boxes k) (node_at growth.cells.items k)
-        (g.state.settled k l));
-    best = g.state.best_is;
-    bound = least_of task growth.best left (leaves (root_box task.inst) (tree_of growth.cells.items g.state.shape))
-        g.valued
-        (λ z e. left_leaf task growth g left some none z
-        (left_of left (IsLeftWorth growth.best growth.waiting) z e some)
-        (IsCostOf task.base task.inst task.lists z)
-        (λ k j l f s. record { list = j; node = f; worth = sym s }))
-        (among_reaches task growth g left some none);
-    unfinished = (
-      λ t. spent_of left (Any (IsUnfinishedLeaf task.base task.value task.inst task.lists (plan_in growth.best))
-          (leaves (root_box task.inst) (tree_of growth.cells.items g.state.shape))) (λ z e.
-          let w = left_of left (IsLeftWorth growth.best growth.waiting) z e some in
-          left_leaf task growth g left some none z w
-          (IsUnfinishedLeaf task.base task.value task.inst task.lists (plan_in growth.best))
-          (λ k j l f s. record {
-            list = j;
-            node = f;
-            several = (subst (IsSettled task (plan_in growth.best) (box_at g.state.boxes k)) f
-                (g.state.settled k l)).several;
-            short = subst (IsShort task.value task.inst (plan_in growth.best)) s
-                (below_short task.value task.inst growth.best z g.valued w.below);
-          })) t,
-      unfinished_of left (Any (IsUnfinishedLeaf task.base task.value task.inst task.lists (plan_in growth.best))
-          (leaves (root_box task.inst) (tree_of growth.cells.items g.state.shape))) (NoneIsLeft growth.best
-          growth.waiting) none
-          (λ q u. none_unfinished q u),
-    );
-    spent = spent_of left (length (split_boxes (root_box task.inst) (tree_of growth.cells.items g.state.shape)) ≡ turns)
-        (λ z e. few_of task growth g left some none
-        ∙ spent z (left_of left (IsLeftWorth growth.best growth.waiting) z e some));
-    finished = finished_of task.value task.inst growth.best left g.valued;
-  }
-    where
-      left_floor : (z : ℤ) → IsLeftWorth growth.best growth.waiting z → (y : ℤ)
-          → IsFloor task growth.cells.items g.state.boxes (plan_in growth.best) y → y ≤ℤ z
-      left_floor z w y h =
-          let s = All-contains (λ (e : ℤ × ℕ). IsEntry task growth.cells.items g.state.boxes e) growth.waiting
-          (z, w.number) g.state.waits.sound w.member in
-          subst (λ (x : ℤ). y ≤ℤ x) (sym s.worth) (h.under_costs w.number s.list s.within s.node)
+          (each_split task.inst growth.cells.items g.state.boxes g.state.are_boxes
+          (IsSplitBox task.value task.inst task.lists task.worths task.incumbent (bound_with left growth.best))
+          (λ k i m l e. split_box first k i m l e) g.state.shape g.state.is_shape.stands g.state.is_shape.within);
+      bounding = each task growth g left some none
+          (λ leaf. IsBounding task.value task.inst task.lists task.worths (plan_in growth.best) leaf.box leaf.node)
+          (λ k l leaf. bounding_at task growth g left some none (box_at g.state.boxes k)
+          (node_at growth.cells.items k) (g.state.settled k l));
+      best = g.state.best_is;
+      bound = least_of task growth.best left (leaves (root_box task.inst) (tree_of growth.cells.items g.state.shape))
+          g.valued
+          (λ z e. left_leaf task growth g left some none z
+          (left_of left (IsLeftWorth growth.best growth.waiting) z e some)
+          (IsCostOf task.worths z)
+          (λ k j l f s. record { list = j; node = f; worth = sym s }))
+          (among_reaches task growth g left some none);
+      unfinished = (
+        λ t. spent_of left (Any (IsUnfinishedLeaf task.value task.inst task.worths (plan_in growth.best))
+            (leaves (root_box task.inst) (tree_of growth.cells.items g.state.shape))) (λ z e.
+            let w = left_of left (IsLeftWorth growth.best growth.waiting) z e some in
+            left_leaf task growth g left some none z w
+            (IsUnfinishedLeaf task.value task.inst task.worths (plan_in growth.best))
+            (λ k j l f s. record {
+              list = j;
+              node = f;
+              several = (subst (IsSettled task (plan_in growth.best) (box_at g.state.boxes k)) f
+                  (g.state.settled k l)).several;
+              short = subst (IsShort task.value task.inst (plan_in growth.best)) s
+                  (below_short task.value task.inst growth.best z g.valued w.below);
+            })) t,
+        unfinished_of left (Any (IsUnfinishedLeaf task.value task.inst task.worths (plan_in growth.best))
+            (leaves (root_box task.inst) (tree_of growth.cells.items g.state.shape))) (NoneIsLeft growth.best
+            growth.waiting) none
+            (λ q u. none_unfinished q u),
+      );
+      spent = spent_of left (length (split_boxes (root_box task.inst) (tree_of growth.cells.items g.state.shape))
+          ≡ splits_before task + turns)
+          (λ z e. few_of task growth g left some none ∙ ap (λ (n : ℕ). splits_before task + n)
+          (spent z (left_of left (IsLeftWorth growth.best growth.waiting) z e some)));
+      finished = finished_of task.value task.inst growth.best left g.valued;
+    }
+      where
+        split_box : splits_before task ≡ 0 → (k i m : ℕ) → k < length growth.cells.items
+            → node_at growth.cells.items k ≡ Split i m
+            → IsSplitBox task.value task.inst task.lists task.worths task.incumbent (bound_with left growth.best)
+            (box_at g.state.boxes k)
+        split_box first k i m l e =
+            let h = subst (IsSettled task (plan_in growth.best) (box_at g.state.boxes k)) e (g.state.settled k l) in
+            record {
+              unrefuted = (h first).0;
+              below_given = (h first).1;
+              within_bound = λ j b s f.
+                  let floor = g.state.level first k i m j l e s in
+                  split_at_most task growth.best left (task.worths (box_at g.state.boxes k) j) b g.valued
+                  (λ z q. left_floor (Least (task.worths (box_at g.state.boxes k) j)) z
+                  (left_of left (IsLeftWorth growth.best growth.waiting) z q some) floor) floor.under_best f;
+            }
 
-      split_box : (k i m : ℕ) → k < length growth.cells.items → node_at growth.cells.items k ≡ Split i m
-          → IsSplitBox task.base task.value task.inst task.incumbent
-          (answer_of Two (bound_with left growth.best) task.lists
-          (map (node_at growth.cells.items) (numbers g.state.shape)) (plan_in growth.best) (is_some left)).cert
-          (box_at g.state.boxes k)
-      split_box k i m l e =
-          let h = subst (IsSettled task (plan_in growth.best) (box_at g.state.boxes k)) e (g.state.settled k l) in
-          record {
-            unrefuted = h.0;
-            below_given = h.1;
-            within_bound = λ j b s f.
-                let floor = g.state.level k i m j l e s in
-                split_at_most task growth.best left (worth_in task (box_at g.state.boxes k) j) b g.valued
-                (λ z q. left_floor z (left_of left (IsLeftWorth growth.best growth.waiting) z q some)
-                (worth_in task (box_at g.state.boxes k) j) floor) floor.under_best f;
-          }
+        none_unfinished : NoneIsLeft growth.best growth.waiting
+            → Any (IsUnfinishedLeaf task.value task.inst task.worths (plan_in growth.best))
+            (leaves (root_box task.inst) (tree_of growth.cells.items g.state.shape)) → ⊥
+        none_unfinished q (k, leaf, l, e, u) =
+            let c = subst (λ (x : Leaf). (j : ℕ) → x.node ≡ Cost j
+            → (k : ℕ) × Contains growth.waiting (task.worths x.box j, k)) e
+            (each_cost task growth g left some none k leaf l) u.list u.node in
+            none_short task.value task.inst growth.best growth.waiting (task.worths leaf.box u.list) c.0 q g.valued c.1
+            u.short
 
-      none_unfinished : NoneIsLeft growth.best growth.waiting
-          → Any (IsUnfinishedLeaf task.base task.value task.inst task.lists (plan_in growth.best))
-          (leaves (root_box task.inst) (tree_of growth.cells.items g.state.shape)) → ⊥
-      none_unfinished q (k, leaf, l, e, u) =
-          let c = subst (λ (x : Leaf). (j : ℕ) → x.node ≡ Cost j
-          → (k : ℕ) × Contains growth.waiting (worth_by task.base task.inst task.lists x.box j, k)) e
-          (each_cost task growth g left some none k leaf l) u.list u.node in
-          none_short task.value task.inst growth.best growth.waiting
-          (worth_by task.base task.inst task.lists leaf.box u.list) c.0 q g.valued c.1 u.short
-
-  pub searched : (answer : TreeEnd) → answer.cert.version ≡ Two → answer.cert.bound ≡ bound_with left growth.best
-      → answer.cert.lists ≡ task.lists
-      → answer.cert.nodes ≡ map (node_at growth.cells.items) (numbers g.state.shape)
-      → answer.best ≡ plan_in growth.best → answer.unfinished ≡ is_some left
-      → IsSearched task.base task.value task.inst prices task.incumbent turns answer
-  searched answer v b l n p u =
-      subst (IsSearched task.base task.value task.inst prices task.incumbent turns) (sym same) searched_of
-    where
-      same : answer ≡ answer_of Two (bound_with left growth.best) task.lists
-          (map (node_at growth.cells.items) (numbers g.state.shape)) (plan_in growth.best) (is_some left)
-      same = ap (λ (x : Version). answer_of x answer.cert.bound answer.cert.lists answer.cert.nodes answer.best
-          answer.unfinished) v
-          ∙ ap (λ (x : Bound). answer_of Two x answer.cert.lists answer.cert.nodes answer.best answer.unfinished) b
-          ∙ ap (λ (x : List PriceList). answer_of Two (bound_with left growth.best) x answer.cert.nodes answer.best
-          answer.unfinished) l
-          ∙ ap (λ (x : List Node). answer_of Two (bound_with left growth.best) task.lists x answer.best
-          answer.unfinished) n
-          ∙ ap (λ (x : Option (List ℕ)). answer_of Two (bound_with left growth.best) task.lists
-          (map (node_at growth.cells.items) (numbers g.state.shape)) x answer.unfinished) p
-          ∙ ap (λ (x : Bool). answer_of Two (bound_with left growth.best) task.lists
-          (map (node_at growth.cells.items) (numbers g.state.shape)) (plan_in growth.best) x) u
+    pub searched : (answer : SearchEnd) → answer.bound ≡ bound_with left growth.best
+        → answer.nodes ≡ map (node_at growth.cells.items) (numbers g.state.shape)
+        → answer.best ≡ plan_in growth.best → answer.unfinished ≡ is_some left → answer.kept ≡ kept
+        → answer.changed ≡ changed
+        → IsSearchedBy task.value task.inst task.lists task.worths task.incumbent (splits_before task) turns answer
+    searched answer b n p u k c = subst
+        (IsSearchedBy task.value task.inst task.lists task.worths task.incumbent (splits_before task) turns)
+        (sym same) searched_of
+      where
+        same : answer ≡ answer_of (bound_with left growth.best)
+            (map (node_at growth.cells.items) (numbers g.state.shape)) (plan_in growth.best) (is_some left) kept changed
+        same = ap (λ (x : Bound). answer_of x answer.nodes answer.best answer.unfinished answer.kept answer.changed) b
+            ∙ ap (λ (x : List Node). answer_of (bound_with left growth.best) x answer.best answer.unfinished answer.kept
+            answer.changed) n
+            ∙ ap (λ (x : Option (List ℕ)). answer_of (bound_with left growth.best)
+            (map (node_at growth.cells.items) (numbers g.state.shape)) x answer.unfinished answer.kept
+            answer.changed) p
+            ∙ ap (λ (x : Bool). answer_of (bound_with left growth.best)
+            (map (node_at growth.cells.items) (numbers g.state.shape)) (plan_in growth.best) x answer.kept
+            answer.changed) u
+            ∙ ap (λ (x : ℕ). answer_of (bound_with left growth.best)
+            (map (node_at growth.cells.items) (numbers g.state.shape)) (plan_in growth.best) (is_some left) x
+            answer.changed) k
+            ∙ ap (λ (x : ℕ). answer_of (bound_with left growth.best)
+            (map (node_at growth.cells.items) (numbers g.state.shape)) (plan_in growth.best) (is_some left) kept x) c

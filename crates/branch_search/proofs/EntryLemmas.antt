@@ -3,7 +3,6 @@ use Rattle.std.proofs.Common.{◌≡◌, ℕ, zero, suc, ◌+◌, ◌<◌, ◌�
 use Rattle.std.proofs.Common.{List, [], ◌∷◌, length, get_or, All, Contains, Bool, true, false, cond, eqb, Option, Some}
 use Rattle.std.proofs.Common.{None, IfSome, unsigned_abs}
 use Rattle.std.specs.Prelude.{IsPermutation}
-use Rattle.std.specs.List.{sum_by}
 use Rattle.std.proofs.lemmas.Bool.{eq-eqb, ne_eqb, cases_lt, cases_eq}
 use Rattle.std.proofs.lemmas.List.Elements.{All-nil, All-cons, All-head, All-tail}
 use Rattle.std.proofs.lemmas.List.Sums.{sum_by-cons}
@@ -14,7 +13,7 @@ use Rattle.certificate_tree.specs.declared.node.Node.{Node}
 use Rattle.certificate_tree.specs.declared.node.Node.TheVariants.{Split, Cost, Point, Band, Excl, Empty}
 use Rattle.certificate_tree.specs.Trees.{below, above}
 use Rattle.branch_search.specs.declared.tree.cell.Cell.{Cell}
-use Rattle.branch_search.specs.Tasks.{Task, worth_in}
+use Rattle.branch_search.specs.Tasks.{Task}
 use Rattle.branch_search.specs.Growing.{node_at, box_at, split_cells, split_list}
 use Rattle.branch_search.specs.Settled.{IsWorthOf}
 use Rattle.branch_search.specs.Entries.{with_entry}
@@ -67,7 +66,7 @@ counted_at_most (Some z) n k = at (eqb n k)
     at true = omega arith
     at false = omega arith
 
-counted_not : (worth : Option ℤ) (n k : ℕ) → (n ≡ k → ⊥) → counted_in worth n k ≡ 0
+pub counted_not : (worth : Option ℤ) (n k : ℕ) → (n ≡ k → ⊥) → counted_in worth n k ≡ 0
 counted_not None n k d = refl
 counted_not (Some z) n k d = ap one_if (ne_eqb n k d)
 
@@ -94,13 +93,13 @@ contains_new (Some y) n old new z e p = Contains-permutation ((y, n) ∷ old) ne
 
 -- ---- the worth of a leaf
 pub worth_of_cost : (task : Task) (box : List Span) (node : Node) (worth : Option ℤ) (j : ℕ) → node ≡ Cost j
-    → IsWorthOf task box node worth → worth ≡ Some (worth_in task box j)
+    → IsWorthOf task box node worth → worth ≡ Some (task.worths box j)
 worth_of_cost task box node worth j e h = subst (λ (n : Node). IsWorthOf task box n worth) e h
 
 pub cost_of_worth : (task : Task) (box : List Span) (node : Node) (worth : Option ℤ) (z : ℤ) → worth ≡ Some z
-    → IsWorthOf task box node worth → (j : ℕ) × (node ≡ Cost j) × (z ≡ worth_in task box j)
+    → IsWorthOf task box node worth → (j : ℕ) × (node ≡ Cost j) × (z ≡ task.worths box j)
 cost_of_worth task box (Split i m) worth z e h = absurd (none_is_not_some z (sym h ∙ e))
-cost_of_worth task box (Cost j) worth z e h = (j, refl, some_is z (worth_in task box j) (sym e ∙ h))
+cost_of_worth task box (Cost j) worth z e h = (j, refl, some_is z (task.worths box j) (sym e ∙ h))
 cost_of_worth task box Point worth z e h = absurd (none_is_not_some z (sym h ∙ e))
 cost_of_worth task box (Band c t s) worth z e h = absurd (none_is_not_some z (sym h ∙ e))
 cost_of_worth task box (Excl x) worth z e h = absurd (none_is_not_some z (sym h ∙ e))
@@ -130,7 +129,7 @@ module _ (task : Task) (cells : List Cell) (boxes : List (List Span)) (n i m : �
     within = omega (arith, h.within, length_split cells n i m a b known);
     list = h.list;
     node = ap (λ (c : Cell). c.node) (at_other cells n i m a b known e.1 h.within d) ∙ h.node;
-    worth = h.worth ∙ ap (λ (x : List Span). worth_in task x h.list)
+    worth = h.worth ∙ ap (λ (x : List Span). task.worths x h.list)
         (sym (box_before boxes n i m e.1 (omega (arith, h.within, each))));
     small = h.small;
   }
@@ -175,7 +174,7 @@ module _ (task : Task) (cells : List Cell) (boxes : List (List Span)) (n i m : �
             within = omega (arith, length_split cells n i m a b known);
             list = w.0;
             node = ap (λ (c : Cell). c.node) (at_left cells n i m a b known (length cells) refl) ∙ w.1;
-            worth = w.2 ∙ ap (λ (x : List Span). worth_in task x w.0)
+            worth = w.2 ∙ ap (λ (x : List Span). task.worths x w.0)
                 (sym (box_left boxes n i m (length cells) each));
             small = small_of left y e sl;
           }
@@ -188,46 +187,46 @@ module _ (task : Task) (cells : List Cell) (boxes : List (List Span)) (n i m : �
             within = omega (arith, length_split cells n i m a b known);
             list = w.0;
             node = ap (λ (c : Cell). c.node) (at_right cells n i m a b known (length cells + 1) refl) ∙ w.1;
-            worth = w.2 ∙ ap (λ (x : List Span). worth_in task x w.0)
+            worth = w.2 ∙ ap (λ (x : List Span). task.worths x w.0)
                 (sym (box_right boxes n i m (length cells + 1) (ap (λ (k : ℕ). k + 1) each)));
             small = small_of right y e sr;
           }
 
       -- the worth of a `cost` leaf that stood before
       old_entry : (k j : ℕ) → k < length cells → (k ≡ n → ⊥) → node_at (split_cells cells n i m a b) k ≡ Cost j
-          → Contains new (worth_in task (box_at (split_list boxes n i m) k) j, k)
+          → Contains new (task.worths (box_at (split_list boxes n i m) k) j, k)
       old_entry k j l d e =
           let f = ap (λ (c : Cell). c.node) (at_other cells n i m a b known k l d) in
           let c = h.complete k j l (sym f ∙ e) in
-          let x = still_contained n k z (worth_in task (box_at boxes k) j) old rest p c d in
-          let y = contains_with right (length cells + 1) mid new (worth_in task (box_at boxes k) j, k) pr
-          (contains_with left (length cells) rest mid (worth_in task (box_at boxes k) j, k) pl x) in
-          subst (λ (t : List Span). Contains new (worth_in task t j, k))
+          let x = still_contained n k z (task.worths (box_at boxes k) j) old rest p c d in
+          let y = contains_with right (length cells + 1) mid new (task.worths (box_at boxes k) j, k) pr
+          (contains_with left (length cells) rest mid (task.worths (box_at boxes k) j, k) pl x) in
+          subst (λ (t : List Span). Contains new (task.worths t j, k))
           (sym (box_before boxes n i m k (omega (arith, l, each)))) y
 
       left_entry : (k j : ℕ) → length cells ≡ k → node_at (split_cells cells n i m a b) k ≡ Cost j
-          → Contains new (worth_in task (box_at (split_list boxes n i m) k) j, k)
+          → Contains new (task.worths (box_at (split_list boxes n i m) k) j, k)
       left_entry k j q e =
           let f = ap (λ (c : Cell). c.node) (at_left cells n i m a b known k q) in
           let w = worth_of_cost task (below (box_at boxes n) i m) a left j (sym f ∙ e) wl in
-          let x = contains_new left (length cells) rest mid (worth_in task (below (box_at boxes n) i m) j) w pl in
+          let x = contains_new left (length cells) rest mid (task.worths (below (box_at boxes n) i m) j) w pl in
           let y = contains_with right (length cells + 1) mid new
-          (worth_in task (below (box_at boxes n) i m) j, length cells) pr x in
-          subst (λ (t : List Span). Contains new (worth_in task t j, k)) (sym (box_left boxes n i m k (each ∙ q)))
-          (subst (λ (t : ℕ). Contains new (worth_in task (below (box_at boxes n) i m) j, t)) q y)
+          (task.worths (below (box_at boxes n) i m) j, length cells) pr x in
+          subst (λ (t : List Span). Contains new (task.worths t j, k)) (sym (box_left boxes n i m k (each ∙ q)))
+          (subst (λ (t : ℕ). Contains new (task.worths (below (box_at boxes n) i m) j, t)) q y)
 
       right_entry : (k j : ℕ) → length cells + 1 ≡ k → node_at (split_cells cells n i m a b) k ≡ Cost j
-          → Contains new (worth_in task (box_at (split_list boxes n i m) k) j, k)
+          → Contains new (task.worths (box_at (split_list boxes n i m) k) j, k)
       right_entry k j q e =
           let f = ap (λ (c : Cell). c.node) (at_right cells n i m a b known k q) in
           let w = worth_of_cost task (above (box_at boxes n) i m) b right j (sym f ∙ e) wr in
-          let y = contains_new right (length cells + 1) mid new (worth_in task (above (box_at boxes n) i m) j) w pr in
-          subst (λ (t : List Span). Contains new (worth_in task t j, k))
+          let y = contains_new right (length cells + 1) mid new (task.worths (above (box_at boxes n) i m) j) w pr in
+          subst (λ (t : List Span). Contains new (task.worths t j, k))
           (sym (box_right boxes n i m k (ap (λ (x : ℕ). x + 1) each ∙ q)))
-          (subst (λ (t : ℕ). Contains new (worth_in task (above (box_at boxes n) i m) j, t)) q y)
+          (subst (λ (t : ℕ). Contains new (task.worths (above (box_at boxes n) i m) j, t)) q y)
 
       complete : (k j : ℕ) → node_at (split_cells cells n i m a b) k ≡ Cost j → Where (length cells) n k
-          → Contains new (worth_in task (box_at (split_list boxes n i m) k) j, k)
+          → Contains new (task.worths (box_at (split_list boxes n i m) k) j, k)
       complete k j e (inl q) = absurd (cost_is_no_split (node_at (split_cells cells n i m a b) k) i m j
           (ap (λ (t : ℕ). node_at (split_cells cells n i m a b) t) q
           ∙ ap (λ (c : Cell). c.node) (at_split cells n i m a b known)) e)

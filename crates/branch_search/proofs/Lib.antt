@@ -1,3 +1,4 @@
+pub mod SplitLemmas
 pub mod CellLemmas
 pub mod ShapeLemmas
 pub mod TreeLemmas
@@ -5,8 +6,11 @@ pub mod WorthLemmas
 pub mod LeafLemmas
 pub mod EntryLemmas
 pub mod StepLemmas
-pub mod BeginLemmas
+pub mod ChangeLemmas
+pub mod BegunLemmas
 pub mod EndLemmas
+pub mod SameLemmas
+pub mod FloorLemmas
 pub mod ClimbLemmas
 pub mod ListLemmas
 pub mod StateLemmas

@@ -19,7 +19,7 @@ pub same_not : (k j : ℕ) → (k ≡ j → ⊥) → same k j ≡ 0
 same_not k j d = ap (λ (b : Bool). cond b 1 0) (ne_eqb k j d)
 
 -- a split among the numbers is not n, where that is a leaf
-fork_apart : (cells : List Cell) (n k a b : ℕ) → IsLeafNode (node_at cells n) → IsForkAt cells k a b → k ≡ n → ⊥
+pub fork_apart : (cells : List Cell) (n k a b : ℕ) → IsLeafNode (node_at cells n) → IsForkAt cells k a b → k ≡ n → ⊥
 fork_apart cells n k a b leaf h e = split_is_no_leaf (node_at cells n) h.number h.last
     (subst (λ (j : ℕ). node_at cells j ≡ Split h.number h.last) e h.node) leaf
 

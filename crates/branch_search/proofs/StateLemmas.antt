@@ -1,5 +1,5 @@
 -- The state of a search as it is kept: what its calls need, and what a step leaves.
-use Rattle.std.proofs.Common.{◌≡◌, ℕ, ◌+◌, ◌<◌, ◌≤◌, ◌⊎◌, inl, inr, sym, ◌∙◌, ap, subst, arith, ℤ}
+use Rattle.std.proofs.Common.{◌≡◌, ℕ, ◌+◌, ◌-◌, ◌<◌, ◌≤◌, ◌⊎◌, inl, inr, refl, sym, ◌∙◌, ap, subst, arith, ℤ}
 use Rattle.std.proofs.Common.{◌≤ℤ◌, ◌<ℤ◌, List, [], ◌∷◌, length, get_or, All, Contains, IfSome, Option, Some, None}
 use Rattle.std.proofs.Common.{true, false}
 use Rattle.std.specs.Prelude.{IsPermutation}
@@ -14,19 +14,24 @@ use Rattle.lagrange_bound.specs.declared.span.Span.{Span}
 use Rattle.lagrange_bound.specs.Prices.{PriceList, IsPriceList}
 use Rattle.lagrange_bound.specs.Goals.{Bases, PlanValue}
 use Rattle.lagrange_bound.specs.Boxes.{IsBox}
-use Rattle.lagrange_bound.specs.Worth.{WorthBoundsPlans}
+use Rattle.lagrange_bound.specs.Tabulated.{PriceRows}
 use Rattle.certificate_lines.specs.declared.line.Version.{Version}
+use Rattle.certificate_lines.specs.declared.line.Version.TheVariants.{Two}
 use Rattle.certificate_tree.specs.Trees.{IsSplit}
 use Rattle.certificate_tree.specs.Ranges.{HasPricesOf, IsBoundInRange, IsInRange}
-use Rattle.certificate_tree.specs.Holding.{IsSingle}
+use Rattle.certificate_tree.specs.Holding.{Worths, worth_by, IsSingle}
+use Rattle.certificate_tree.specs.Validity.{BoundBoxes}
+use Rattle.certificate_tree.specs.PriceTables.{table_worths, AreTables}
 use Rattle.branch_search.specs.declared.best.Best.{Best}
 use Rattle.branch_search.specs.declared.tree.cell.Cell.{Cell}
 use Rattle.branch_search.specs.declared.tree.growth.Growth.{Growth}
 use Rattle.branch_search.specs.declared.splitting.settling.Settled.{Settled}
+use Rattle.branch_search.specs.declared.search_end.SearchEnd.{SearchEnd}
 use Rattle.branch_search.specs.declared.tree_end.TreeEnd.{TreeEnd}
+use Rattle.branch_search.specs.declared.tree.counts.LeafCounts.{LeafCounts}
 use Rattle.branch_search.specs.Best.{IsShort}
-use Rattle.branch_search.specs.Searched.{lists_of, IsSearched}
-use Rattle.branch_search.specs.Tasks.{Task, freed}
+use Rattle.branch_search.specs.Searched.{lists_of, IsSearchedBy, IsSearched}
+use Rattle.branch_search.specs.Tasks.{Task, splits_before, freed}
 use Rattle.branch_search.specs.Boxes.{IsUnrefuted}
 use Rattle.branch_search.specs.CurrentBoxes.{IsCurrentBox}
 use Rattle.branch_search.specs.Growing.{box_at, node_at, split_cells, AreBoxesOf}
@@ -34,10 +39,12 @@ use Rattle.branch_search.specs.Settled.{ArePartsOf}
 use Rattle.branch_search.specs.Valued.{plan_in, IsSmallValue, IsBelow, IsValued}
 use Rattle.branch_search.specs.Entries.{with_entry}
 use Rattle.branch_search.specs.States.{IsEntry, IsGrown, IsGrowth, IsLeftWorth, IsKept, IsAnswerOf}
+use Rattle.branch_search.proofs.WorthLemmas.{GrowInParts}
 use Rattle.branch_search.proofs.LeafLemmas.{at_most_below, below_is_at_most}
 use Rattle.branch_search.proofs.EntryLemmas.{popped}
 use Rattle.branch_search.proofs.StepLemmas.{waits_at, grown_more}
 use Rattle.branch_search.proofs.EndLemmas.{below_short, searched}
+use Rattle.branch_search.proofs.SameLemmas.{searched_same}
 use Rattle.branch_search.proofs.VolumeLemmas.{too_few}
 
 -- ---- sizes
@@ -136,7 +143,7 @@ better_than value inst best z starts plan e v b is other f =
 -- ---- a step
 pub step_kept : (task : Task) (old new : Growth) (n i m c1 c2 : ℕ) (left right : Settled) (y z : ℤ)
     (rest mid : List (ℤ × ℕ)) (spans : List Span)
-    → IsFitting task.inst → All (IsPriceList task.inst) task.lists → WorthBoundsPlans task.base task.value
+    → BoundBoxes task.value task.inst task.lists task.worths → GrowInParts task.inst task.lists task.worths
     → (g : IsGrowth task old) → IsLeftWorth old.best old.waiting z → IsPermutation old.waiting ((y, n) ∷ rest)
     → All (λ o. y ≤ℤ o.0) rest → spans ≡ box_at g.state.boxes n → IsSplit spans i m
     → ArePartsOf (freed task) spans i m (plan_in old.best) (plan_in new.best) left right
@@ -145,11 +152,11 @@ pub step_kept : (task : Task) (old new : Growth) (n i m c1 c2 : ℕ) (left right
     → IsPermutation (with_entry left.worth c1 rest) mid → IsPermutation (with_entry right.worth c2 mid) new.waiting
     → new.splits ≡ old.splits + 1 → IsValued task.value task.inst new.best → IsCurrentBox task.inst new.current
     → IsGrowth task new
-step_kept task old new n i m c1 c2 left right y z rest mid spans fits lists law g w p l e s parts cells d1 d2 pl pr
-    splits v current =
+step_kept task old new n i m c1 c2 left right y z rest mid spans law grow g w p l e s parts cells d1 d2 pl pr splits v
+    current =
     let short = popped_short task.value task.inst old.best old.waiting rest y z n g.valued w p l in
     let next = grown_more task old.cells.items n i m left right (plan_in old.best) (plan_in new.best) y old.waiting rest
-    mid new.waiting old.splits g.state p l short fits lists law
+    mid new.waiting old.splits g.state p l short law grow
     (subst (λ (b : List Span). IsSplit b i m) e s)
     (subst
     (λ (b : List Span). ArePartsOf (freed task) b i m (plan_in old.best) (plan_in new.best) left right) e parts)
@@ -164,28 +171,47 @@ step_kept task old new n i m c1 c2 left right y z rest mid spans fits lists law 
     }
 
 -- ---- the end
-pub answer_is : (task : Task) (growth : Growth) (answer : TreeEnd) (prices : Option PriceList) (turns : ℕ)
-    → IsGrowth task growth → IsAnswerOf growth task.lists answer → task.lists ≡ lists_of prices
-    → growth.splits ≤ turns
+pub answer_is : (task : Task) (growth : Growth) (counts : LeafCounts) (answer : SearchEnd) (turns : ℕ)
+    → IsGrowth task growth → IsAnswerOf growth counts answer → growth.splits ≤ turns
     → ((z : ℤ) → IsLeftWorth growth.best growth.waiting z → growth.splits ≡ turns)
-    → IsSearched task.base task.value task.inst prices task.incumbent turns answer
-answer_is task growth answer prices turns g a lists few spent = searched task growth g a.left a.some a.none prices lists
-    turns few spent answer a.version a.bound a.lists_are (a.nodes g.state.shape g.state.is_shape) a.best a.unfinished
+    → IsSearchedBy task.value task.inst task.lists task.worths task.incumbent (splits_before task) turns answer
+answer_is task growth counts answer turns g a few spent = searched task growth g a.left a.some a.none turns counts.kept
+    counts.changed few spent answer a.bound (a.nodes g.state.shape g.state.is_shape) a.best a.unfinished a.kept
+    a.changed
 
-pub enough_turns : (base : Bases) (value : PlanValue) (inst : Tables) (prices : Option PriceList)
-    (incumbent : Option (List ℕ)) (turns : ℕ) (answer : TreeEnd) → IsFitting inst
-    → IsSearched base value inst prices incumbent turns answer
-    → count_product (length inst.names) (tmax inst) ≤ turns + 1 → answer.unfinished ≡ false
-enough_turns base value inst prices incumbent turns answer fits h enough =
+pub enough_turns : (value : PlanValue) (inst : Tables) (lists : ℕ) (worths : Worths) (incumbent : Option (List ℕ))
+    (before turns : ℕ) (answer : SearchEnd) → IsFitting inst
+    → IsSearchedBy value inst lists worths incumbent before turns answer
+    → count_product (length inst.names) (tmax inst) ≤ before + turns + 1 → answer.unfinished ≡ false
+enough_turns value inst lists worths incumbent before turns answer fits h enough =
     at (cases_Bool answer.unfinished)
   where
     at : (answer.unfinished ≡ true) ⊎ (answer.unfinished ≡ false) → answer.unfinished ≡ false
     at (inr e) = e
     at (inl e) =
         let w = h.unfinished.0 e in
-        let v = too_few inst (length answer.cert.lists) h.tree fits h.of_nodes.in_range
-        (w.0, w.1, w.2, w.3, w.4.several) in
+        let v = too_few inst lists h.tree fits h.of_nodes.in_range (w.0, w.1, w.2, w.3, w.4.several) in
         absurd (omega (arith, v, h.spent e, enough))
+
+-- ---- by price lists
+pub searched_by_lists : (base : Bases) (value : PlanValue) (inst : Tables) (prices : Option PriceList)
+    (incumbent : Option (List ℕ)) (turns : ℕ) (lists : List PriceList) (tables : List PriceRows) (answer : SearchEnd)
+    → IsFitting inst → AreTables base inst lists tables → lists ≡ lists_of prices
+    → IsSearchedBy value inst (length tables - 1) (table_worths tables) incumbent 0 turns answer
+    → IsSearched base value inst prices incumbent turns (record {
+      cert = record { version = Two; bound = answer.bound; lists = lists; nodes = answer.nodes };
+      best = answer.best;
+      unfinished = answer.unfinished;
+    })
+searched_by_lists base value inst prices incumbent turns lists tables answer fits h e s =
+    let each : length tables - 1 ≡ length lists = omega (arith, h.each) in
+    record {
+      version = refl;
+      lists = e;
+      by = searched_same value inst (length lists) (table_worths tables) (worth_by base inst lists) incumbent 0 turns 0
+          0 answer fits h.same
+          (subst (λ (n : ℕ). IsSearchedBy value inst n (table_worths tables) incumbent 0 turns answer) each s);
+    }
 
 -- ---- ranges
 lists_in_range : (inst : Tables) (prices : Option PriceList) → IfSome prices (IsPriceList inst)
@@ -214,5 +240,5 @@ answer_in_range base value inst prices incumbent turns answer p h b =
       few = omega (arith, w.0);
       lists = w.1;
       version = λ k d l. subst (λ (v : Version). HasPricesOf v (get_or answer.cert.lists k d)) (sym h.version) tt;
-      tree = (h.tree, h.of_nodes);
+      tree = (h.by.tree, h.by.of_nodes);
     }

@@ -1,23 +1,24 @@
 -- One step of a search: the leaf of least worth is split.
 use Rattle.std.proofs.Common.{◌≡◌, ℕ, ◌+◌, ◌≤◌, inl, inr, sym, ◌∙◌, ap, subst, arith, ℤ, ◌≤ℤ◌, List, ◌∷◌, length, All}
-use Rattle.std.proofs.Common.{Contains, Option, Some, None}
+use Rattle.std.proofs.Common.{Option, Some, None}
 use Rattle.std.specs.Prelude.{IsPermutation}
 use Rattle.std.proofs.lemmas.List.Elements.{All-contains, All-cons}
 use Rattle.std.proofs.lemmas.List.Sorted.{Contains-permutation}
 use Rattle.fixed_num.proofs.SignedLemmas.{signed_arith}
-use Rattle.instance_model.specs.Fitting.{IsFitting}
 use Rattle.lagrange_bound.specs.declared.span.Span.{Span}
-use Rattle.lagrange_bound.specs.Prices.{IsPriceList}
-use Rattle.lagrange_bound.specs.Worth.{WorthBoundsPlans}
+use Rattle.lagrange_bound.specs.Boxes.{IsBox}
+use Rattle.certificate_lines.specs.declared.line.Bound.{Bound}
+use Rattle.certificate_lines.specs.declared.line.Bound.TheVariants.{Least}
 use Rattle.certificate_tree.specs.declared.node.Node.{Node}
 use Rattle.certificate_tree.specs.declared.node.Node.TheVariants.{Split, Cost}
 use Rattle.certificate_tree.specs.Trees.{below, above, IsSplit}
-use Rattle.certificate_tree.specs.Holding.{list_at}
-use Rattle.certificate_tree.proofs.Soundness.{list_in_range}
+use Rattle.certificate_tree.specs.Holding.{IsAtLeast}
+use Rattle.certificate_tree.specs.Validity.{BoundBoxes}
+use Rattle.certificate_tree.proofs.RootLemmas.{parts_are_boxes}
 use Rattle.branch_search.specs.declared.tree.cell.Cell.{Cell}
 use Rattle.branch_search.specs.declared.splitting.settling.Settled.{Settled}
 use Rattle.branch_search.specs.Best.{IsShort, IsBestOver}
-use Rattle.branch_search.specs.Tasks.{Task, freed, worth_in, IsBelowGiven}
+use Rattle.branch_search.specs.Tasks.{Task, splits_before, freed, IsBelowGiven}
 use Rattle.branch_search.specs.Growing.{node_at, box_at, IsLeafNode, split_cells, split_list}
 use Rattle.branch_search.specs.Shapes.{grown}
 use Rattle.branch_search.specs.Settled.{IsWaitingBox, IsSettled, IsImprovedIn, IsLeafOf, ArePartsOf}
@@ -27,18 +28,18 @@ use Rattle.branch_search.proofs.CellLemmas.{length_split, at_split, at_other, at
 use Rattle.branch_search.proofs.CellLemmas.{box_right, are_boxes_more, cost_is_no_split, split_is_no_leaf, Where}
 use Rattle.branch_search.proofs.CellLemmas.{where_is}
 use Rattle.branch_search.proofs.ShapeLemmas.{shape_more, forks_more}
-use Rattle.branch_search.proofs.WorthLemmas.{IsPart, below_is_part, above_is_part, worth_of_part}
+use Rattle.branch_search.proofs.WorthLemmas.{IsPart, GrowInParts, below_is_part, above_is_part}
 use Rattle.branch_search.proofs.LeafLemmas.{at_most_trans, below_at_most, at_most_below, below_is_at_most}
-use Rattle.branch_search.proofs.LeafLemmas.{none_is_not_some, some_is, leaf_for, improved_for, still_settled}
+use Rattle.branch_search.proofs.LeafLemmas.{none_is_not_some, some_is, at_least_more, leaf_for, still_settled}
 use Rattle.branch_search.proofs.LeafLemmas.{still_best}
 use Rattle.branch_search.proofs.EntryLemmas.{entries_more, popped}
 
 -- what a part waits with is at least the worth of the box
-pub part_waits : (task : Task) (part box : List Span) (q j : ℕ) → IsPart part box → q ≤ length task.lists
-    → IsWaitingBox task part j → worth_in task box q ≤ℤ worth_in task part j
-part_waits task part box q j p l h = at_most_trans (worth_in task box q) (worth_in task part q) (worth_in task part j)
-    (worth_of_part (task.base task.inst (list_at task.inst task.lists q)) task.inst (list_at task.inst task.lists q)
-    part box p h.unrefuted.starts) (h.list.greatest q l)
+pub part_waits : (task : Task) (part box : List Span) (q j : ℕ) → GrowInParts task.inst task.lists task.worths
+    → IsBox task.inst part → IsPart part box → q ≤ task.lists → IsWaitingBox task part j
+    → task.worths box q ≤ℤ task.worths part j
+part_waits task part box q j grow b p l h = at_most_trans (task.worths box q) (task.worths part q)
+    (task.worths part j) (grow part box q l b h.unrefuted.starts p) (h.list.greatest q l)
 
 pub waits_at : (task : Task) (best : Option (List ℕ)) (box : List Span) (node : Node) (j : ℕ) → node ≡ Cost j
     → IsSettled task best box node → IsWaitingBox task box j
@@ -49,10 +50,10 @@ leaf_of_cost node j e = subst IsLeafNode (sym e) tt
 
 -- ---- floors
 floor_under : (task : Task) (cells : List Cell) (boxes : List (List Span)) (best : Option (List ℕ)) (y z : ℤ)
-    → y ≤ℤ z → IsFloor task cells boxes best z → IsFloor task cells boxes best y
+    → y ≤ℤ z → IsFloor task cells boxes best (Least z) → IsFloor task cells boxes best (Least y)
 floor_under task cells boxes best y z l h = record {
   under_best = λ plan e. at_most_trans y z (task.value task.inst plan) l (h.under_best plan e);
-  under_costs = λ k j m e. at_most_trans y z (worth_in task (box_at boxes k) j) l (h.under_costs k j m e);
+  under_costs = λ k j m e. at_most_trans y z (task.worths (box_at boxes k) j) l (h.under_costs k j m e);
 }
 
 short_floor : (task : Task) (best : Option (List ℕ)) (z : ℤ) → IsShort task.value task.inst best z
@@ -64,20 +65,20 @@ short_floor task best z h plan e =
 -- the least of what waits is at most each worth that waits
 least_floor : (task : Task) (cells : List Cell) (boxes : List (List Span)) (best : Option (List ℕ))
     (old rest : List (ℤ × ℕ)) (z : ℤ) (n : ℕ) → AreEntries task cells boxes old → IsPermutation old ((z, n) ∷ rest)
-    → All (λ e. z ≤ℤ e.0) rest → IsShort task.value task.inst best z → IsFloor task cells boxes best z
+    → All (λ e. z ≤ℤ e.0) rest → IsShort task.value task.inst best z → IsFloor task cells boxes best (Least z)
 least_floor task cells boxes best old rest z n h p l s = record {
   under_best = short_floor task best z s;
-  under_costs = λ k j m e. All-contains (λ (x : ℤ × ℕ). z ≤ℤ x.0) ((z, n) ∷ rest) (worth_in task (box_at boxes k) j, k)
+  under_costs = λ k j m e. All-contains (λ (x : ℤ × ℕ). z ≤ℤ x.0) ((z, n) ∷ rest) (task.worths (box_at boxes k) j, k)
       (All-cons (λ (x : ℤ × ℕ). z ≤ℤ x.0) (z, n) rest (omega (arith, signed_arith)) l)
-      (Contains-permutation old ((z, n) ∷ rest) (worth_in task (box_at boxes k) j, k) p (h.complete k j m e));
+      (Contains-permutation old ((z, n) ∷ rest) (task.worths (box_at boxes k) j, k) p (h.complete k j m e));
 }
 
 -- ---- below the plan handed in
 below_given : (task : Task) (best : Option (List ℕ)) (box : List Span) (z : ℤ)
-    → ((j : ℕ) → j ≤ length task.lists → worth_in task box j ≤ℤ z) → IsShort task.value task.inst best z
+    → ((j : ℕ) → j ≤ task.lists → task.worths box j ≤ℤ z) → IsShort task.value task.inst best z
     → IsBestOver task.value task.inst task.incumbent best → IsBelowGiven task box
 below_given task None box z h s b j given l e = absurd (none_is_not_some given (sym b ∙ e))
-below_given task (Some plan) box z h s b j given l e = at_most_below (worth_in task box j) z
+below_given task (Some plan) box z h s b j given l e = at_most_below (task.worths box j) z
     (task.value task.inst given) (h j l)
     (below_at_most z (task.value task.inst plan) (task.value task.inst given) s (b.at_most given e))
 
@@ -93,15 +94,15 @@ module _ (task : Task) (cells : List Cell) (n i m : ℕ) (left right : Settled) 
   pub waiting : IsWaitingBox task (box_at g.boxes n) entry.list
   waiting = waits_at task old (box_at g.boxes n) (node_at cells n) entry.list entry.node (g.settled n entry.within)
 
-  floor : IsFloor task cells g.boxes old z
+  floor : IsFloor task cells g.boxes old (Least z)
   floor = least_floor task cells g.boxes old before rest z n g.waits p least short
 
-  worths_at_most : (j : ℕ) → j ≤ length task.lists → worth_in task (box_at g.boxes n) j ≤ℤ z
-  worths_at_most j l = subst (λ (y : ℤ). worth_in task (box_at g.boxes n) j ≤ℤ y) (sym entry.worth)
+  worths_at_most : (j : ℕ) → j ≤ task.lists → task.worths (box_at g.boxes n) j ≤ℤ z
+  worths_at_most j l = subst (λ (y : ℤ). task.worths (box_at g.boxes n) j ≤ℤ y) (sym entry.worth)
       (waiting.list.greatest j l)
 
-  module _ (fits : IsFitting task.inst) (lists : All (IsPriceList task.inst) task.lists)
-      (law : WorthBoundsPlans task.base task.value) (split : IsSplit (box_at g.boxes n) i m)
+  module _ (law : BoundBoxes task.value task.inst task.lists task.worths)
+      (grow : GrowInParts task.inst task.lists task.worths) (split : IsSplit (box_at g.boxes n) i m)
       (parts : ArePartsOf (freed task) (box_at g.boxes n) i m old new left right)
       (pl : IsPermutation (with_entry left.worth (length cells) rest) mid)
       (pr : IsPermutation (with_entry right.worth (length cells + 1) mid) after) where
@@ -114,8 +115,8 @@ module _ (task : Task) (cells : List Cell) (n i m : ℕ) (left right : Settled) 
     two : IsLeafOf task new (above (box_at g.boxes n) i m) right
     two = leaf_for task new (above (box_at g.boxes n) i m) right parts.right_is
 
-    improved : IsImprovedIn task (box_at g.boxes n) old new
-    improved = improved_for task (box_at g.boxes n) old new parts.improved
+    improved : IsImprovedIn task.value task.inst (box_at g.boxes n) old new
+    improved = parts.improved
 
     each : length g.boxes ≡ length cells
     each = g.are_boxes.each
@@ -130,7 +131,7 @@ module _ (task : Task) (cells : List Cell) (n i m : ℕ) (left right : Settled) 
         (sym (at_split cells n i m left.node right.node entry.within))
         (subst (λ (b : List Span). IsSettled task new b (Split i m))
         (sym (box_before g.boxes n i m n (omega (arith, entry.within, each))))
-        (waiting.unrefuted, below_given task old (box_at g.boxes n) z worths_at_most short g.best_is)))
+        (λ none. (waiting.unrefuted, below_given task old (box_at g.boxes n) z worths_at_most short g.best_is))))
     settled_at k (inr (inl (l, d))) = subst
         (λ (c : Cell). IsSettled task new (box_at (split_list g.boxes n i m) k) c.node)
         (sym (at_other cells n i m left.node right.node entry.within k l d))
@@ -149,83 +150,94 @@ module _ (task : Task) (cells : List Cell) (n i m : ℕ) (left right : Settled) 
         (sym (box_right g.boxes n i m k (ap (λ (t : ℕ). t + 1) each ∙ q))) two.settled)
 
     -- ---- floors
-    best_floor : (y : ℤ) → y ≤ℤ z → IsFloor task cells g.boxes old y → (plan : List ℕ) → new ≡ Some plan
-        → y ≤ℤ task.value task.inst plan
-    best_floor y l h plan e = at improved
+    best_floor : (bound : Bound) → IsAtLeast bound z → IsFloor task cells g.boxes old bound → (plan : List ℕ)
+        → new ≡ Some plan → IsAtLeast bound (task.value task.inst plan)
+    best_floor bound l h plan e = at improved
       where
-        at : IsImprovedIn task (box_at g.boxes n) old new → y ≤ℤ task.value task.inst plan
+        at : IsImprovedIn task.value task.inst (box_at g.boxes n) old new → IsAtLeast bound (task.value task.inst plan)
         at (inl f) = h.under_best plan (sym f ∙ e)
         at (inr (other, f, b)) =
             let s = some_is other plan (sym f ∙ e) in
-            let bound = law task.inst (list_at task.inst task.lists entry.list) (box_at g.boxes n) other fits
-            (list_in_range task.inst task.lists entry.list waiting.list.number lists) b.inside in
-            subst (λ (x : List ℕ). y ≤ℤ task.value task.inst x) s
-            (at_most_trans y z (task.value task.inst other) l
-            (subst (λ (x : ℤ). x ≤ℤ task.value task.inst other) (sym entry.worth) bound))
+            let under = law (box_at g.boxes n) other entry.list waiting.list.number
+            (g.are_boxes.boxed n entry.within) b.inside in
+            subst (λ (x : List ℕ). IsAtLeast bound (task.value task.inst x)) s
+            (at_least_more bound z (task.value task.inst other) l
+            (subst (λ (x : ℤ). x ≤ℤ task.value task.inst other) (sym entry.worth) under))
 
-    part_floor : (part : List Span) (node : Node) (j : ℕ) (y : ℤ) → y ≤ℤ z → IsPart part (box_at g.boxes n)
-        → node ≡ Cost j → IsSettled task new part node → y ≤ℤ worth_in task part j
-    part_floor part node j y l q e h = at_most_trans y z (worth_in task part j) l
-        (subst (λ (x : ℤ). x ≤ℤ worth_in task part j) (sym entry.worth)
-        (part_waits task part (box_at g.boxes n) entry.list j q waiting.list.number
+    boxes_of_parts : IsBox task.inst (below (box_at g.boxes n) i m) × IsBox task.inst (above (box_at g.boxes n) i m)
+    boxes_of_parts = parts_are_boxes task.inst (box_at g.boxes n) i m (g.are_boxes.boxed n entry.within) split
+
+    part_floor : (part : List Span) (node : Node) (j : ℕ) (bound : Bound) → IsAtLeast bound z → IsBox task.inst part
+        → IsPart part (box_at g.boxes n) → node ≡ Cost j → IsSettled task new part node
+        → IsAtLeast bound (task.worths part j)
+    part_floor part node j bound l b q e h = at_least_more bound z (task.worths part j) l
+        (subst (λ (x : ℤ). x ≤ℤ task.worths part j) (sym entry.worth)
+        (part_waits task part (box_at g.boxes n) entry.list j grow b q waiting.list.number
         (waits_at task new part node j e h)))
 
-    cost_floor : (y : ℤ) → y ≤ℤ z → IsFloor task cells g.boxes old y → (k j : ℕ)
+    cost_floor : (bound : Bound) → IsAtLeast bound z → IsFloor task cells g.boxes old bound → (k j : ℕ)
         → node_at (split_cells cells n i m left.node right.node) k ≡ Cost j → Where (length cells) n k
-        → y ≤ℤ worth_in task (box_at (split_list g.boxes n i m) k) j
-    cost_floor y l h k j e (inl q) = absurd (cost_is_no_split
+        → IsAtLeast bound (task.worths (box_at (split_list g.boxes n i m) k) j)
+    cost_floor bound l h k j e (inl q) = absurd (cost_is_no_split
         (node_at (split_cells cells n i m left.node right.node) k) i m j
         (ap (λ (t : ℕ). node_at (split_cells cells n i m left.node right.node) t) q
         ∙ ap (λ (c : Cell). c.node) (at_split cells n i m left.node right.node entry.within)) e)
-    cost_floor y l h k j e (inr (inl (s, d))) = subst (λ (b : List Span). y ≤ℤ worth_in task b j)
+    cost_floor bound l h k j e (inr (inl (s, d))) = subst (λ (b : List Span). IsAtLeast bound (task.worths b j))
         (sym (box_before g.boxes n i m k (omega (arith, s, each))))
         (h.under_costs k j s (sym (ap (λ (c : Cell). c.node)
         (at_other cells n i m left.node right.node entry.within k s d)) ∙ e))
-    cost_floor y l h k j e (inr (inr (inl q))) = subst (λ (b : List Span). y ≤ℤ worth_in task b j)
+    cost_floor bound l h k j e (inr (inr (inl q))) = subst (λ (b : List Span). IsAtLeast bound (task.worths b j))
         (sym (box_left g.boxes n i m k (each ∙ q)))
-        (part_floor (below (box_at g.boxes n) i m) left.node j y l (below_is_part (box_at g.boxes n) i m split)
+        (part_floor (below (box_at g.boxes n) i m) left.node j bound l boxes_of_parts.0
+        (below_is_part (box_at g.boxes n) i m split)
         (sym (ap (λ (c : Cell). c.node) (at_left cells n i m left.node right.node entry.within k q)) ∙ e) one.settled)
-    cost_floor y l h k j e (inr (inr (inr q))) = subst (λ (b : List Span). y ≤ℤ worth_in task b j)
+    cost_floor bound l h k j e (inr (inr (inr q))) = subst (λ (b : List Span). IsAtLeast bound (task.worths b j))
         (sym (box_right g.boxes n i m k (ap (λ (t : ℕ). t + 1) each ∙ q)))
-        (part_floor (above (box_at g.boxes n) i m) right.node j y l (above_is_part (box_at g.boxes n) i m split)
+        (part_floor (above (box_at g.boxes n) i m) right.node j bound l boxes_of_parts.1
+        (above_is_part (box_at g.boxes n) i m split)
         (sym (ap (λ (c : Cell). c.node) (at_right cells n i m left.node right.node entry.within k q)) ∙ e) two.settled)
 
-    floor_more : (y : ℤ) → y ≤ℤ z → IsFloor task cells g.boxes old y
-        → IsFloor task (split_cells cells n i m left.node right.node) (split_list g.boxes n i m) new y
-    floor_more y l h = record {
-      under_best = best_floor y l h;
-      under_costs = λ k j s e. cost_floor y l h k j e (where_is (length cells) n k
+    floor_more : (bound : Bound) → IsAtLeast bound z → IsFloor task cells g.boxes old bound
+        → IsFloor task (split_cells cells n i m left.node right.node) (split_list g.boxes n i m) new bound
+    floor_more bound l h = record {
+      under_best = best_floor bound l h;
+      under_costs = λ k j s e. cost_floor bound l h k j e (where_is (length cells) n k
           (omega (arith, s, length_split cells n i m left.node right.node entry.within)));
     }
+
+    -- what was a floor before is at most the worth of the box
+    floor_reaches : (bound : Bound) → IsFloor task cells g.boxes old bound → IsAtLeast bound z
+    floor_reaches bound h =
+        subst (IsAtLeast bound) (sym entry.worth) (h.under_costs n entry.list entry.within entry.node)
 
     no_split : (k a b : ℕ) (node : Node) → node_at (split_cells cells n i m left.node right.node) k ≡ node
         → IsLeafNode node → node_at (split_cells cells n i m left.node right.node) k ≡ Split a b → ⊥
     no_split k a b node e h f = split_is_no_leaf node a b (sym e ∙ f) h
 
-    level_at : (k a b j : ℕ) → node_at (split_cells cells n i m left.node right.node) k ≡ Split a b
-        → j ≤ length task.lists → Where (length cells) n k
+    level_at : splits_before task ≡ 0 → (k a b j : ℕ)
+        → node_at (split_cells cells n i m left.node right.node) k ≡ Split a b → j ≤ task.lists
+        → Where (length cells) n k
         → IsFloor task (split_cells cells n i m left.node right.node) (split_list g.boxes n i m) new
-        (worth_in task (box_at (split_list g.boxes n i m) k) j)
-    level_at k a b j e s (inl q) = subst
+        (Least (task.worths (box_at (split_list g.boxes n i m) k) j))
+    level_at none k a b j e s (inl q) = subst
         (λ (x : List Span). IsFloor task (split_cells cells n i m left.node right.node) (split_list g.boxes n i m) new
-        (worth_in task x j))
+        (Least (task.worths x j)))
         (sym (box_before g.boxes n i m n (omega (arith, entry.within, each)))
         ∙ ap (box_at (split_list g.boxes n i m)) (sym q))
-        (floor_more (worth_in task (box_at g.boxes n) j) (worths_at_most j s)
-        (floor_under task cells g.boxes old (worth_in task (box_at g.boxes n) j) z (worths_at_most j s) floor))
-    level_at k a b j e s (inr (inl (l, d))) =
+        (floor_more (Least (task.worths (box_at g.boxes n) j)) (worths_at_most j s)
+        (floor_under task cells g.boxes old (task.worths (box_at g.boxes n) j) z (worths_at_most j s) floor))
+    level_at none k a b j e s (inr (inl (l, d))) =
         let f = sym (ap (λ (c : Cell). c.node) (at_other cells n i m left.node right.node entry.within k l d)) ∙ e in
-        let h = g.level k a b j l f s in
+        let h = g.level none k a b j l f s in
         subst
         (λ (x : List Span). IsFloor task (split_cells cells n i m left.node right.node) (split_list g.boxes n i m) new
-        (worth_in task x j))
+        (Least (task.worths x j)))
         (sym (box_before g.boxes n i m k (omega (arith, l, each))))
-        (floor_more (worth_in task (box_at g.boxes k) j)
-        (subst (λ (y : ℤ). worth_in task (box_at g.boxes k) j ≤ℤ y) (sym entry.worth)
-        (h.under_costs n entry.list entry.within entry.node)) h)
-    level_at k a b j e s (inr (inr (inl q))) = absurd (no_split k a b left.node
+        (floor_more (Least (task.worths (box_at g.boxes k) j))
+        (floor_reaches (Least (task.worths (box_at g.boxes k) j)) h) h)
+    level_at none k a b j e s (inr (inr (inl q))) = absurd (no_split k a b left.node
         (ap (λ (c : Cell). c.node) (at_left cells n i m left.node right.node entry.within k q)) one.no_split e)
-    level_at k a b j e s (inr (inr (inr q))) = absurd (no_split k a b right.node
+    level_at none k a b j e s (inr (inr (inr q))) = absurd (no_split k a b right.node
         (ap (λ (c : Cell). c.node) (at_right cells n i m left.node right.node entry.within k q)) two.no_split e)
 
     pub grown_more : IsGrown task (split_cells cells n i m left.node right.node) after new (splits + 1)
@@ -236,13 +248,15 @@ module _ (task : Task) (cells : List Cell) (n i m : ℕ) (left right : Settled) 
           one.no_split two.no_split;
       is_shape = shape_more cells n i m left.node right.node entry.within leaf one.no_split two.no_split g.shape
           g.is_shape;
-      splits_are = forks_more cells n i m left.node right.node entry.within leaf one.no_split two.no_split g.shape
-          g.is_shape
-          ∙ ap (λ (t : ℕ). t + 1) g.splits_are;
+      splits_are =
+          let f = forks_more cells n i m left.node right.node entry.within leaf one.no_split two.no_split g.shape
+          g.is_shape in
+          omega (arith, f, g.splits_are);
       settled = λ k l. settled_at k (where_is (length cells) n k
           (omega (arith, l, length_split cells n i m left.node right.node entry.within)));
-      level = λ k a b j l e s. level_at k a b j e s (where_is (length cells) n k
+      level = λ none k a b j l e s. level_at none k a b j e s (where_is (length cells) n k
           (omega (arith, l, length_split cells n i m left.node right.node entry.within)));
+      floors = λ bound h. let f = g.floors bound h in floor_more bound (floor_reaches bound f) f;
       waits = entries_more task cells g.boxes n i m left.node right.node entry.within each z left.worth right.worth
           before rest mid after g.waits p one.worth one.small two.worth two.small pl pr;
       best_is = still_best task (box_at g.boxes n) old new improved g.best_is;

@@ -1,6 +1,6 @@
 -- The tree of a shape: its nodes, its range, its leaves and its splits.
 use Rattle.std.proofs.Common.{◌≡◌, ℕ, ◌+◌, ◌<◌, ◌⊎◌, inl, inr, refl, sym, ◌∙◌, ap, subst, arith, List, [], ◌∷◌, ◌≤◌}
-use Rattle.std.proofs.Common.{◌++◌, length, map, get_or, All, Bool, true, false, cond, eqb}
+use Rattle.std.proofs.Common.{◌++◌, length, map, All, Bool, true, false, cond, eqb}
 use Rattle.std.specs.Prelude.{Any}
 use Rattle.std.proofs.lemmas.Bool.{eqb-true, cases_lt}
 use Rattle.std.proofs.lemmas.List.{map-append, length-append, get_or_append_left, get_or-append-add}
@@ -9,7 +9,7 @@ use Rattle.instance_model.specs.Tables.{Tables}
 use Rattle.lagrange_bound.specs.declared.span.Span.{Span}
 use Rattle.certificate_tree.specs.declared.node.Node.{Node}
 use Rattle.certificate_tree.specs.declared.node.Node.TheVariants.{Split}
-use Rattle.certificate_tree.specs.Trees.{split, pre_order, below, above, IsSplit, Leaf, leaves}
+use Rattle.certificate_tree.specs.Trees.{pre_order, below, above, IsSplit, Leaf, leaves}
 use Rattle.certificate_tree.specs.Ranges.{IsLeafInRange, IsTreeInRange}
 use Rattle.branch_search.specs.declared.tree.cell.Cell.{Cell}
 use Rattle.branch_search.specs.Splits.{split_boxes}

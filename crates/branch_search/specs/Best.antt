@@ -35,3 +35,8 @@ IsBestOver value inst incumbent (Some plan) = IsNoWorse value inst incumbent pla
 abbrev pub bound_of : PlanValue → Tables → Option (List ℕ) → Bound
 bound_of value inst None = NoPlan
 bound_of value inst (Some plan) = Least (value inst plan)
+
+-- a bound is none, or at least z
+abbrev pub Reaches : Bound → ℤ → Type 0
+Reaches NoPlan z = ⊤
+Reaches (Least b) z = z ≤ℤ b

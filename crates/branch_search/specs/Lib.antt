@@ -11,6 +11,7 @@ pub mod Valued
 pub mod Entries
 pub mod CurrentBoxes
 pub mod States
+pub mod Begun
 pub mod Refuting
 pub mod Pricing
 pub mod Climbing

@@ -1,20 +1,21 @@
 -- The state of a search. Cited by private functions only: no part of any promise.
-use Rattle.std.specs.Prelude.{◌≡◌, ◌^◌, ℕ, ◌<◌, ◌≤◌, ℤ, ◌≤ℤ◌, List, length, Option, Some, None}
+use Rattle.std.specs.Prelude.{◌≡◌, ◌^◌, ℕ, ◌+◌, ◌<◌, ◌≤◌, ℤ, ◌≤ℤ◌, List, length, Option, Some, None}
 use Rattle.std.specs.Prelude.{All, Contains, cond, ◌==◌, map, is_some, IfSome, IfNone, unsigned_abs}
 use Rattle.std.specs.List.{sum_by}
 use Rattle.lagrange_bound.specs.declared.span.Span.{Span}
-use Rattle.lagrange_bound.specs.Prices.{PriceList}
 use Rattle.certificate_lines.specs.declared.line.Bound.{Bound}
 use Rattle.certificate_lines.specs.declared.line.Bound.TheVariants.{NoPlan, Least}
-use Rattle.certificate_lines.specs.declared.line.Version.TheVariants.{Two}
 use Rattle.certificate_tree.specs.declared.node.Node.TheVariants.{Split, Cost}
+use Rattle.certificate_tree.specs.Holding.{IsAtLeast}
+use Rattle.certificate_tree.specs.Validity.{IsProved}
 use Rattle.branch_search.specs.declared.best.Best.{Best}
 use Rattle.branch_search.specs.declared.tree.cell.Cell.{Cell}
 use Rattle.branch_search.specs.declared.tree.growth.Growth.{Growth}
-use Rattle.branch_search.specs.declared.tree_end.TreeEnd.{TreeEnd}
+use Rattle.branch_search.specs.declared.search_end.SearchEnd.{SearchEnd}
+use Rattle.branch_search.specs.declared.tree.counts.LeafCounts.{LeafCounts}
 use Rattle.branch_search.specs.Best.{IsBestOver}
 use Rattle.branch_search.specs.Valued.{plan_in, IsValued, IsSmallValue, IsBelow}
-use Rattle.branch_search.specs.Tasks.{Task, worth_in}
+use Rattle.branch_search.specs.Tasks.{Task, splits_before, given_claim}
 use Rattle.branch_search.specs.Growing.{node_at, box_at, AreBoxesOf}
 use Rattle.branch_search.specs.Shapes.{Shape, forks, numbers, IsShapeOf}
 use Rattle.branch_search.specs.Settled.{IsSettled}
@@ -27,7 +28,7 @@ pub record IsEntry (task : Task) (cells : List Cell) (boxes : List (List Span)) 
   pub within : entry.1 < length cells
   pub list : ℕ
   pub node : node_at cells entry.1 ≡ Cost list
-  pub worth : entry.0 ≡ worth_in task (box_at boxes entry.1) list
+  pub worth : entry.0 ≡ task.worths (box_at boxes entry.1) list
   pub small : unsigned_abs entry.0 < 10 ^ 37
 
 -- how many entries a number has
@@ -39,30 +40,33 @@ pub record AreEntries (task : Task) (cells : List Cell) (boxes : List (List Span
     (entries : List (ℤ × ℕ)) : Type 0 where
   pub sound : All (IsEntry task cells boxes) entries
   pub complete : (k j : ℕ) → k < length cells → node_at cells k ≡ Cost j
-      → Contains entries (worth_in task (box_at boxes k) j, k)
+      → Contains entries (task.worths (box_at boxes k) j, k)
   pub once : (k : ℕ) → entries_of k entries ≤ 1
 
 -- ---- worths
 
--- z is at most the value of the best plan, and at most the worth of each `cost` leaf
+-- the value of the best plan is at least a bound, and so is the worth of each `cost` leaf
 pub record IsFloor (task : Task) (cells : List Cell) (boxes : List (List Span)) (best : Option (List ℕ))
-    (z : ℤ) : Type 0 where
-  pub under_best : (plan : List ℕ) → best ≡ Some plan → z ≤ℤ task.value task.inst plan
-  pub under_costs : (k j : ℕ) → k < length cells → node_at cells k ≡ Cost j → z ≤ℤ worth_in task (box_at boxes k) j
+    (bound : Bound) : Type 0 where
+  pub under_best : (plan : List ℕ) → best ≡ Some plan → IsAtLeast bound (task.value task.inst plan)
+  pub under_costs : (k j : ℕ) → k < length cells → node_at cells k ≡ Cost j
+      → IsAtLeast bound (task.worths (box_at boxes k) j)
 
 -- ---- the state
 
--- what holds of a search after so many splits
+-- what holds of a search after so many splits of its own
 pub record IsGrown (task : Task) (cells : List Cell) (entries : List (ℤ × ℕ)) (best : Option (List ℕ))
     (splits : ℕ) : Type 0 where
   pub boxes : List (List Span)
   pub shape : Shape
   pub are_boxes : AreBoxesOf task.inst cells boxes
   pub is_shape : IsShapeOf cells shape
-  pub splits_are : forks shape ≡ splits
+  pub splits_are : forks shape ≡ splits_before task + splits
   pub settled : (k : ℕ) → k < length cells → IsSettled task best (box_at boxes k) (node_at cells k)
-  pub level : (k i m j : ℕ) → k < length cells → node_at cells k ≡ Split i m → j ≤ length task.lists
-      → IsFloor task cells boxes best (worth_in task (box_at boxes k) j)
+  pub level : splits_before task ≡ 0 → (k i m j : ℕ) → k < length cells → node_at cells k ≡ Split i m → j ≤ task.lists
+      → IsFloor task cells boxes best (Least (task.worths (box_at boxes k) j))
+  pub floors : (bound : Bound) → IsProved task.value task.inst (given_claim task bound)
+      → IsFloor task cells boxes best bound
   pub waits : AreEntries task cells boxes entries
   pub best_is : IsBestOver task.value task.inst task.incumbent best
 
@@ -99,14 +103,14 @@ bound_with None None = NoPlan
 bound_with None (Some best) = Least best.value
 
 -- an answer says what is kept
-pub record IsAnswerOf (growth : Growth) (lists : List PriceList) (answer : TreeEnd) : Type 0 where
-  pub version : answer.cert.version ≡ Two
-  pub lists_are : answer.cert.lists ≡ lists
+pub record IsAnswerOf (growth : Growth) (counts : LeafCounts) (answer : SearchEnd) : Type 0 where
   pub nodes : (shape : Shape) → IsShapeOf growth.cells.items shape
-      → answer.cert.nodes ≡ map (node_at growth.cells.items) (numbers shape)
+      → answer.nodes ≡ map (node_at growth.cells.items) (numbers shape)
   pub best : answer.best ≡ plan_in growth.best
+  pub kept : answer.kept ≡ counts.kept
+  pub changed : answer.changed ≡ counts.changed
   pub left : Option ℤ
   pub unfinished : answer.unfinished ≡ is_some left
-  pub bound : answer.cert.bound ≡ bound_with left growth.best
+  pub bound : answer.bound ≡ bound_with left growth.best
   pub some : IfSome left (IsLeftWorth growth.best growth.waiting)
   pub none : IfNone left (NoneIsLeft growth.best growth.waiting)

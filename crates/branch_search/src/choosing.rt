@@ -2,6 +2,7 @@
 mod choice;
 mod cover;
 mod cut;
+mod leading;
 mod least_plan;
 mod load_ranges;
 mod member;

@@ -1,4 +1,5 @@
-//! The search over a tree of boxes: a certificate of a bound, and the best plan that was met.
+//! The search over a tree of boxes: a bound with a tree that proves it by tables of prices, and the best plan that was
+//! met; given a price list or none, a certificate.
 //!
 //! The leaf of least worth is split, until none is left whose worth is below the value of the best plan, or the turns
 //! are spent. A box that a `band`, an `excl` or an `empty` leaf refutes is closed by it, and one that is a single plan
@@ -11,10 +12,12 @@
 mod best;
 mod choosing;
 mod closing;
+mod search_end;
 mod searching;
 mod splitting;
 mod tree;
 mod tree_end;
 
-pub use searching::search;
+pub use search_end::SearchEnd;
+pub use searching::{go_on, search, search_by};
 pub use tree_end::TreeEnd;

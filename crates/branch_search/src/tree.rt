@@ -1,12 +1,14 @@
-//! The tree of boxes under construction: its nodes, the leaves that wait, and the certificate that it becomes.
+//! The tree of boxes under construction: its nodes, the leaves that wait, and the answer that it becomes.
 mod cell;
+mod counts;
 mod finishing;
 mod growth;
 mod node_box;
 mod nodes;
 mod waiting;
 
-pub(crate) use cell::{Cell, split_cell};
+pub(crate) use cell::{Cell, set_leaf, split_cell};
+pub(crate) use counts::LeafCounts;
 pub(crate) use finishing::finish;
 pub(crate) use growth::Growth;
 pub(crate) use node_box::box_of;

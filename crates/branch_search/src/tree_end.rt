@@ -1,4 +1,4 @@
-//! What a search answers.
+//! What a search by price lists answers.
 use certificate_tree::Certificate;
 use instance_model::Starts;
 

@@ -1,4 +1,3 @@
-pub mod TableLemmas
 pub mod LeafLemmas
 pub mod FlatLemmas
 pub mod StepLemmas

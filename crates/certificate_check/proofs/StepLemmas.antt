@@ -10,9 +10,8 @@ use Rattle.lagrange_bound.specs.Boxes.{IsBox}
 use Rattle.certificate_tree.specs.declared.node.Node.{Node}
 use Rattle.certificate_tree.specs.declared.node.Node.TheVariants.{Split, Cost, Point, Band, Excl, Empty}
 use Rattle.certificate_tree.specs.Walk.{first_box, other_boxes}
-use Rattle.certificate_tree.specs.declared.certificate.Certificate.{Certificate}
 use Rattle.certificate_tree.specs.Trees.{Tree, Leaf, leaves, root_box, below, above, IsSplit}
-use Rattle.certificate_tree.specs.Ranges.{IsLeafInRange, IsTreeOf}
+use Rattle.certificate_tree.specs.Ranges.{IsLeafInRange, AreNodesOf}
 use Rattle.certificate_tree.specs.Validity.{FailsFirst}
 use Rattle.certificate_tree.proofs.RootLemmas.{parts_are_boxes, root_is_box}
 use Rattle.certificate_check.proofs.FlatLemmas.{flat_leaves, AreFlat, leaves_are, nodes_are}
@@ -179,19 +178,18 @@ flat_past [] (suc k) path h = refl
 flat_past (n ∷ ns) zero path h = absurd (omega (arith, h))
 flat_past (n ∷ ns) (suc k) path h = flat_past ns k path (omega (arith, h))
 
--- ---- the walk at its beginning
-pub start_at : (inst : Tables) (cert : Certificate) (nodes : List Node) (path : List (List Span)) (t : Tree)
-    → IsFitting inst → path ≡ root_box inst ∷ [] → nodes ≡ cert.nodes → IsTreeOf inst cert t
-    → IsAt inst (length cert.lists) nodes (flat_leaves nodes (root_box inst ∷ [])) 0 0 path
-start_at inst cert nodes path t f e s o =
+-- ---- the walk at its beginning, and all its leaves
+pub start_at : (inst : Tables) (lists : ℕ) (nodes : List Node) (path : List (List Span)) (t : Tree)
+    → IsFitting inst → path ≡ root_box inst ∷ [] → AreNodesOf inst lists (root_box inst) t nodes
+    → IsAt inst lists nodes (flat_leaves nodes (root_box inst ∷ [])) 0 0 path
+start_at inst lists nodes path t f e o =
     rw e (record {
       same = refl;
-      nodes_in_range = nodes_are inst (length cert.lists) t (root_box inst) nodes (o.order ∙ sym s) o.in_range;
+      nodes_in_range = nodes_are inst lists t (root_box inst) nodes o.order o.in_range;
       boxes = put_before (IsBox inst) (root_box inst) [] (root_is_box inst f) (λ i d l. absurd (omega (arith, l)));
       few = omega arith;
     })
 
-pub tree_leaves : (inst : Tables) (cert : Certificate) (nodes : List Node) (t : Tree) → nodes ≡ cert.nodes
-    → IsTreeOf inst cert t → flat_leaves nodes (root_box inst ∷ []) ≡ leaves (root_box inst) t
-tree_leaves inst cert nodes t s o =
-    leaves_are inst (length cert.lists) t (root_box inst) nodes (o.order ∙ sym s) o.in_range
+pub tree_leaves : (inst : Tables) (lists : ℕ) (nodes : List Node) (t : Tree)
+    → AreNodesOf inst lists (root_box inst) t nodes → flat_leaves nodes (root_box inst ∷ []) ≡ leaves (root_box inst) t
+tree_leaves inst lists nodes t o = leaves_are inst lists t (root_box inst) nodes o.order o.in_range

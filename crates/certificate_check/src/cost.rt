@@ -1,16 +1,17 @@
 //! The test of a `cost` leaf.
-ghost use Rattle.std.specs.Prelude.{◌<◌, ◌≤◌, ◌^◌, length, IsTrue, ◌↔◌, unsigned_abs};
+ghost use Rattle.std.specs.Prelude.{◌<◌, ◌^◌, length, All, IsTrue, ◌↔◌, unsigned_abs};
 ghost use Rattle.lagrange_bound.specs.Boxes.{IsBox};
+ghost use Rattle.lagrange_bound.specs.PricedTables.{IsPricedTable};
 ghost use Rattle.certificate_tree.specs.Ranges.{IsBoundInRange};
 ghost use Rattle.certificate_tree.specs.Holding.{IsAtLeast, CostHolds};
-ghost use Rattle.certificate_check.specs.Priced.{AreTables};
+ghost use Rattle.certificate_tree.specs.PriceTables.{table_worths};
 
-use certificate_tree::{Bound, Certificate, has_starts};
+use certificate_tree::{Bound, has_starts};
 use instance_model::Instance;
-use lagrange_bound::{Goal, PriceTable, Span, worth};
+use lagrange_bound::{PriceTable, Span, worth};
 
 /// Whether the bound is a number, and a worth or value is at least it.
-pub fn is_at_least(bound: Bound, z: i128) -> bool
+pub(crate) fn is_at_least(bound: Bound, z: i128) -> bool
     requires bound { IsBoundInRange bound }
     requires small { unsigned_abs z < 10 ^ 37 }
     ensures { IsTrue result ↔ IsAtLeast bound z }
@@ -21,24 +22,22 @@ pub fn is_at_least(bound: Bound, z: i128) -> bool
     }
 }
 
-/// Whether each interval has an allowed start and the worth by a price list is at least the bound. Takes no memory.
-pub(crate) fn cost_holds<G: Goal>(
-    goal: &G,
+/// Whether each interval has an allowed start and the worth by a table is at least the bound. Takes no memory.
+pub(crate) fn cost_holds(
     inst: &Instance,
-    cert: &Certificate,
+    bound: Bound,
     tables: &[PriceTable],
     spans: &[Span],
     list: u32,
 ) -> bool
-    requires bound { IsBoundInRange cert.now.bound }
-    requires tables { AreTables (G.base_gives goal.now) inst.now cert.now.lists tables.now }
+    requires bound { IsBoundInRange bound }
+    requires priced { All (IsPricedTable inst.now) tables.now }
     requires spans { IsBox inst.now spans.now }
-    requires list { list ≤ length cert.now.lists }
-    ensures { IsTrue result ↔ CostHolds (G.base_gives goal.now) inst.now cert.now.bound cert.now.lists spans.now list }
+    requires list { list < length tables.now }
+    ensures { IsTrue result ↔ CostHolds inst.now bound (table_worths tables.now) spans.now list }
 {
-    let _goal = goal;
     if !has_starts(inst, spans) {
         return false;
     }
-    is_at_least(cert.bound, worth(&tables[list as usize], spans))
+    is_at_least(bound, worth(&tables[list as usize], spans))
 }

@@ -36,7 +36,7 @@ pub fn starts_of(alloc: Global, spans: &[Span]) -> Result<Vec<u32>, AllocError>
 
 /// Whether each interval is a single start, and the plan of these starts isn't feasible or has a value of at least the
 /// bound. Asks for the value only where the plan is feasible and the bound is a number.
-pub fn point_holds<G: Goal>(
+pub(crate) fn point_holds<G: Goal>(
     alloc: Global,
     goal: &G,
     inst: &Instance,

@@ -6,6 +6,7 @@ ghost use Rattle.lagrange_bound.specs.Changes.{IsBandPlace};
 ghost use Rattle.certificate_text.specs.Text.{text_of_lines, limit_lines, tail_lines, ex_line, entry_lines};
 ghost use Rattle.certificate_text.specs.Steps.{limit_table, limit_form, limit_of, price_lines, row_lines};
 
+use crate::limits::limit_price;
 use crate::put::{limit_line, line_of_ex, put_line};
 use certificate_lines::{Side, write_tail};
 use instance_model::Instance;
@@ -83,17 +84,6 @@ fn write_limit<D: Desk>(
         return Ok(());
     }
     put_line(limit_line(side, c, t, v), desk)
-}
-
-fn limit_price(inst: &Instance, prices: &Prices, side: Side, c: u32, t: u32) -> u32
-    requires in_range { IsPriceList inst.now prices.now }
-    requires place { IsBandPlace inst.now c t }
-    ensures { result ≡ limit_of inst.now side prices.now c t }
-{
-    match side {
-        Side::Over => prices.up(inst, c, t),
-        Side::Under => prices.lo(inst, c, t),
-    }
 }
 
 fn write_tails<D: Desk>(inst: &Instance, prices: &Prices, desk: &mut D) -> Result<(), Failed>

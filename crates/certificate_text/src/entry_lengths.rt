@@ -8,6 +8,7 @@ ghost use Rattle.certificate_text.specs.Text.{line_text, text_of_lines, limit_li
 ghost use Rattle.certificate_text.specs.Steps.{limit_table, limit_form, limit_of, price_lines, row_lines};
 ghost use Rattle.certificate_text.specs.Lengths.{counted_length};
 
+use crate::limits::limit_price;
 use crate::line_lengths::{ex_length, limit_length, word_length};
 use certificate_tree::Side;
 use instance_model::Instance;
@@ -58,22 +59,11 @@ fn price_length(inst: &Instance, prices: &Prices, side: Side, c: u32, t: u32) ->
     ensures { result ≡ counted_length
         (text_of_lines (price_lines side (c + 1) t (limit_of inst.now side prices.now c t))) }
 {
-    let v = price_at(inst, prices, side, c, t);
+    let v = limit_price(inst, prices, side, c, t);
     if v == 0 {
         return 0;
     }
     limit_length(side, u64::from(c) + 1, u64::from(t), u64::from(v))
-}
-
-fn price_at(inst: &Instance, prices: &Prices, side: Side, c: u32, t: u32) -> u32
-    requires in_range { IsPriceList inst.now prices.now }
-    requires place { IsBandPlace inst.now c t }
-    ensures { result ≡ limit_of inst.now side prices.now c t }
-{
-    match side {
-        Side::Over => prices.up(inst, c, t),
-        Side::Under => prices.lo(inst, c, t),
-    }
 }
 
 /// All tails.

@@ -11,6 +11,7 @@ mod entries;
 mod entry_lengths;
 mod laws;
 mod lengths;
+mod limits;
 mod line_lengths;
 mod put;
 mod write;

@@ -1,15 +1,16 @@
--- Starts in a box, against its parts and the leaves of a tree over it.
-use Rattle.std.proofs.Common.{◌≡◌, ℕ, ◌+◌, ◌<◌, ◌≤◌, ◌⊎◌, inl, inr, refl, sym, ◌∙◌, arith, List, ◌++◌, length, get_or}
-use Rattle.std.proofs.Common.{set, length-append, length-set}
+-- The leaves of a tree: each stands over a box, and starts in the box of the tree lie in that of a leaf.
+use Rattle.std.proofs.Common.{◌≡◌, ℕ, ◌+◌, ◌<◌, ◌≤◌, ◌⊎◌, inl, inr, refl, sym, ◌∙◌, arith, List, [], ◌++◌, length}
+use Rattle.std.proofs.Common.{get_or, set, length-append, length-set, All}
 use Rattle.std.specs.List.{Any}
 use Rattle.std.proofs.lemmas.List.{get_or_append_left, get_or-append-add}
+use Rattle.std.proofs.lemmas.List.Elements.{All-nil, All-cons, All-append}
 use Rattle.instance_model.specs.Tables.{Tables, tmax}
 use Rattle.lagrange_bound.specs.declared.span.Span.{Span}
-use Rattle.lagrange_bound.specs.Boxes.{span_of}
+use Rattle.lagrange_bound.specs.Boxes.{span_of, IsBox}
 use Rattle.certificate_tree.specs.Trees.{Leaf, Tree, leaf, split, leaves, root_box, below, above, IsSplit, AreStartsIn}
-use Rattle.certificate_tree.specs.Ranges.{IsTreeInRange}
+use Rattle.certificate_tree.specs.Ranges.{IsLeafInRange, IsTreeInRange}
 use Rattle.certificate_tree.specs.Laws.{EmptyLeavesNoPlan}
-use Rattle.certificate_tree.proofs.RootLemmas.{root_at, length-root, changed_at, le_or_lt}
+use Rattle.certificate_tree.proofs.RootLemmas.{root_at, length-root, changed_at, parts_are_boxes, le_or_lt}
 use Rattle.certificate_tree.proofs.Refuting.{start_in}
 
 -- ---- one interval is changed to another with the start in it
@@ -35,6 +36,22 @@ parts_hold_starts box i m starts s p = at (le_or_lt (get_or starts i 0) m)
     at (inr q) =
         let part : Span = record { from = m + 1; to = (span_of box i).to } in
         inr (starts_kept box starts i part p s.number (omega (arith, q)) (p.to i s.number))
+
+-- ---- each leaf of a tree in range is one in range over a box of the instance
+pub record IsLeafOver (inst : Tables) (lists : ℕ) (x : Leaf) : Type 0 where
+  pub is_box : IsBox inst x.box
+  pub in_range : IsLeafInRange inst lists x.node
+
+pub leaves_in_range : (inst : Tables) (lists : ℕ) (box : List Span) (t : Tree) → IsBox inst box
+    → IsTreeInRange inst lists box t → All (IsLeafOver inst lists) (leaves box t)
+leaves_in_range inst lists box (leaf n) b r =
+    All-cons (IsLeafOver inst lists) (record { box = box; node = n }) [] (record { is_box = b; in_range = r })
+    (All-nil (IsLeafOver inst lists))
+leaves_in_range inst lists box (split i m l x) b r =
+    let parts = parts_are_boxes inst box i m b r.0 in
+    All-append (IsLeafOver inst lists) (leaves (below box i m) l) (leaves (above box i m) x)
+    (leaves_in_range inst lists (below box i m) l parts.0 r.1)
+    (leaves_in_range inst lists (above box i m) x parts.1 r.2)
 
 -- ---- some member of two lists
 any_front : (P : Leaf → Type 0) (xs ys : List Leaf) → Any P xs → Any P (xs ++ ys)

@@ -5,5 +5,8 @@ pub mod StartLemmas
 pub mod LoadLemmas
 pub mod MeetingLemmas
 pub mod Refuting
-pub mod Soundness
 pub mod LeafLemmas
+pub mod Soundness
+pub mod SameWorths
+pub mod TableLemmas
+pub mod GreatestLemmas

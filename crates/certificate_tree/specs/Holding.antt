@@ -33,11 +33,24 @@ unfoldable pub list_at : Tables → List PriceList → ℕ → PriceList
 list_at inst lists zero = zero_list inst
 list_at inst lists (suc j) = slice_index_or lists j (zero_list inst)
 
+-- the worth of a box by the number of a price list
+abbrev pub Worths : Type 0
+Worths = List Span → ℕ → ℤ
+
+-- that by the lists of a certificate
+abbrev pub worth_by : Bases → Tables → List PriceList → Worths
+worth_by base inst lists box j = worth_of (base inst (list_at inst lists j)) inst (list_at inst lists j) box
+
+-- of the numbers 0 to n, j has the greatest worth, and is the least of those that have it
+pub record IsGreatest (worths : ℕ → ℤ) (n j : ℕ) : Type 0 where
+  pub number : j ≤ n
+  pub greatest : (k : ℕ) → k ≤ n → worths k ≤ℤ worths j
+  pub least : (k : ℕ) → k < j → worths k <ℤ worths j
+
 -- each interval has an allowed start, and the worth by list j is at least the bound
-pub record CostHolds (base : Bases) (inst : Tables) (bound : Bound) (lists : List PriceList)
-    (box : List Span) (j : ℕ) : Type 0 where
+pub record CostHolds (inst : Tables) (bound : Bound) (worths : Worths) (box : List Span) (j : ℕ) : Type 0 where
   pub starts : HasStarts inst box
-  pub worth : IsAtLeast bound (worth_of (base inst (list_at inst lists j)) inst (list_at inst lists j) box)
+  pub worth : IsAtLeast bound (worths box j)
 
 -- ---- point
 
@@ -91,11 +104,11 @@ EmptyHolds inst box i = (s : ℕ) → ¬ IsStartIn inst box i s
 
 -- ---- all leaves
 
--- a leaf holds on its box, for a goal's bases and values
-abbrev pub LeafHolds : Bases → PlanValue → Tables → Bound → List PriceList → List Span → Node → Type 0
-LeafHolds base value inst bound lists box (Split i m) = ⊥
-LeafHolds base value inst bound lists box (Cost j) = CostHolds base inst bound lists box j
-LeafHolds base value inst bound lists box Point = PointHolds value inst bound box
-LeafHolds base value inst bound lists box (Band c t side) = BandHolds inst box c t side
-LeafHolds base value inst bound lists box (Excl e) = ExclHolds inst box e
-LeafHolds base value inst bound lists box (Empty i) = EmptyHolds inst box i
+-- a leaf holds on its box, for a goal's values and the worths of boxes
+abbrev pub LeafHolds : PlanValue → Tables → Bound → Worths → List Span → Node → Type 0
+LeafHolds value inst bound worths box (Split i m) = ⊥
+LeafHolds value inst bound worths box (Cost j) = CostHolds inst bound worths box j
+LeafHolds value inst bound worths box Point = PointHolds value inst bound box
+LeafHolds value inst bound worths box (Band c t side) = BandHolds inst box c t side
+LeafHolds value inst bound worths box (Excl e) = ExclHolds inst box e
+LeafHolds value inst bound worths box (Empty i) = EmptyHolds inst box i

@@ -1,22 +1,53 @@
 -- Laws of trees and certificates.
-use Rattle.std.specs.Prelude.{◌≡◌, ℕ, ◌<◌, ◌≤◌, ◌⊎◌, List, length, slice_index, Any}
+use Rattle.std.specs.Prelude.{◌≡◌, ℕ, ◌-◌, ◌<◌, ◌≤◌, ◌⊎◌, List, length, slice_index, All, Any}
 use Rattle.instance_model.specs.Tables.{Tables, tmax}
 use Rattle.instance_model.specs.Fitting.{IsFitting}
 use Rattle.lagrange_bound.specs.declared.span.Span.{Span}
+use Rattle.lagrange_bound.specs.Prices.{PriceList, IsPriceList}
 use Rattle.lagrange_bound.specs.Goals.{Bases, PlanValue}
+use Rattle.lagrange_bound.specs.Tabulated.{PriceRows}
 use Rattle.lagrange_bound.specs.Boxes.{IsBox, IsPlanIn}
 use Rattle.certificate_tree.specs.declared.node.Node.{Node}
 use Rattle.certificate_tree.specs.declared.certificate.Certificate.{Certificate}
 use Rattle.certificate_lines.specs.declared.line.Side.{Side}
 use Rattle.certificate_tree.specs.Trees.{Tree, leaves, root_box, below, above, IsSplit, AreStartsIn}
-use Rattle.certificate_tree.specs.Holding.{BandHolds, ExclHolds, EmptyHolds}
+use Rattle.certificate_tree.specs.Holding.{Worths, worth_by, BandHolds, ExclHolds, EmptyHolds}
 use Rattle.certificate_tree.specs.Ranges.{AreNodesOf, IsTreeInRange, IsInRange}
-use Rattle.certificate_tree.specs.Validity.{IsValid, BoundsPlans}
+use Rattle.certificate_tree.specs.Validity.{Claim, IsProved, IsFirstUnproved, IsValid, BoundBoxes, AreSameWorths}
+use Rattle.certificate_tree.specs.Validity.{BoundsPlans}
+use Rattle.certificate_tree.specs.PriceTables.{table_worths, AreTablesOf}
 
 -- a valid certificate in range bounds every feasible plan
 abbrev pub ValidBoundsPlans : Bases → PlanValue → Type 0
 ValidBoundsPlans base value = (inst : Tables) (cert : Certificate) → IsFitting inst → IsInRange inst cert
     → IsValid base value inst cert → BoundsPlans value inst cert.bound
+
+-- a proved claim bounds every feasible plan, where its worths bound the plans of boxes
+abbrev pub ProvedBoundsPlans : Type 0
+ProvedBoundsPlans =
+    (value : PlanValue) (inst : Tables) (claim : Claim) → IsFitting inst
+    → BoundBoxes value inst claim.lists claim.worths → IsProved value inst claim → BoundsPlans value inst claim.bound
+
+-- no feasible plan in a box has a value below a worth of the box by price lists in range
+abbrev pub ListsBoundBoxes : Bases → PlanValue → Type 0
+ListsBoundBoxes base value =
+    (inst : Tables) (lists : List PriceList) → IsFitting inst → All (IsPriceList inst) lists
+    → BoundBoxes value inst (length lists) (worth_by base inst lists)
+
+-- nor by tables that give such worths
+abbrev pub TablesBoundBoxes : Type 0
+TablesBoundBoxes =
+    (value : PlanValue) (inst : Tables) (lists : ℕ) (worths : Worths) (tables : List PriceRows)
+    → AreTablesOf inst lists worths tables → BoundBoxes value inst lists worths
+    → BoundBoxes value inst (length tables - 1) (table_worths tables)
+
+-- what is proved by some worths is proved by the same ones, and so is which leaf is the first that doesn't hold
+abbrev pub SameWorthsProveTheSame : Type 0
+SameWorthsProveTheSame =
+    (value : PlanValue) (inst : Tables) (claim : Claim) (worths : Worths) → IsFitting inst
+    → AreSameWorths inst claim.lists claim.worths worths
+    → (IsProved value inst claim → IsProved value inst (record claim { worths = worths }))
+    × ((n : ℕ) → IsFirstUnproved value inst claim n → IsFirstUnproved value inst (record claim { worths = worths }) n)
 
 -- each plan of a box lies in one of the two parts of its split
 abbrev pub PartsHoldPlans : Type 0

@@ -6,5 +6,6 @@ pub mod Meetings
 pub mod Ranges
 pub mod Holding
 pub mod Validity
+pub mod PriceTables
 pub mod Laws
 pub mod Walk

@@ -1,7 +1,8 @@
 //! Laws of trees and certificates. The functions do nothing: the contract is the law.
 ghost use Rattle.certificate_tree.specs.Laws.{PartsHoldPlans, PartsHoldStarts, PartsAreBoxes, NodesAreOneTree};
 ghost use Rattle.certificate_tree.specs.Laws.{LeavesHoldStarts, RootHoldsStarts, BandLeavesNoPlan, ExclLeavesNoPlan};
-ghost use Rattle.certificate_tree.specs.Laws.{EmptyLeavesNoPlan, ValidBoundsPlans};
+ghost use Rattle.certificate_tree.specs.Laws.{EmptyLeavesNoPlan, ValidBoundsPlans, ProvedBoundsPlans, ListsBoundBoxes};
+ghost use Rattle.certificate_tree.specs.Laws.{TablesBoundBoxes, SameWorthsProveTheSame};
 
 use lagrange_bound::{Goal, worth_bounds_plans};
 
@@ -46,3 +47,25 @@ pub fn valid_bounds_plans<G: Goal>(goal: &G)
 {
     worth_bounds_plans(goal);
 }
+
+/// A proved claim bounds every feasible plan, where no feasible plan in a box has a value below a worth of the box.
+pub fn proved_bounds_plans()
+    ensures { ProvedBoundsPlans }
+{}
+
+/// No feasible plan in a box has a value below a worth of the box by price lists in range, whatever the goal is.
+pub fn lists_bound_boxes<G: Goal>(goal: &G)
+    ensures { ListsBoundBoxes (G.base_gives goal.now) (G.value_gives goal.now) }
+{
+    worth_bounds_plans(goal);
+}
+
+/// Nor by tables that give such worths.
+pub fn tables_bound_boxes()
+    ensures { TablesBoundBoxes }
+{}
+
+/// What is proved by some worths is proved by the same ones, and so is which leaf is the first that doesn't hold.
+pub fn same_worths_prove_the_same()
+    ensures { SameWorthsProveTheSame }
+{}

@@ -9,9 +9,11 @@ mod band;
 mod box_path;
 mod certificate;
 mod excl;
+mod greatest;
 mod laws;
 mod node;
 mod price_lists;
+mod price_tables;
 mod starts;
 
 pub use band::band_holds;
@@ -19,10 +21,13 @@ pub use box_path::BoxPath;
 pub use certificate::Certificate;
 pub use certificate_lines::{Bound, Side, Version};
 pub use excl::excl_holds;
+pub use greatest::greatest_worth;
 pub use laws::{
-    leaves_hold_starts, leaves_refute_plans, nodes_are_one_tree, parts_are_boxes, parts_hold_plans,
-    parts_hold_starts, valid_bounds_plans,
+    leaves_hold_starts, leaves_refute_plans, lists_bound_boxes, nodes_are_one_tree,
+    parts_are_boxes, parts_hold_plans, parts_hold_starts, proved_bounds_plans,
+    same_worths_prove_the_same, tables_bound_boxes, valid_bounds_plans,
 };
 pub use node::{Node, Nodes};
 pub use price_lists::PriceLists;
+pub use price_tables::tables_of;
 pub use starts::{has_start, has_starts};

@@ -4,6 +4,7 @@ use Rattle.instance_model.specs.Limits.{standard_limits}
 use Rattle.instance_model.specs.Tables.{Tables}
 use Rattle.instance_model.specs.Fitting.{IsFitting}
 use Rattle.certificate_tree.specs.declared.certificate.Certificate.{Certificate}
+use Rattle.certificate_tree.specs.Validity.{claim_of}
 use Rattle.certificate_tree.specs.Laws.{ValidBoundsPlans, NodesAreOneTree}
 use Rattle.certificate_check.specs.declared.verdict.CertVerdict.TheVariants.{Valid, LeafFails}
 use Rattle.certificate_check.proofs.VerdictLemmas.{one_verdict}
@@ -14,14 +15,15 @@ use Rattle.command_frame.specs.Files.OnFile.{stands}
 use Rattle.command_answers.specs.Audit.{FailsFirstFor, IsAudited}
 use Rattle.command_answers.specs.Audit.Audits.{accepted}
 use Rattle.command_answers.proofs.BoundLemmas.{bounds_every_repair}
-use Rattle.command_answers.proofs.TextLemmas.{spells}
+use Rattle.command_frame.proofs.TextLemmas.{spells}
 use Rattle.command_answers.specs.Accepting.{IsShortValidFor, ShortValidIsAuditable}
 
 module _ (inst : Tables) (fit : IsFitting inst) (old : List (Option ℕ)) (cert : Certificate)
     (good : IsShortValidFor inst old cert) where
   none_fails : NodesAreOneTree → (n : ℕ) → FailsFirstFor inst old cert n → ⊥
   none_fails law n first =
-      never (one_verdict law (change_base old) (change_value old) inst cert Valid (LeafFails n) good.valid first)
+      never (one_verdict law (change_value old) inst (claim_of (change_base old) inst cert) Valid (LeafFails n)
+      good.valid first)
     where
       never : LeafFails n ≡ Valid → ⊥
       never e = cc

@@ -15,12 +15,11 @@ use Rattle.instance_model.proofs.RuleLemmas.{first_start_rule-none, IsFeasible-f
 use Rattle.lagrange_bound.specs.Goals.{risk_value}
 use Rattle.certificate_lines.specs.declared.line.Bound.{Bound}
 use Rattle.certificate_lines.specs.declared.line.Bound.TheVariants.{Least}
-use Rattle.certificate_tree.specs.declared.certificate.Certificate.{Certificate}
 use Rattle.certificate_tree.specs.Holding.{IsAtLeast}
-use Rattle.certificate_tree.specs.Validity.{BoundsPlans}
+use Rattle.certificate_tree.specs.Validity.{Claim, BoundsPlans}
 use Rattle.plan_changes.specs.Changes.{changes_of, change_value, BoundsCountChanges}
 use Rattle.command_frame.proofs.OpeningLemmas.{opening_from}
-use Rattle.command_answers.specs.Check.{IsKeptPlan, BoundsEveryPlan, exact_cost, IsBest, IsAccepted}
+use Rattle.command_answers.specs.Check.{IsKeptPlan, BoundsEveryPlan, exact_cost, IsBest, IsAcceptedClaim}
 use Rattle.command_answers.specs.Audit.{BoundsEveryRepair}
 
 -- ---- scores
@@ -45,9 +44,9 @@ bounds_every inst bound bounds =
 at_least : (a b c : ℤ) → a -ℤ b ≡ pos 0 → b ≤ℤ c → a ≤ℤ c
 at_least a b c e h = omega (arith, signed_arith, e, h)
 
-pub best_plan : (inst : Tables) (given : Option (List (Option ℕ))) (cert : Certificate) (plan : List (Option ℕ)) (b : ℤ)
-    → IsAccepted inst given cert → cert.bound ≡ Least b → score_of inst plan -ℤ b ≡ pos 0 → IsBest inst plan
-best_plan inst given cert plan b all is zero =
+pub best_plan : (inst : Tables) (given : Option (List (Option ℕ))) (claim : Claim) (plan : List (Option ℕ)) (b : ℤ)
+    → IsAcceptedClaim inst given claim → claim.bound ≡ Least b → score_of inst plan -ℤ b ≡ pos 0 → IsBest inst plan
+best_plan inst given claim plan b all is zero =
     record {
       score = λ other kept. at_least (score_of inst plan) b (score_of inst other) zero
           (all.bounds.least b is other kept);

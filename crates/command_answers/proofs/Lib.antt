@@ -1,5 +1,4 @@
 -- Why valid certificates are accepted.
 pub mod BoundLemmas
-pub mod TextLemmas
 pub mod AcceptLemmas
 pub mod AuditableLemmas

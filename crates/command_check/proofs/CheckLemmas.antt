@@ -13,17 +13,16 @@ use Rattle.instance_model.proofs.FirstLemmas.{or_else-none}
 use Rattle.instance_model.proofs.PlanLemmas.{RunsAreAllowed-from_none}
 use Rattle.plan_score.specs.Values.{values_of}
 use Rattle.plan_score.specs.declared.values.Values.{Values}
-use Rattle.lagrange_bound.specs.Goals.{risk_base, risk_value}
-use Rattle.certificate_tree.specs.declared.certificate.Certificate.{Certificate}
-use Rattle.certificate_tree.specs.Validity.{IsValid, IsFirstFailing, BoundsPlans}
+use Rattle.lagrange_bound.specs.Goals.{risk_value}
+use Rattle.certificate_tree.specs.Validity.{Claim, IsProved, IsFirstUnproved, BoundsPlans}
 use Rattle.certificate_check.specs.declared.verdict.CertVerdict.{CertVerdict}
 use Rattle.certificate_check.specs.declared.verdict.CertVerdict.TheVariants.{Valid, LeafFails}
-use Rattle.certificate_check.specs.Verdicts.{IsVerdict}
+use Rattle.certificate_check.specs.Verdicts.{IsVerdictOn}
 use Rattle.command_frame.specs.Lines.{failing_leaf_line}
 use Rattle.command_frame.specs.Reports.{infeasible_report, accepted_text, NamesOf}
 use Rattle.command_frame.specs.Ending.{reply}
-use Rattle.command_answers.specs.Check.{IsBroken, Checks}
-use Rattle.command_answers.specs.Check.Checks.{broken_plan, failing_leaf, accepted}
+use Rattle.command_answers.specs.Check.{IsBroken, ChecksClaim}
+use Rattle.command_answers.specs.Check.ChecksClaim.{broken_plan, failing_leaf, accepted}
 use Rattle.command_check.specs.declared.check.Given.{Given}
 use Rattle.command_check.specs.declared.check.Given.TheVariants.{Kept, Broken}
 use Rattle.command_check.specs.Standing.{StandsAs, ChecksFor}
@@ -70,18 +69,19 @@ pub broken_names : (inst : Tables) (given : Option (List (Option ℕ))) (g : Giv
 broken_names inst given g rule stands is =
     let b : IsBroken inst given rule = subst (StandsAs inst given) is stands in rule_names inst b.plan rule b.first
 
-pub broken_checks : (inst : Tables) (given : Option (List (Option ℕ))) (cert : Certificate) (g : Given)
+pub broken_checks : (inst : Tables) (given : Option (List (Option ℕ))) (claim : Claim) (g : Given)
     (rule : Rule) (text : List ℕ)
     → StandsAs inst given g → g ≡ Broken rule → text ≡ infeasible_report inst rule
-    → Checks inst given cert (reply 1 text)
-broken_checks inst given cert g rule text stands is report =
+    → ChecksClaim inst given claim (reply 1 text)
+broken_checks inst given claim g rule text stands is report =
     let b : IsBroken inst given rule = subst (StandsAs inst given) is stands in subst
-    (λ (t : List ℕ). Checks inst given cert (reply 1 t)) (sym report) (broken_plan rule b)
+    (λ (t : List ℕ). ChecksClaim inst given claim (reply 1 t)) (sym report) (broken_plan rule b)
 
-pub kept_checks : (inst : Tables) (given : Option (List (Option ℕ))) (cert : Certificate) (g : Given)
+pub kept_checks : (inst : Tables) (given : Option (List (Option ℕ))) (claim : Claim) (g : Given)
     (score : Option ℤ) (s : ℕ) (t : List ℕ)
-    → StandsAs inst given g → g ≡ Kept score → ChecksFor inst score cert s t → Checks inst given cert (reply s t)
-kept_checks inst given cert g score s t stands is checks =
+    → StandsAs inst given g → g ≡ Kept score → ChecksFor inst score claim s t
+    → ChecksClaim inst given claim (reply s t)
+kept_checks inst given claim g score s t stands is checks =
     let k : StandsAs inst given (Kept score) = subst (StandsAs inst given) is stands in checks given k.0 k.1
 
 pub kept_small : (inst : Tables) (given : Option (List (Option ℕ))) (g : Given) (score : Option ℤ)
@@ -91,11 +91,11 @@ kept_small inst given g score stands is =
 
 -- ---- what is answered on a certificate
 
--- the checker's verdict on a certificate
-pub record Verdict (inst : Tables) (cert : Certificate) (verdict : CertVerdict) : Type 0 where
-  pub right : IsVerdict risk_base risk_value inst cert verdict
-  pub only : (other : CertVerdict) → IsVerdict risk_base risk_value inst cert other → other ≡ verdict
-  pub bounds : verdict ≡ Valid → BoundsPlans risk_value inst cert.bound
+-- the checker's verdict on what a certificate claims
+pub record Verdict (inst : Tables) (claim : Claim) (verdict : CertVerdict) : Type 0 where
+  pub right : IsVerdictOn risk_value inst claim verdict
+  pub only : (other : CertVerdict) → IsVerdictOn risk_value inst claim other → other ≡ verdict
+  pub bounds : verdict ≡ Valid → BoundsPlans risk_value inst claim.bound
 
 not_valid : (n : ℕ) → Valid ≡ LeafFails n → ⊥
 not_valid n e = cc
@@ -103,28 +103,29 @@ not_valid n e = cc
 same_leaf : (n m : ℕ) → LeafFails m ≡ LeafFails n → m ≡ n
 same_leaf n m e = cc
 
-pub valid_checks : (inst : Tables) (score : Option ℤ) (cert : Certificate) (verdict : CertVerdict) (text : List ℕ)
-    → verdict ≡ Valid → Verdict inst cert verdict → CostIsJustAboveScore inst
-    → text ≡ accepted_text inst cert.bound score
-    → ChecksFor inst score cert 0 text
-valid_checks inst score cert verdict text is v costs report given keeps same =
-    let right : IsValid risk_base risk_value inst cert = subst (IsVerdict risk_base risk_value inst cert) is v.right in
-    subst (λ (t : List ℕ). Checks inst given cert (reply 0 t)) (sym (report ∙ ap (accepted_text inst cert.bound) same))
+pub valid_checks : (inst : Tables) (score : Option ℤ) (claim : Claim) (verdict : CertVerdict) (text : List ℕ)
+    → verdict ≡ Valid → Verdict inst claim verdict → CostIsJustAboveScore inst
+    → text ≡ accepted_text inst claim.bound score
+    → ChecksFor inst score claim 0 text
+valid_checks inst score claim verdict text is v costs report given keeps same =
+    let right : IsProved risk_value inst claim = subst (IsVerdictOn risk_value inst claim) is v.right in
+    subst (λ (t : List ℕ). ChecksClaim inst given claim (reply 0 t))
+    (sym (report ∙ ap (accepted_text inst claim.bound) same))
     (accepted (record {
       valid = right;
       holds = λ n first. not_valid n (sym (v.only (LeafFails n) first ∙ is));
-      bounds = bounds_every inst cert.bound (v.bounds is);
+      bounds = bounds_every inst claim.bound (v.bounds is);
       costs = costs;
       keeps = keeps;
     }))
 
-pub leaf_checks : (inst : Tables) (score : Option ℤ) (cert : Certificate) (verdict : CertVerdict)
+pub leaf_checks : (inst : Tables) (score : Option ℤ) (claim : Claim) (verdict : CertVerdict)
     (n : ℕ) (text : List ℕ)
-    → verdict ≡ LeafFails n → Verdict inst cert verdict → text ≡ failing_leaf_line n → ChecksFor inst score cert 5 text
-leaf_checks inst score cert verdict n text is v report given keeps same =
-    let right : IsFirstFailing risk_base risk_value inst cert n = subst
-    (IsVerdict risk_base risk_value inst cert) is v.right in
-    subst (λ (t : List ℕ). Checks inst given cert (reply 5 t)) (sym report)
+    → verdict ≡ LeafFails n → Verdict inst claim verdict → text ≡ failing_leaf_line n
+    → ChecksFor inst score claim 5 text
+leaf_checks inst score claim verdict n text is v report given keeps same =
+    let right : IsFirstUnproved risk_value inst claim n = subst (IsVerdictOn risk_value inst claim) is v.right in
+    subst (λ (t : List ℕ). ChecksClaim inst given claim (reply 5 t)) (sym report)
     (failing_leaf n (record {
       first = right;
       only = λ m first. same_leaf n m (v.only (LeafFails m) first ∙ is);

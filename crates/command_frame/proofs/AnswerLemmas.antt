@@ -7,17 +7,16 @@ use Rattle.instance_model.specs.declared.limits.Limits.{Limits}
 use Rattle.instance_model.specs.Tables.{Tables}
 use Rattle.instance_model.specs.declared.rule.Rule.{Rule}
 use Rattle.instance_shape.proofs.OneAnswer.{one_answer}
-use Rattle.certificate_tree.specs.declared.certificate.Certificate.{Certificate}
 use Rattle.command_frame.specs.Lines.{instance_fault_line, plan_fault_line, script_fault_line, certificate_fault_line}
 use Rattle.command_frame.specs.Ending.{Answer, reply, IsOneAnswer}
 use Rattle.command_frame.specs.Bytes.{Takes, TakesOne, IsRefusedInstance, RefusesInstance, Spells, IsRefusedPlan}
-use Rattle.command_frame.specs.Bytes.{RefusesPlan, SpellsScript, IsRefusedScript, RefusesScript, SpellsCertificate}
-use Rattle.command_frame.specs.Bytes.{SpellsOne, IsRefusedCertificate, RefusesCertificate}
+use Rattle.command_frame.specs.Bytes.{RefusesPlan, SpellsScript, IsRefusedScript, RefusesScript, CertificateTexts}
+use Rattle.command_frame.specs.Bytes.{SpellsCertificateBy, SpellsOneBy, IsRefusedCertificateBy, RefusesCertificateBy}
 use Rattle.command_frame.specs.Bytes.RefusesInstance.{long_instance, faulty_instance}
 use Rattle.command_frame.specs.Bytes.RefusesPlan.{long_plan, faulty_plan}
 use Rattle.command_frame.specs.Bytes.RefusesScript.{long_script, faulty_script}
-use Rattle.command_frame.specs.Bytes.RefusesCertificate.{long_certificate, faulty_certificate}
-use Rattle.command_frame.specs.Files.{by_bytes, OnInstance, OnPlan, OnScript, OnGiven, OnCertificate}
+use Rattle.command_frame.specs.Bytes.RefusesCertificateBy.{long_certificate, faulty_certificate}
+use Rattle.command_frame.specs.Files.{by_bytes, OnInstance, OnPlan, OnScript, OnGiven, OnCertificateBy}
 use Rattle.command_frame.proofs.FileLemmas.{one_of_file}
 
 -- ---- the bytes of an instance file
@@ -149,40 +148,43 @@ script_once limits inst word bytes Next next =
 
 -- ---- the bytes of a certificate file
 
-pub certificate_status : (limits : Limits) (inst : Tables) (bytes : List ℕ) (a : Answer)
-    → RefusesCertificate limits inst bytes a → a.status ≡ 5
+pub certificate_status : {C : Type 0} {texts : CertificateTexts C} (limits : Limits) (inst : Tables) (bytes : List ℕ)
+    (a : Answer)
+    → RefusesCertificateBy texts limits inst bytes a → a.status ≡ 5
 certificate_status limits inst bytes a (long_certificate l) = refl
 certificate_status limits inst bytes a (faulty_certificate fault has) = refl
 
-certificate_refused_once : (limits : Limits) (inst : Tables) (bytes : List ℕ)
-    → IsOneAnswer (RefusesCertificate limits inst bytes)
-certificate_refused_once limits inst bytes a b (long_certificate l) (long_certificate m) = refl
-certificate_refused_once limits inst bytes a b (long_certificate l) (faulty_certificate g h) =
+certificate_refused_once : {C : Type 0} (texts : CertificateTexts C) (limits : Limits) (inst : Tables) (bytes : List ℕ)
+    → IsOneAnswer (RefusesCertificateBy texts limits inst bytes)
+certificate_refused_once texts limits inst bytes a b (long_certificate l) (long_certificate m) = refl
+certificate_refused_once texts limits inst bytes a b (long_certificate l) (faulty_certificate g h) =
     absurd (omega (arith, h.has.within, l))
-certificate_refused_once limits inst bytes a b (faulty_certificate f h) (long_certificate m) =
+certificate_refused_once texts limits inst bytes a b (faulty_certificate f h) (long_certificate m) =
     absurd (omega (arith, h.has.within, m))
-certificate_refused_once limits inst bytes a b (faulty_certificate f h) (faulty_certificate g i) =
+certificate_refused_once texts limits inst bytes a b (faulty_certificate f h) (faulty_certificate g i) =
     ap (λ x. reply 5 (certificate_fault_line x)) (i.only f h.has.fault_is)
 
 -- the text of a certificate is not refused
-pub text_accepted : (limits : Limits) (inst : Tables) (bytes : List ℕ) (cert : Certificate) (a : Answer)
-    → SpellsCertificate limits inst bytes cert → RefusesCertificate limits inst bytes a → ⊥
+pub text_accepted : {C : Type 0} {texts : CertificateTexts C} (limits : Limits) (inst : Tables) (bytes : List ℕ)
+    (cert : C) (a : Answer)
+    → SpellsCertificateBy texts limits inst bytes cert → RefusesCertificateBy texts limits inst bytes a → ⊥
 text_accepted limits inst bytes cert a spells (long_certificate l) = absurd (omega (arith, spells.within, l))
 text_accepted limits inst bytes cert a spells (faulty_certificate f h) = h.unspelled cert spells.text_of
 
 -- and bytes that are refused are no text of one
-pub refused_apart : (limits : Limits) (inst : Tables) (bytes : List ℕ) (cert : Certificate)
-    → SpellsOne limits inst bytes cert → IsRefusedCertificate limits inst bytes → ⊥
+pub refused_apart : {C : Type 0} {texts : CertificateTexts C} (limits : Limits) (inst : Tables) (bytes : List ℕ)
+    (cert : C)
+    → SpellsOneBy texts limits inst bytes cert → IsRefusedCertificateBy texts limits inst bytes → ⊥
 refused_apart limits inst bytes cert one (inl long) = absurd (omega (arith, one.spells.within, long))
 refused_apart limits inst bytes cert one (inr (fault, has)) = one.sound fault has.fault_is
 
-pub certificate_once : (limits : Limits) (inst : Tables) (word : ℕ) (bytes : List ℕ)
-    (Next : Certificate → Answer → Type 0)
-    → ((cert : Certificate) → IsOneAnswer (Next cert))
-    → IsOneAnswer (OnCertificate limits inst by_bytes word bytes Next)
-certificate_once limits inst word bytes Next next =
-    one_of_file word bytes (RefusesCertificate limits inst) (SpellsOne limits inst) Next
-    (certificate_refused_once limits inst bytes) (λ x y s t. s.only y t.spells.text_of)
+pub certificate_once : {C : Type 0} {texts : CertificateTexts C} (limits : Limits) (inst : Tables) (word : ℕ)
+    (bytes : List ℕ) (Next : C → Answer → Type 0)
+    → ((cert : C) → IsOneAnswer (Next cert))
+    → IsOneAnswer (OnCertificateBy texts limits inst by_bytes word bytes Next)
+certificate_once {texts = texts} limits inst word bytes Next next =
+    one_of_file word bytes (RefusesCertificateBy texts limits inst) (SpellsOneBy texts limits inst) Next
+    (certificate_refused_once texts limits inst bytes) (λ x y s t. s.only y t.spells.text_of)
     (λ x a s r. text_accepted limits inst bytes x a s.spells r) next
 
 -- ---- one rule

@@ -6,14 +6,14 @@ use Rattle.plan_desk.specs.Contents.{TellsSuch}
 use Rattle.plan_moves.specs.declared.script_line.ScriptLine.{ScriptLine}
 use Rattle.instance_model.specs.declared.limits.Limits.{Limits}
 use Rattle.instance_model.specs.Tables.{Tables}
-use Rattle.certificate_tree.specs.declared.certificate.Certificate.{Certificate}
 use Rattle.command_frame.specs.Sources.{Source}
 use Rattle.command_frame.specs.Ending.{Answer}
 use Rattle.command_frame.specs.Bytes.{Takes, TakesOne, RefusesInstance, Spells, RefusesPlan, SpellsScript}
-use Rattle.command_frame.specs.Bytes.{RefusesScript, SpellsCertificate, SpellsOne, RefusesCertificate}
-use Rattle.command_frame.specs.Files.{by_bytes, OnFile, OnInstance, OnPlan, OnGiven, OnScript, OnCertificate}
+use Rattle.command_frame.specs.Bytes.{RefusesScript, CertificateTexts, SpellsCertificateBy, SpellsOneBy}
+use Rattle.command_frame.specs.Bytes.{RefusesCertificateBy}
+use Rattle.command_frame.specs.Files.{by_bytes, OnFile, OnInstance, OnPlan, OnGiven, OnScript, OnCertificateBy}
 use Rattle.command_frame.specs.Files.{TellsBytes, TellsGivenBytes, TellsInstance, TellsPlan, TellsGiven, TellsScript}
-use Rattle.command_frame.specs.Files.{TellsCertificate}
+use Rattle.command_frame.specs.Files.{TellsCertificateBy}
 use Rattle.command_frame.specs.Files.OnFile.{unread, refused, stands}
 use Rattle.command_frame.proofs.AnswerLemmas.{same_instance, taken_sound, refused_instance_bytes, same_plan}
 use Rattle.command_frame.proofs.AnswerLemmas.{spelled_sound, refused_plan_bytes, same_script, script_sound}
@@ -57,10 +57,12 @@ pub told_script : (limits : Limits) (s : Shown) (name : List ℕ) (inst : Tables
     → TellsScript limits s name inst script → Told s name (λ held. SpellsScript limits inst held script)
 told_script limits s name inst script tells = told_bytes s name (λ held. SpellsScript limits inst held script) tells
 
-pub told_certificate : (limits : Limits) (s : Shown) (name : List ℕ) (inst : Tables) (cert : Certificate)
-    → TellsCertificate limits s name inst cert → Told s name (λ held. SpellsCertificate limits inst held cert)
-told_certificate limits s name inst cert tells =
-    told_bytes s name (λ held. SpellsCertificate limits inst held cert) tells
+pub told_certificate : {C : Type 0} {texts : CertificateTexts C} (limits : Limits) (s : Shown) (name : List ℕ)
+    (inst : Tables) (cert : C)
+    → TellsCertificateBy texts limits s name inst cert
+    → Told s name (λ held. SpellsCertificateBy texts limits inst held cert)
+told_certificate {texts = texts} limits s name inst cert tells =
+    told_bytes s name (λ held. SpellsCertificateBy texts limits inst held cert) tells
 
 -- ---- those of a plan that may be left out
 
@@ -132,10 +134,11 @@ on_script limits inst word bytes script Next a spells =
     (λ b is. script_sound limits inst bytes script spells (refused_script_bytes limits inst bytes b is))
     (λ other also. same_script limits inst bytes script other spells also)
 
-pub on_certificate : (limits : Limits) (inst : Tables) (word : ℕ) (bytes : List ℕ) (cert : Certificate)
-    (Next : Certificate → Answer → Type 0) (a : Answer)
-    → SpellsCertificate limits inst bytes cert → OnCertificate limits inst by_bytes word bytes Next a → Next cert a
-on_certificate limits inst word bytes cert Next a spells =
-    on_told word bytes (RefusesCertificate limits inst) (SpellsOne limits inst) Next cert a
+pub on_certificate : {C : Type 0} {texts : CertificateTexts C} (limits : Limits) (inst : Tables) (word : ℕ)
+    (bytes : List ℕ) (cert : C) (Next : C → Answer → Type 0) (a : Answer)
+    → SpellsCertificateBy texts limits inst bytes cert
+    → OnCertificateBy texts limits inst by_bytes word bytes Next a → Next cert a
+on_certificate {texts = texts} limits inst word bytes cert Next a spells =
+    on_told word bytes (RefusesCertificateBy texts limits inst) (SpellsOneBy texts limits inst) Next cert a
     (λ b is. text_accepted limits inst bytes cert b spells is)
     (λ other one. sym (one.only cert spells.text_of))

@@ -7,6 +7,8 @@ pub mod EndLemmas
 pub mod ReadLemmas
 pub mod CertificateLemmas
 pub mod AnswerLemmas
+pub mod TextLemmas
+pub mod PlainLemmas
 pub mod TakenLemmas
 pub mod WriteLemmas
 pub mod PlanWrites

@@ -110,40 +110,72 @@ IsRefusedScript limits inst bytes =
 
 -- ---- a certificate of an instance
 
+-- which bytes are the text of a certificate of one kind, and which fault others have
+pub record CertificateTexts (C : Type 0) : Type 1 where
+  pub is_text : Tables → List ℕ → C → Type 0
+  pub has_fault : Tables → List ℕ → CertFault → Type 0
+
 -- the bytes, within the limit, are the text of this certificate
-pub record SpellsCertificate (limits : Limits) (inst : Tables) (bytes : List ℕ) (cert : Certificate) : Type 0 where
+pub record SpellsCertificateBy {C : Type 0} (texts : CertificateTexts C) (limits : Limits) (inst : Tables)
+    (bytes : List ℕ) (cert : C) : Type 0 where
   pub within : length bytes ≤ limits.certificate_bytes
-  pub text_of : IsTextOf inst bytes cert
+  pub text_of : texts.is_text inst bytes cert
 
 -- they are too many
 abbrev pub IsLongCertificate : Limits → List ℕ → Type 0
 IsLongCertificate limits bytes = limits.certificate_bytes < length bytes
 
 -- they, within the limit, have this fault, which is that of their first faulty line
-pub record HasFaultyText (limits : Limits) (inst : Tables) (bytes : List ℕ) (fault : CertFault) : Type 0 where
+pub record HasFaultyTextBy {C : Type 0} (texts : CertificateTexts C) (limits : Limits) (inst : Tables)
+    (bytes : List ℕ) (fault : CertFault) : Type 0 where
   pub within : length bytes ≤ limits.certificate_bytes
-  pub fault_is : HasCertFault inst bytes fault
+  pub fault_is : texts.has_fault inst bytes fault
 
 -- they are the text of this certificate and of no other, and have no fault
-pub record SpellsOne (limits : Limits) (inst : Tables) (bytes : List ℕ) (cert : Certificate) : Type 0 where
-  pub spells : SpellsCertificate limits inst bytes cert
-  pub only : (other : Certificate) → IsTextOf inst bytes other → other ≡ cert
-  pub sound : (fault : CertFault) → HasCertFault inst bytes fault → ⊥
+pub record SpellsOneBy {C : Type 0} (texts : CertificateTexts C) (limits : Limits) (inst : Tables) (bytes : List ℕ)
+    (cert : C) : Type 0 where
+  pub spells : SpellsCertificateBy texts limits inst bytes cert
+  pub only : (other : C) → texts.is_text inst bytes other → other ≡ cert
+  pub sound : (fault : CertFault) → texts.has_fault inst bytes fault → ⊥
 
 -- they have this fault and no other, and are the text of no certificate
-pub record HasOneFault (limits : Limits) (inst : Tables) (bytes : List ℕ) (fault : CertFault) : Type 0 where
-  pub has : HasFaultyText limits inst bytes fault
-  pub only : (other : CertFault) → HasCertFault inst bytes other → other ≡ fault
-  pub unspelled : (cert : Certificate) → IsTextOf inst bytes cert → ⊥
+pub record HasOneFaultBy {C : Type 0} (texts : CertificateTexts C) (limits : Limits) (inst : Tables) (bytes : List ℕ)
+    (fault : CertFault) : Type 0 where
+  pub has : HasFaultyTextBy texts limits inst bytes fault
+  pub only : (other : CertFault) → texts.has_fault inst bytes other → other ≡ fault
+  pub unspelled : (cert : C) → texts.is_text inst bytes cert → ⊥
 
 -- the bytes of a certificate file are refused with this answer
-pub data RefusesCertificate (limits : Limits) (inst : Tables) (bytes : List ℕ) : Answer → Type 0 where
+pub data RefusesCertificateBy {C : Type 0} (texts : CertificateTexts C) (limits : Limits) (inst : Tables)
+    (bytes : List ℕ) : Answer → Type 0 where
   long_certificate : IsLongCertificate limits bytes
-      → RefusesCertificate limits inst bytes (reply 5 long_certificate_line)
-  faulty_certificate : (fault : CertFault) → HasOneFault limits inst bytes fault
-      → RefusesCertificate limits inst bytes (reply 5 (certificate_fault_line fault))
+      → RefusesCertificateBy texts limits inst bytes (reply 5 long_certificate_line)
+  faulty_certificate : (fault : CertFault) → HasOneFaultBy texts limits inst bytes fault
+      → RefusesCertificateBy texts limits inst bytes (reply 5 (certificate_fault_line fault))
+
+-- they are too many, or have a fault
+abbrev pub IsRefusedCertificateBy : {C : Type 0} → CertificateTexts C → Limits → Tables → List ℕ → Type 0
+IsRefusedCertificateBy texts limits inst bytes =
+    IsLongCertificate limits bytes ⊎ ((fault : CertFault) × HasFaultyTextBy texts limits inst bytes fault)
+
+-- ---- a certificate of version 1 or 2
+
+-- their texts
+abbrev pub plain_texts : CertificateTexts Certificate
+plain_texts = record { is_text = IsTextOf; has_fault = HasCertFault }
+
+-- the bytes, within the limit, are the text of this certificate
+abbrev pub SpellsCertificate : Limits → Tables → List ℕ → Certificate → Type 0
+SpellsCertificate = SpellsCertificateBy plain_texts
+
+-- they are the text of this certificate and of no other, and have no fault
+abbrev pub SpellsOne : Limits → Tables → List ℕ → Certificate → Type 0
+SpellsOne = SpellsOneBy plain_texts
+
+-- the bytes of a certificate file are refused with this answer
+abbrev pub RefusesCertificate : Limits → Tables → List ℕ → Answer → Type 0
+RefusesCertificate = RefusesCertificateBy plain_texts
 
 -- they are too many, or have a fault
 abbrev pub IsRefusedCertificate : Limits → Tables → List ℕ → Type 0
-IsRefusedCertificate limits inst bytes =
-    IsLongCertificate limits bytes ⊎ ((fault : CertFault) × HasFaultyText limits inst bytes fault)
+IsRefusedCertificate = IsRefusedCertificateBy plain_texts

@@ -15,7 +15,8 @@ use Rattle.command_frame.specs.Sources.{Source}
 use Rattle.command_frame.specs.Lines.{read_line}
 use Rattle.command_frame.specs.Ending.{Answer, reply}
 use Rattle.command_frame.specs.Bytes.{Takes, TakesOne, RefusesInstance, Spells, RefusesPlan, SpellsScript}
-use Rattle.command_frame.specs.Bytes.{RefusesScript, SpellsCertificate, SpellsOne, RefusesCertificate}
+use Rattle.command_frame.specs.Bytes.{RefusesScript, CertificateTexts, SpellsCertificateBy, SpellsOneBy}
+use Rattle.command_frame.specs.Bytes.{RefusesCertificateBy, plain_texts}
 
 -- ---- how files are met
 
@@ -71,8 +72,14 @@ abbrev pub OnScript : Limits → Tables → Meeting → ℕ → List ℕ → (Li
 OnScript limits inst met word name = OnFile met word name (RefusesScript limits inst) (SpellsScript limits inst)
 
 -- a certificate file of an instance
+abbrev pub OnCertificateBy : {C : Type 0} → CertificateTexts C → Limits → Tables → Meeting → ℕ → List ℕ
+    → (C → Answer → Type 0) → Answer → Type 0
+OnCertificateBy texts limits inst met word name =
+    OnFile met word name (RefusesCertificateBy texts limits inst) (SpellsOneBy texts limits inst)
+
+-- of version 1 or 2
 abbrev pub OnCertificate : Limits → Tables → Meeting → ℕ → List ℕ → (Certificate → Answer → Type 0) → Answer → Type 0
-OnCertificate limits inst met word name = OnFile met word name (RefusesCertificate limits inst) (SpellsOne limits inst)
+OnCertificate = OnCertificateBy plain_texts
 
 -- ---- what was read
 
@@ -101,8 +108,13 @@ abbrev pub ReadsScript : Limits → List ℕ → Tables → Shown → List Scrip
 ReadsScript limits name inst old script = ReadsSuch name old (λ bytes. SpellsScript limits inst bytes script)
 
 -- the certificate file of this name was read, and its bytes are the text of this certificate and of no other
+abbrev pub ReadsCertificateBy : {C : Type 0} → CertificateTexts C → Limits → List ℕ → Tables → Shown → C → Type 0
+ReadsCertificateBy texts limits name inst old cert =
+    ReadsSuch name old (λ bytes. SpellsOneBy texts limits inst bytes cert)
+
+-- of version 1 or 2
 abbrev pub ReadsCertificate : Limits → List ℕ → Tables → Shown → Certificate → Type 0
-ReadsCertificate limits name inst old cert = ReadsSuch name old (λ bytes. SpellsOne limits inst bytes cert)
+ReadsCertificate = ReadsCertificateBy plain_texts
 
 -- ---- what was said of a file
 
@@ -152,5 +164,10 @@ abbrev pub TellsScript : Limits → Shown → List ℕ → Tables → List Scrip
 TellsScript limits s name inst script = TellsSuch s name (λ held. SpellsScript limits inst held script)
 
 -- it is told that the bytes of the certificate file are the text of this certificate
+abbrev pub TellsCertificateBy : {C : Type 0} → CertificateTexts C → Limits → Shown → List ℕ → Tables → C → Type 0
+TellsCertificateBy texts limits s name inst cert =
+    TellsSuch s name (λ held. SpellsCertificateBy texts limits inst held cert)
+
+-- of version 1 or 2
 abbrev pub TellsCertificate : Limits → Shown → List ℕ → Tables → Certificate → Type 0
-TellsCertificate limits s name inst cert = TellsSuch s name (λ held. SpellsCertificate limits inst held cert)
+TellsCertificate = TellsCertificateBy plain_texts

@@ -6,6 +6,7 @@ pub mod Ending
 pub mod Bytes
 pub mod Openings
 pub mod Files
+pub mod Kinds
 pub mod Refusals
 pub mod Writing
 pub mod Outputs

@@ -17,7 +17,7 @@ use Rattle.command_frame.specs.Lines.{plan_fault_line, long_script_line, script_
 use Rattle.command_frame.specs.Lines.{certificate_fault_line}
 use Rattle.command_frame.specs.Ending.{Answer, reply, SayFails}
 use Rattle.command_frame.specs.Bytes.{IsLongInstance, IsOneFault, IsLongPlan, HasFault, IsLongScript, HasFaultyLine}
-use Rattle.command_frame.specs.Bytes.{IsLongCertificate, HasOneFault}
+use Rattle.command_frame.specs.Bytes.{CertificateTexts, IsLongCertificate, HasOneFaultBy, plain_texts}
 use Rattle.command_frame.specs.Files.{ReadFails, ReadsSuch}
 
 -- ---- refusals
@@ -95,13 +95,19 @@ IsScriptCause limits at name inst old new Memory = ⊤
 IsScriptCause limits at name inst old new _ = ⊥
 
 -- why the certificate file of this name, which is this word, is refused for an instance
+abbrev pub IsCertificateCauseBy : {C : Type 0} → CertificateTexts C → Limits → ℕ → List ℕ → Tables
+    → (old new : Shown) → Refusal → Type 0
+IsCertificateCauseBy texts limits at name inst old new (Unread word) = (word ≡ at) × ReadFails name old new
+IsCertificateCauseBy texts limits at name inst old new LongCertificate =
+    WhereToldHolds old name (IsLongCertificate limits)
+IsCertificateCauseBy texts limits at name inst old new (Certificate fault) =
+    ReadsSuch name old (λ bytes. HasOneFaultBy texts limits inst bytes fault)
+IsCertificateCauseBy texts limits at name inst old new Memory = ⊤
+IsCertificateCauseBy texts limits at name inst old new _ = ⊥
+
+-- of version 1 or 2
 abbrev pub IsCertificateCause : Limits → ℕ → List ℕ → Tables → (old new : Shown) → Refusal → Type 0
-IsCertificateCause limits at name inst old new (Unread word) = (word ≡ at) × ReadFails name old new
-IsCertificateCause limits at name inst old new LongCertificate = WhereToldHolds old name (IsLongCertificate limits)
-IsCertificateCause limits at name inst old new (Certificate fault) =
-    ReadsSuch name old (λ bytes. HasOneFault limits inst bytes fault)
-IsCertificateCause limits at name inst old new Memory = ⊤
-IsCertificateCause limits at name inst old new _ = ⊥
+IsCertificateCause = IsCertificateCauseBy plain_texts
 
 -- why the plan file of a check is refused, if a plan is given
 abbrev pub IsGivenCause : Limits → ℕ → Option (List ℕ) → Tables → (old new : Shown) → Refusal → Type 0

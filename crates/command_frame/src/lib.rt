@@ -8,13 +8,18 @@
 //! file. It refuses a text that is longer than a limit by `refuse_long`, and changes no other file: `KeepsAllBut` and
 //! `Opens` are the words for that in its promises.
 //!
+//! A certificate may be of any kind that is a `FileCertificate`: how it is read, what it claims, and how it is written.
+//! `CertificateKind` is what contracts see of a kind, and `plain_kind` that of versions 1 and 2.
+//!
 //! `Completes` is what a run promises in which nothing goes wrong: the files of the command are read, and no fault
 //! rose. The laws of the programs say it of each of their commands.
 #![tactic(auto)]
 
+mod certificate;
 mod instance_line;
 mod long_output;
 mod opening;
+mod plain;
 mod reading;
 mod refusal;
 mod report;
@@ -23,6 +28,7 @@ mod source;
 mod text;
 mod writing;
 
+pub use certificate::FileCertificate;
 pub use long_output::refuse_long;
 pub use opening::{Opening, opening_of};
 pub use reading::{certificate_of, given_plan_of, instance_of, plan_of, script_of};

@@ -3,17 +3,18 @@ ghost use Rattle.std.specs.Prelude.{◌≡◌, ◌≤◌, [], length, All, optio
 ghost use Rattle.instance_shape.specs.Ranges.{AreStandard};
 ghost use Rattle.plan_desk.specs.Desk.{ShowsSame, after_take_in};
 ghost use Rattle.plan_moves.specs.Scripts.{NamesKnown};
-ghost use Rattle.certificate_tree.specs.Ranges.{IsInRange};
 ghost use Rattle.plan_desk.specs.Contents.{OnlyReads};
 ghost use Rattle.command_frame.specs.Sources.{source_view};
 ghost use Rattle.command_frame.specs.Files.{ReadsBytes, ReadsInstance, ReadsPlan, ReadsScript, ReadsGiven};
-ghost use Rattle.command_frame.specs.Files.{ReadsCertificate};
+ghost use Rattle.command_frame.specs.Files.{ReadsCertificateBy};
 ghost use Rattle.command_frame.specs.Refusals.{CountsRefusal, IsWithoutFailure, IsReadCause, IsInstanceCause};
-ghost use Rattle.command_frame.specs.Refusals.{IsPlanCause, IsScriptCause, IsGivenCause, IsCertificateCause, AfterGiven};
+ghost use Rattle.command_frame.specs.Refusals.{IsPlanCause, IsScriptCause, IsGivenCause, IsCertificateCauseBy};
+ghost use Rattle.command_frame.specs.Refusals.{AfterGiven};
 
+use crate::certificate::FileCertificate;
 use crate::refusal::Refusal;
 use crate::source::Source;
-use certificate_read::{CertFault, Certificate, read_certificate};
+use certificate_read::CertFault;
 use fixed_num::Fixed;
 use instance_model::{Instance, Limits};
 use instance_read::{StreamFault, read_instance_from};
@@ -116,6 +117,7 @@ pub fn script_of<D: Desk>(
     ensures ok { IfOk result (ReadsScript limits.now name.now inst.now (D.shows desk.old)) }
     ensures known { IfOk result (All (NamesKnown inst.now)) }
     ensures err { IfErr result (IsScriptCause limits.now word name.now inst.now (D.shows desk.old) (D.shows desk.new)) }
+    ensures read { OnOk result (ShowsSame (D.shows desk.new) (after_take_in name.now [] (D.shows desk.old))) }
     ensures faults { OnOk result ((D.shows desk.new).faults ≡ (D.shows desk.old).faults) }
     ensures kept { IfErr result (CountsRefusal (D.shows desk.old) (D.shows desk.new)) }
     ensures only_reads { OnlyReads (D.shows desk.old) (D.shows desk.new) }
@@ -154,25 +156,26 @@ pub fn given_plan_of<D: Desk>(
 }
 
 /// The certificate of the file of this name, which is this word.
-pub fn certificate_of<D: Desk>(
+pub fn certificate_of<C: FileCertificate, D: Desk>(
     alloc: Global,
     limits: &Limits,
     inst: &Instance,
     word: u64,
     name: &str,
     desk: &mut D,
-) -> Result<Certificate, Refusal>
-    ensures ok { IfOk result (ReadsCertificate limits.now name.now inst.now (D.shows desk.old)) }
-    ensures in_range { IfOk result (IsInRange inst.now) }
+) -> Result<C, Refusal>
+    ensures ok { IfOk result (ReadsCertificateBy C.kind.texts limits.now name.now inst.now (D.shows desk.old)) }
+    ensures in_range { IfOk result (C.kind.range inst.now) }
     ensures err { IfErr result
-        (IsCertificateCause limits.now word name.now inst.now (D.shows desk.old) (D.shows desk.new)) }
+        (IsCertificateCauseBy C.kind.texts limits.now word name.now inst.now (D.shows desk.old) (D.shows desk.new)) }
+    ensures read { OnOk result (ShowsSame (D.shows desk.new) (after_take_in name.now [] (D.shows desk.old))) }
     ensures faults { OnOk result ((D.shows desk.new).faults ≡ (D.shows desk.old).faults) }
     ensures kept { IfErr result (CountsRefusal (D.shows desk.old) (D.shows desk.new)) }
     ensures only_reads { OnlyReads (D.shows desk.old) (D.shows desk.new) }
 {
     let most = limits.certificate_bytes;
     let bytes = bytes_of(alloc, name, word, most, Refusal::LongCertificate, desk)?;
-    match read_certificate(alloc, inst, bytes.as_slice()) {
+    match C::read(alloc, inst, bytes.as_slice()) {
         Ok(certificate) => Ok(certificate),
         Err(CertFault::Memory) => Err(Refusal::Memory),
         Err(fault) => Err(Refusal::Certificate(fault)),

@@ -1,5 +1,5 @@
 //! A text that is made piece by piece.
-ghost use Rattle.std.specs.Prelude.{◌≡◌, [], ◌++◌, OnOk, decimal};
+ghost use Rattle.std.specs.Prelude.{◌≡◌, [], ◌++◌, OnOk, OnErr, decimal};
 ghost use Rattle.std.specs.Fmt.{signed_decimal};
 ghost use Rattle.fixed_num.specs.Texts.{fixed_text};
 ghost use Rattle.command_frame.specs.Lines.{numbered_line};
@@ -38,34 +38,39 @@ impl Text {
     }
 
     pub fn push(&mut self, piece: &str) -> Result<(), AllocError>
-        ensures { OnOk result (self.new ≡ self.old ++ piece.now) }
+        ensures added { OnOk result (self.new ≡ self.old ++ piece.now) }
+        ensures err { OnErr result (self.new ≡ self.old) }
     {
         self.push_bytes(piece.as_bytes())
     }
 
     /// Adds a whole number in decimal digits.
     pub fn push_number(&mut self, n: u64) -> Result<(), AllocError>
-        ensures { OnOk result (self.new ≡ self.old ++ decimal n) }
+        ensures added { OnOk result (self.new ≡ self.old ++ decimal n) }
+        ensures err { OnErr result (self.new ≡ self.old) }
     {
         self.push_bytes(Line::of_int(n.into()).bytes())
     }
 
     /// Adds a whole number in decimal digits, with a minus before one below 0.
     pub fn push_signed(&mut self, n: i128) -> Result<(), AllocError>
-        ensures { OnOk result (self.new ≡ self.old ++ signed_decimal n) }
+        ensures added { OnOk result (self.new ≡ self.old ++ signed_decimal n) }
+        ensures err { OnErr result (self.new ≡ self.old) }
     {
         self.push_bytes(Line::of_int(n).bytes())
     }
 
     /// Adds a count of 10^-12 with 12 decimals.
     pub fn push_fixed(&mut self, n: i128) -> Result<(), AllocError>
-        ensures { OnOk result (self.new ≡ self.old ++ fixed_text n) }
+        ensures added { OnOk result (self.new ≡ self.old ++ fixed_text n) }
+        ensures err { OnErr result (self.new ≡ self.old) }
     {
         self.push_bytes(Line::of_fixed(n).bytes())
     }
 
     fn push_bytes(&mut self, piece: &[u8]) -> Result<(), AllocError>
-        ensures { OnOk result (self.new ≡ self.old ++ piece.now) }
+        ensures added { OnOk result (self.new ≡ self.old ++ piece.now) }
+        ensures err { OnErr result (self.new ≡ self.old) }
     {
         self.bytes.extend_from_slice(piece)?;
         Ok(())

@@ -3,14 +3,12 @@ ghost use Rattle.std.specs.Prelude.{◌≡◌, ◌<◌, ◌^◌, length, All};
 ghost use Rattle.plan_moves.specs.Scripts.{NamesKnown, line_of};
 ghost use Rattle.plan_text.specs.Spelling.{plan_text};
 ghost use Rattle.move_script.specs.Spelling.{HasSmallStart, moves_text};
-ghost use Rattle.certificate_tree.specs.Ranges.{IsInRange};
-ghost use Rattle.certificate_text.specs.Text.{certificate_text};
 ghost use Rattle.plan_desk.specs.Contents.{KeepsFiles};
 ghost use Rattle.command_frame.specs.Writing.{PutsFile, SaysWritten};
 
+use crate::certificate::FileCertificate;
 use crate::report::Report;
 use crate::saying::{say, say_numbered};
-use certificate_read::{Certificate, write_certificate};
 use instance_model::Instance;
 use move_script::write_moves;
 use plan_desk::{Desk, Failed};
@@ -21,18 +19,18 @@ use plan_text::write_plan;
 pub const WRITE_WORDS: &str = "refused write ";
 
 /// Writes a certificate as the file of this name. Takes no memory.
-pub fn put_certificate<D: Desk>(
+pub fn put_certificate<C: FileCertificate, D: Desk>(
     inst: &Instance,
-    certificate: &Certificate,
+    certificate: &C,
     name: &str,
     desk: &mut D,
 ) -> Result<(), Failed>
-    requires in_range { IsInRange inst.now certificate.now }
-    ensures { PutsFile (record { name = name.now; bytes = certificate_text inst.now certificate.now })
+    requires in_range { C.kind.range inst.now certificate.now }
+    ensures { PutsFile (record { name = name.now; bytes = C.kind.text inst.now certificate.now })
         (D.shows desk.old) (D.shows desk.new) result }
 {
     desk.put_out(name)?;
-    write_certificate(inst, certificate, desk)?;
+    certificate.write(inst, desk)?;
     desk.finish_out()
 }
 

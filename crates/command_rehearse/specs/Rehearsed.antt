@@ -12,7 +12,7 @@ use Rattle.branch_search.specs.declared.tree_end.TreeEnd.{TreeEnd}
 use Rattle.branch_search.specs.Searched.{IsSearched}
 use Rattle.command_answers.specs.Check.{BoundsEveryPlan}
 use Rattle.descent_ends.specs.Ends.{end_of, IsTrail, IsGiven}
-use Rattle.descent_ends.specs.Turns.{split_count}
+use Rattle.branch_search.specs.Splits.{split_count}
 use Rattle.command_rehearse.specs.declared.summary.Summary.{Summary}
 
 -- the turns of the descent, and those of the search

@@ -1,6 +1,6 @@
 -- What the answer of a search comes to, by its best plan and its bound.
 use Rattle.std.proofs.Common.{◌≡◌, ℕ, ◌⊎◌, inl, inr, refl, sym, ◌∙◌, ap, subst, arith, ℤ, ◌<ℤ◌, List}
-use Rattle.std.proofs.Common.{Option, Some, None, Any, Bool, true, false, IsTrue, map}
+use Rattle.std.proofs.Common.{zero-add, Option, Some, None, Any, Bool, true, false, IsTrue, map}
 use Rattle.std.specs.Bool.{OnFalse}
 use Rattle.fixed_num.proofs.SignedLemmas.{signed_arith}
 use Rattle.instance_model.specs.Tables.{Tables}
@@ -9,13 +9,15 @@ use Rattle.lagrange_bound.specs.Prices.{PriceList}
 use Rattle.lagrange_bound.specs.Goals.{risk_base, risk_value}
 use Rattle.certificate_lines.specs.declared.line.Bound.TheVariants.{NoPlan, Least}
 use Rattle.certificate_tree.specs.Trees.{leaves, root_box}
+use Rattle.certificate_tree.specs.Holding.{worth_by}
 use Rattle.plan_moves.specs.declared.change.Change.{Change}
 use Rattle.branch_search.specs.Best.{IsFeasiblePlan, IsBestOver, IsNoWorse, bound_of}
 use Rattle.branch_search.specs.Searched.{IsAmong, IsLeastOf, IsUnfinishedLeaf, IsSearched}
 use Rattle.branch_search.specs.declared.tree_end.TreeEnd.{TreeEnd}
 use Rattle.command_solve.specs.Solved.{IsSolved, IsNothing}
 use Rattle.descent_ends.specs.Ends.{end_of, IsGiven}
-use Rattle.descent_ends.specs.Turns.{split_count, AreEnough}
+use Rattle.branch_search.specs.Splits.{split_count}
+use Rattle.descent_ends.specs.Turns.{AreEnough}
 use Rattle.descent_ends.proofs.SplitLemmas.{splits_are}
 
 least_same : (a b : ℤ) → Least a ≡ Least b → a ≡ b
@@ -35,19 +37,20 @@ module _ (inst : Tables) (prices : PriceList) (given : Option (List ℕ)) (turns
   -- where there is a best plan, the bound is a number
   pub some_has_bound : (plan : List ℕ) → answer.best ≡ Some plan → answer.cert.bound ≡ NoPlan → ⊥
   some_has_bound plan is bound =
-      subst (IsLeastOf (IsAmong risk_base risk_value inst answer.cert.lists answer.best
-      (leaves (root_box inst) searched.tree))) bound searched.bound (risk_value inst plan) (inl (plan, is, refl))
+      subst (IsLeastOf (IsAmong risk_value inst (worth_by risk_base inst answer.cert.lists) answer.best
+      (leaves (root_box inst) searched.by.tree))) bound searched.by.bound (risk_value inst plan) (inl (plan, is, refl))
 
   -- the best plan is feasible
   pub best_feasible : (plan : List ℕ) → answer.best ≡ Some plan → IsFeasiblePlan inst plan
   best_feasible plan is =
-      let best_is : IsNoWorse risk_value inst given plan = subst (IsBestOver risk_value inst given) is searched.best in
+      let best_is : IsNoWorse risk_value inst given plan =
+      subst (IsBestOver risk_value inst given) is searched.by.best in
       best_is.feasible
 
   -- a search that is finished has the bound that says so
   finished : answer.unfinished ≡ false → answer.cert.bound ≡ bound_of risk_value inst answer.best
   finished is =
-      subst (λ (b : Bool). OnFalse b (answer.cert.bound ≡ bound_of risk_value inst answer.best)) is searched.finished
+      subst (λ (b : Bool). OnFalse b (answer.cert.bound ≡ bound_of risk_value inst answer.best)) is searched.by.finished
 
   -- the search is finished, or has made as many splits as turns
   all_or_spent : (answer.cert.bound ≡ bound_of risk_value inst answer.best)
@@ -56,7 +59,10 @@ module _ (inst : Tables) (prices : PriceList) (given : Option (List ℕ)) (turns
     where
       at : (b : Bool) → answer.unfinished ≡ b → (answer.cert.bound ≡ bound_of risk_value inst answer.best)
           ⊎ ((split_count answer.cert.nodes ≡ turns) × IsTrue answer.unfinished)
-      at true e = inr (splits_are inst answer.cert searched.tree searched.of_nodes ∙ searched.spent e, e)
+      at true e = inr (
+        splits_are inst answer.cert searched.by.tree searched.by.of_nodes ∙ searched.by.spent e ∙ zero-add turns,
+        e,
+      )
       at false e = inl (finished e)
 
   module _ (plan : List ℕ) (is : answer.best ≡ Some plan) (b : ℤ) (bound : answer.cert.bound ≡ Least b) where
@@ -113,8 +119,9 @@ is_nothing inst turns changes answer b solved enough best bound =
       too_few = λ are.
           nothing_is_few inst solved.prices solved.given turns answer s best b bound (enough are);
       end_infeasible = none_given inst (end_of solved.opening changes) solved.given
-          (subst (IsBestOver risk_value inst solved.given) best s.best) solved.is_given;
+          (subst (IsBestOver risk_value inst solved.given) best s.by.best) solved.is_given;
       left = subst (λ (o : Option (List ℕ)).
-          Any (IsUnfinishedLeaf risk_base risk_value inst answer.cert.lists o) (leaves (root_box inst) s.tree)) best
-          (s.unfinished.0 spent.1);
+          Any (IsUnfinishedLeaf risk_value inst (worth_by risk_base inst answer.cert.lists) o)
+          (leaves (root_box inst) s.by.tree)) best
+          (s.by.unfinished.0 spent.1);
     }

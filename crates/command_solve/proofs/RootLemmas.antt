@@ -1,5 +1,5 @@
 -- The bound of a search is at least the worth of its list over all starts.
-use Rattle.std.proofs.Common.{◌≡◌, ℕ, zero, suc, ◌≤◌, inl, inr, sym, ap, subst, arith, ℤ, ◌≤ℤ◌, List, []}
+use Rattle.std.proofs.Common.{◌≡◌, ℕ, zero, suc, ◌≤◌, inl, inr, refl, sym, ap, subst, arith, ℤ, ◌≤ℤ◌, List, []}
 use Rattle.std.proofs.Common.{◌∷◌, ◌++◌, length, get_or, map, Option, Some, All}
 use Rattle.std.proofs.lemmas.List.Elements.{All-head}
 use Rattle.instance_model.specs.Tables.{Tables}
@@ -15,12 +15,11 @@ use Rattle.certificate_tree.specs.declared.node.Node.{Node}
 use Rattle.certificate_tree.specs.declared.node.Node.TheVariants.{Cost}
 use Rattle.certificate_tree.specs.declared.certificate.Certificate.{Certificate}
 use Rattle.certificate_tree.specs.Trees.{Tree, leaf, split, leaves, below, above, root_box}
-use Rattle.certificate_tree.specs.Holding.{list_at}
+use Rattle.certificate_tree.specs.Holding.{Worths, list_at, worth_by}
 use Rattle.certificate_tree.proofs.RootLemmas.{root_at}
 use Rattle.certificate_tree.proofs.Refuting.{feasible_allowed}
 use Rattle.branch_search.specs.Splits.{split_boxes}
 use Rattle.branch_search.specs.Best.{IsBestOver}
-use Rattle.branch_search.specs.Boxes.{worth_by}
 use Rattle.branch_search.specs.Searched.{IsSplitBox, IsCostLeaf, IsBounding, IsCostOf, IsAmong, IsLeastOf, IsSearched}
 use Rattle.price_ladder.specs.Raised.{root_worth}
 use Rattle.branch_search.specs.declared.tree_end.TreeEnd.{TreeEnd}
@@ -39,8 +38,11 @@ root_plan inst starts each feasible = record {
 
 module _ (inst : Tables) (prices : PriceList) (given best : Option (List ℕ)) (cert : Certificate)
     (one : cert.lists ≡ prices ∷ []) (b : ℤ) (bound : cert.bound ≡ Least b) where
+  abbrev worths : Worths
+  worths = worth_by risk_base inst cert.lists
+
   -- the worth of the box of all starts by the only list
-  by_one : worth_by risk_base inst cert.lists (root_box inst) 1 ≡ root_worth inst prices
+  by_one : worths (root_box inst) 1 ≡ root_worth inst prices
   unfolding list_at
   by_one = ap (λ (lists : List PriceList). worth_by risk_base inst lists (root_box inst) 1) one
 
@@ -49,11 +51,11 @@ module _ (inst : Tables) (prices : PriceList) (given best : Option (List ℕ)) (
 
   -- the one leaf is a `cost` leaf, which names a list of greatest worth
   under_cost : (n : Node) (list : ℕ) → n ≡ Cost list
-      → IsBounding risk_base risk_value inst cert.lists best (root_box inst) n
-      → worth_by risk_base inst cert.lists (root_box inst) list ≡ b → root_worth inst prices ≤ℤ b
+      → IsBounding risk_value inst (length cert.lists) worths best (root_box inst) n
+      → worths (root_box inst) list ≡ b → root_worth inst prices ≤ℤ b
   under_cost n list is bounding worth =
-      let here : IsCostLeaf risk_base risk_value inst cert.lists best (root_box inst) list =
-      subst (IsBounding risk_base risk_value inst cert.lists best (root_box inst)) is bounding in
+      let here : IsCostLeaf risk_value inst (length cert.lists) worths best (root_box inst) list =
+      subst (IsBounding risk_value inst (length cert.lists) worths best (root_box inst)) is bounding in
       rw (sym by_one, sym worth) (here.list.greatest 1 first)
 
   -- the bound is the value of the best plan
@@ -68,30 +70,30 @@ module _ (inst : Tables) (prices : PriceList) (given best : Option (List ℕ)) (
 
   only_leaf : WorthBoundsPlans risk_base risk_value → IsFitting inst → IsPriceList inst prices
       → IsBestOver risk_value inst given best → (n : Node)
-      → IsBounding risk_base risk_value inst cert.lists best (root_box inst) n
-      → IsAmong risk_base risk_value inst cert.lists best ((record { box = root_box inst; node = n }) ∷ []) b
+      → IsBounding risk_value inst (length cert.lists) worths best (root_box inst) n
+      → IsAmong risk_value inst worths best ((record { box = root_box inst; node = n }) ∷ []) b
       → root_worth inst prices ≤ℤ b
   only_leaf law fit range over n bounding (inl (plan, is, value)) = under_best law fit range over plan is value
   only_leaf law fit range over n bounding (inr (zero, x, low, is, cost)) =
-      let here = subst (IsCostOf risk_base inst cert.lists b) (sym is) cost in
+      let here = subst (IsCostOf worths b) (sym is) cost in
       under_cost n here.list here.node bounding here.worth
   only_leaf law fit range over n bounding (inr (suc k, x, low, is, cost)) = absurd (omega (arith, low))
 
   tree_above : WorthBoundsPlans risk_base risk_value → IsFitting inst → IsPriceList inst prices
       → IsBestOver risk_value inst given best → (t : Tree)
-      → All (IsSplitBox risk_base risk_value inst given cert) (split_boxes (root_box inst) t)
-      → All (λ leaf. IsBounding risk_base risk_value inst cert.lists best leaf.box leaf.node)
+      → All (IsSplitBox risk_value inst (length cert.lists) worths given cert.bound) (split_boxes (root_box inst) t)
+      → All (λ leaf. IsBounding risk_value inst (length cert.lists) worths best leaf.box leaf.node)
       (leaves (root_box inst) t)
-      → IsLeastOf (IsAmong risk_base risk_value inst cert.lists best (leaves (root_box inst) t)) cert.bound
+      → IsLeastOf (IsAmong risk_value inst worths best (leaves (root_box inst) t)) cert.bound
       → root_worth inst prices ≤ℤ b
   tree_above law fit range over (leaf n) splits bounding least =
       only_leaf law fit range over n
-      (All-head (λ leaf. IsBounding risk_base risk_value inst cert.lists best leaf.box leaf.node)
+      (All-head (λ leaf. IsBounding risk_value inst (length cert.lists) worths best leaf.box leaf.node)
       (record { box = root_box inst; node = n }) [] bounding)
-      ((subst (IsLeastOf (IsAmong risk_base risk_value inst cert.lists best
+      ((subst (IsLeastOf (IsAmong risk_value inst worths best
       ((record { box = root_box inst; node = n }) ∷ []))) bound least).0)
   tree_above law fit range over (split i m l r) splits bounding least =
-      let here = All-head (IsSplitBox risk_base risk_value inst given cert) (root_box inst)
+      let here = All-head (IsSplitBox risk_value inst (length cert.lists) worths given cert.bound) (root_box inst)
       (split_boxes (below (root_box inst) i m) l ++ split_boxes (above (root_box inst) i m) r) splits in
       rw (sym by_one) (here.within_bound 1 b first bound)
 
@@ -100,6 +102,5 @@ pub above_root : (inst : Tables) (prices : PriceList) (given : Option (List ℕ)
     → IsSearched risk_base risk_value inst (Some prices) given turns answer → (b : ℤ) → answer.cert.bound ≡ Least b
     → root_worth inst prices ≤ℤ b
 above_root inst prices given turns answer law fit range searched b bound =
-    tree_above inst prices given answer.best answer.cert searched.lists b bound law fit range searched.best
-    searched.tree
-    searched.splits searched.bounding searched.bound
+    tree_above inst prices given answer.best answer.cert searched.lists b bound law fit range searched.by.best
+    searched.by.tree (searched.by.splits refl) searched.by.bounding searched.by.bound

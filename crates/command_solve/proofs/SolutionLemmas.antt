@@ -20,7 +20,7 @@ use Rattle.certificate_tree.specs.declared.node.Node.TheVariants.{Empty}
 use Rattle.certificate_tree.specs.declared.certificate.Certificate.{Certificate}
 use Rattle.certificate_tree.specs.Trees.{leaf, root_box}
 use Rattle.certificate_tree.specs.Ranges.{HasPricesOf, IsInRange}
-use Rattle.certificate_tree.specs.Validity.{CertLeafHolds}
+use Rattle.certificate_tree.specs.Validity.{claim_of, CertLeafHolds}
 use Rattle.certificate_text.specs.Text.{certificate_text}
 use Rattle.certificate_text.specs.Laws.{TextsFitFiles}
 use Rattle.branch_search.specs.declared.tree_end.TreeEnd.{TreeEnd}
@@ -103,7 +103,7 @@ module _ (inst : Tables) (turns : ℕ) (changes : List Change) (answer : TreeEnd
           gap = gap_is_spent inst solved.prices solved.given turns answer s plan is b bound_is;
           enough = λ are.
               enough_meets inst solved.prices solved.given turns answer s plan is b bound_is (made.enough are);
-          no_better = λ e. best_plan inst None answer.cert (map Some plan) b good.accepted bound_is
+          no_better = λ e. best_plan inst None (claim_of risk_base inst answer.cert) (map Some plan) b good.accepted bound_is
               (nothing_between (score_of inst (map Some plan)) b e);
         }
 

@@ -10,11 +10,13 @@ use Rattle.lagrange_bound.specs.Goals.{risk_base, risk_value}
 use Rattle.lagrange_bound.specs.Worth.{price_total}
 use Rattle.certificate_lines.specs.declared.line.Bound.TheVariants.{NoPlan, Least}
 use Rattle.certificate_tree.specs.Trees.{leaves, root_box}
+use Rattle.certificate_tree.specs.Holding.{worth_by}
 use Rattle.price_ladder.specs.Raised.{IsRaised, root_worth, least_total}
 use Rattle.branch_search.specs.declared.tree_end.TreeEnd.{TreeEnd}
 use Rattle.branch_search.specs.Searched.{IsSearched, IsUnfinishedLeaf}
 use Rattle.descent_ends.specs.Ends.{end_of, IsTrail, IsGiven}
-use Rattle.descent_ends.specs.Turns.{split_count, AreEnough}
+use Rattle.branch_search.specs.Splits.{split_count}
+use Rattle.descent_ends.specs.Turns.{AreEnough}
 
 -- ---- the price list
 
@@ -50,8 +52,8 @@ pub record IsNothing (inst : Tables) (turns : ℕ) (changes : List Change) (answ
   pub spent : split_count answer.cert.nodes ≡ turns
   pub too_few : AreEnough inst turns → ⊥
   pub end_infeasible : IsFeasible inst (map Some (end_of solved.opening changes)) → ⊥
-  pub left : Any (IsUnfinishedLeaf risk_base risk_value inst answer.cert.lists None)
-      (leaves (root_box inst) solved.searched.tree)
+  pub left : Any (IsUnfinishedLeaf risk_value inst (worth_by risk_base inst answer.cert.lists) None)
+      (leaves (root_box inst) solved.searched.by.tree)
 
 -- the bound is none, and no plan was found
 pub record IsNone (answer : TreeEnd) : Type 0 where

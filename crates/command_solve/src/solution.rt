@@ -57,7 +57,7 @@ fn solution_from<R: Row>(
     ensures { IfOk result (IsSolution inst.now turns) }
 {
     inst.fits();
-    valid_is_accepted(inst);
+    valid_is_accepted::<Certificate>(inst);
     let made = make::<R>(alloc, inst, opening, turns)?;
     let report = report_on(alloc, inst, &made.answer, &made.moves)?;
     let TreeEnd {
@@ -131,7 +131,7 @@ fn startless(alloc: Global, inst: &Instance, i: u32) -> Result<Solution, AllocEr
 {
     inst.fits();
     texts_are_short();
-    valid_is_accepted(inst);
+    valid_is_accepted::<Certificate>(inst);
     let certificate = empty_certificate(alloc, i)?;
     let moves = Moves::from_vec(Vec::new(alloc));
     let text = none_text(alloc, inst, &certificate, &moves)?;

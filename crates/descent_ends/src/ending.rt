@@ -50,7 +50,7 @@ pub fn given_end<'a>(inst: &Instance, end: &'a Starts, feasible: bool) -> Option
     ensures given { IsGiven inst.now end.now (option_map (λ starts. starts.now) result) }
     ensures plan { IfSome result (λ starts. IsFeasiblePlan inst.now starts.now) }
 {
-    let _inst = inst;
+    inst.fits();
     if feasible { Some(end.as_slice()) } else { None }
 }
 

@@ -1,6 +1,6 @@
 //! The splits of a certificate.
 ghost use Rattle.std.specs.Prelude.{◌≡◌, ◌≤◌, [], ◌∷◌};
-ghost use Rattle.descent_ends.specs.Turns.{split_count};
+ghost use Rattle.branch_search.specs.Splits.{split_count};
 
 use certificate_tree::Node;
 

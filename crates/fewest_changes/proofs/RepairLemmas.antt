@@ -1,6 +1,6 @@
 -- What a search for few changes and what its best plan gives back come to.
 use Rattle.std.proofs.Common.{◌≡◌, ◌⊎◌, inl, inr, ℕ, ◌*◌, ◌<◌, ◌≤◌, refl, sym, ◌∙◌, ap, subst, arith, ℤ, pos}
-use Rattle.std.proofs.Common.{◌≤ℤ◌, List, length, Option, Some, None, All, Any, Bool, true, false, IsTrue}
+use Rattle.std.proofs.Common.{zero-add, ◌≤ℤ◌, List, length, Option, Some, None, All, Any, Bool, true, false, IsTrue}
 use Rattle.std.specs.Bool.{OnFalse}
 use Rattle.std.proofs.lemmas.List.Elements.{All-weaker}
 use Rattle.fixed_num.proofs.SignedLemmas.{signed_arith}
@@ -18,10 +18,11 @@ use Rattle.branch_search.specs.declared.tree_end.TreeEnd.{TreeEnd}
 use Rattle.branch_search.specs.Best.{IsBestOver, IsNoWorse, bound_of}
 use Rattle.branch_search.specs.Searched.{IsBounding, IsAmong, IsLeastOf, IsUnfinishedLeaf, IsSearched}
 use Rattle.plan_changes.specs.Changes.{changes_of, change_base, change_value, least_changes, BoundsCountChanges}
-use Rattle.descent_ends.specs.Turns.{split_count, AreEnough}
+use Rattle.branch_search.specs.Splits.{split_count}
+use Rattle.descent_ends.specs.Turns.{AreEnough}
 use Rattle.descent_ends.proofs.SplitLemmas.{splits_are}
 use Rattle.fewest_changes.specs.Incumbents.{IsBackFrom}
-use Rattle.fewest_changes.specs.Repaired.{IsRepairTree, IsRepaired}
+use Rattle.fewest_changes.specs.Repaired.{change_worths, IsRepairTree, IsRepaired}
 
 -- ---- values
 
@@ -85,11 +86,23 @@ same_plan a b e = cc
 
 module _ (inst : Tables) (old : List (Option ℕ)) (turns : ℕ) (given : Option (List ℕ)) (answer : TreeEnd)
     (searched : IsSearched (change_base old) (change_value old) inst None given turns answer) where
+  -- what is said of leaves and of the bound, by a best plan
+  abbrev Bounding : Option (List ℕ) → Leaf → Type 0
+  Bounding o leaf = IsBounding (change_value old) inst (length answer.cert.lists) (change_worths old inst answer.cert)
+      o leaf.box leaf.node
+
+  abbrev Among : Option (List ℕ) → ℤ → Type 0
+  Among o = IsAmong (change_value old) inst (change_worths old inst answer.cert) o
+      (leaves (root_box inst) searched.by.tree)
+
+  abbrev Unfinished : Option (List ℕ) → Leaf → Type 0
+  Unfinished o = IsUnfinishedLeaf (change_value old) inst (change_worths old inst answer.cert) o
+
   -- a search that is finished has the bound that says so
   finished : answer.unfinished ≡ false → answer.cert.bound ≡ bound_of (change_value old) inst answer.best
   finished is =
       subst (λ (b : Bool). OnFalse b (answer.cert.bound ≡ bound_of (change_value old) inst answer.best)) is
-      searched.finished
+      searched.by.finished
 
   -- the search is finished, or has made as many splits as turns
   all_or_spent : (answer.unfinished ≡ false) ⊎ ((split_count answer.cert.nodes ≡ turns) × IsTrue answer.unfinished)
@@ -97,7 +110,10 @@ module _ (inst : Tables) (old : List (Option ℕ)) (turns : ℕ) (given : Option
     where
       at : (b : Bool) → answer.unfinished ≡ b
           → (answer.unfinished ≡ false) ⊎ ((split_count answer.cert.nodes ≡ turns) × IsTrue answer.unfinished)
-      at true e = inr (splits_are inst answer.cert searched.tree searched.of_nodes ∙ searched.spent e, e)
+      at true e = inr (
+        splits_are inst answer.cert searched.by.tree searched.by.of_nodes ∙ searched.by.spent e ∙ zero-add turns,
+        e,
+      )
       at false e = inl e
 
   -- ---- where there is a best plan
@@ -105,14 +121,13 @@ module _ (inst : Tables) (old : List (Option ℕ)) (turns : ℕ) (given : Option
   module _ (best plan : List ℕ) (is : answer.best ≡ Some best) (back : IsBackFrom inst old best plan)
       (bounds : BoundsPlans (change_value old) inst answer.cert.bound) where
     best_is : IsNoWorse (change_value old) inst given best
-    best_is = subst (IsBestOver (change_value old) inst given) is searched.best
+    best_is = subst (IsBestOver (change_value old) inst given) is searched.by.best
 
     no_more : change_value old inst plan ≤ℤ change_value old inst best
     no_more = value_le old inst plan best back.few
 
-    bounding_at : (box : List Span) (node : Node)
-        → IsBounding (change_base old) (change_value old) inst answer.cert.lists (Some best) box node
-        → IsBounding (change_base old) (change_value old) inst answer.cert.lists (Some plan) box node
+    bounding_at : (box : List Span) (node : Node) → Bounding (Some best) (record { box = box; node = node })
+        → Bounding (Some plan) (record { box = box; node = node })
     bounding_at box (Split i m) h = tt
     bounding_at box (Cost j) h = record {
       unrefuted = h.unrefuted;
@@ -124,23 +139,13 @@ module _ (inst : Tables) (old : List (Option ℕ)) (turns : ℕ) (given : Option
     bounding_at box (Excl e) h = tt
     bounding_at box (Empty i) h = tt
 
-    bounding : All (λ leaf. IsBounding (change_base old) (change_value old) inst answer.cert.lists (Some plan)
-        leaf.box leaf.node) (leaves (root_box inst) searched.tree)
-    bounding =
-        All-weaker
-        (λ (leaf : Leaf). IsBounding (change_base old) (change_value old) inst answer.cert.lists (Some best) leaf.box
-        leaf.node)
-        (λ (leaf : Leaf). IsBounding (change_base old) (change_value old) inst answer.cert.lists (Some plan) leaf.box
-        leaf.node)
-        (λ leaf h. bounding_at leaf.box leaf.node h) (leaves (root_box inst) searched.tree)
-        (subst (λ (o : Option (List ℕ)). All (λ leaf. IsBounding (change_base old) (change_value old) inst
-        answer.cert.lists o leaf.box leaf.node) (leaves (root_box inst) searched.tree)) is searched.bounding)
+    bounding : All (Bounding (Some plan)) (leaves (root_box inst) searched.by.tree)
+    bounding = All-weaker (Bounding (Some best)) (Bounding (Some plan)) (λ leaf h. bounding_at leaf.box leaf.node h)
+        (leaves (root_box inst) searched.by.tree)
+        (subst (λ (o : Option (List ℕ)). All (Bounding o) (leaves (root_box inst) searched.by.tree)) is
+        searched.by.bounding)
 
     -- the bound is at most the value of the plan
-    abbrev Among : Option (List ℕ) → ℤ → Type 0
-    Among o = IsAmong (change_base old) (change_value old) inst answer.cert.lists o
-        (leaves (root_box inst) searched.tree)
-
     reached : IsAtLeast answer.cert.bound (change_value old inst plan)
     reached = bounds plan back.plan.each back.plan.feasible
 
@@ -176,18 +181,18 @@ module _ (inst : Tables) (old : List (Option ℕ)) (turns : ℕ) (given : Option
     bound_at NoPlan e h = absurd (h (change_value old inst best) (inl (best, refl, refl)))
 
     best_bound : IsLeastOf (Among (Some best)) answer.cert.bound
-    best_bound = subst (λ (o : Option (List ℕ)). IsLeastOf (Among o) answer.cert.bound) is searched.bound
+    best_bound = subst (λ (o : Option (List ℕ)). IsLeastOf (Among o) answer.cert.bound) is searched.by.bound
 
     -- the tree for the plan that is given back
     pub found_tree : IsRepairTree inst old turns given (Some plan) answer.cert
     found_tree = record {
       version = searched.version;
       lists = searched.lists;
-      tree = searched.tree;
-      of_nodes = searched.of_nodes;
-      holds = searched.holds;
-      few = searched.few;
-      splits = searched.splits;
+      tree = searched.by.tree;
+      of_nodes = searched.by.of_nodes;
+      holds = searched.by.holds;
+      few = omega (arith, searched.by.few);
+      splits = searched.by.splits refl;
       bounding = bounding;
       no_worse = record {
         feasible = back.plan;
@@ -236,20 +241,19 @@ module _ (inst : Tables) (old : List (Option ℕ)) (turns : ℕ) (given : Option
     no_tree = record {
       version = searched.version;
       lists = searched.lists;
-      tree = searched.tree;
-      of_nodes = searched.of_nodes;
-      holds = searched.holds;
-      few = searched.few;
-      splits = searched.splits;
-      bounding = subst (λ (o : Option (List ℕ)). All (λ leaf. IsBounding (change_base old) (change_value old) inst
-          answer.cert.lists o leaf.box leaf.node) (leaves (root_box inst) searched.tree)) is searched.bounding;
-      no_worse = subst (IsBestOver (change_value old) inst given) is searched.best;
-      bound = subst (λ (o : Option (List ℕ)). IsLeastOf (IsAmong (change_base old) (change_value old) inst
-          answer.cert.lists o (leaves (root_box inst) searched.tree)) answer.cert.bound) is searched.bound;
+      tree = searched.by.tree;
+      of_nodes = searched.by.of_nodes;
+      holds = searched.by.holds;
+      few = omega (arith, searched.by.few);
+      splits = searched.by.splits refl;
+      bounding = subst (λ (o : Option (List ℕ)). All (Bounding o) (leaves (root_box inst) searched.by.tree)) is
+          searched.by.bounding;
+      no_worse = subst (IsBestOver (change_value old) inst given) is searched.by.best;
+      bound = subst (λ (o : Option (List ℕ)). IsLeastOf (Among o) answer.cert.bound) is searched.by.bound;
     }
 
     pub none_given : given ≡ None
-    none_given = subst (IsBestOver (change_value old) inst given) is searched.best
+    none_given = subst (IsBestOver (change_value old) inst given) is searched.by.best
 
     module _ (b : ℤ) (bound : answer.cert.bound ≡ Least b) where
       -- a finished search without a plan has no number as its bound
@@ -266,8 +270,6 @@ module _ (inst : Tables) (old : List (Option ℕ)) (turns : ℕ) (given : Option
           at (inl e) = absurd (unmet e)
           at (inr spent) = spent
 
-      pub nothing_left : Any (IsUnfinishedLeaf (change_base old) (change_value old) inst answer.cert.lists None)
-          (leaves (root_box inst) searched.tree)
-      nothing_left =
-          subst (λ (o : Option (List ℕ)). Any (IsUnfinishedLeaf (change_base old) (change_value old) inst
-          answer.cert.lists o) (leaves (root_box inst) searched.tree)) is (searched.unfinished.0 nothing_spent.1)
+      pub nothing_left : Any (Unfinished None) (leaves (root_box inst) searched.by.tree)
+      nothing_left = subst (λ (o : Option (List ℕ)). Any (Unfinished o) (leaves (root_box inst) searched.by.tree)) is
+          (searched.by.unfinished.0 nothing_spent.1)

@@ -11,19 +11,24 @@ use Rattle.certificate_lines.specs.declared.line.Version.TheVariants.{Two}
 use Rattle.certificate_tree.specs.declared.certificate.Certificate.{Certificate}
 use Rattle.certificate_tree.specs.Trees.{Tree, leaves, root_box}
 use Rattle.certificate_tree.specs.Ranges.{IsTreeOf, IsInRange}
+use Rattle.certificate_tree.specs.Holding.{Worths, worth_by}
 use Rattle.certificate_tree.specs.Validity.{CertLeafHolds, IsValid}
-use Rattle.branch_search.specs.Splits.{split_boxes}
+use Rattle.branch_search.specs.Splits.{split_boxes, split_count}
 use Rattle.branch_search.specs.Best.{IsBestOver}
 use Rattle.branch_search.specs.Searched.{IsSplitBox, IsBounding, IsAmong, IsLeastOf, IsUnfinishedLeaf}
 use Rattle.plan_changes.specs.Changes.{changes_of, change_base, change_value, least_changes}
 use Rattle.plan_changes.specs.Returning.{NoneCanGoBack}
 use Rattle.descent_ends.specs.Ends.{end_of, IsDescentFrom}
-use Rattle.descent_ends.specs.Turns.{split_count, AreEnough}
+use Rattle.descent_ends.specs.Turns.{AreEnough}
 use Rattle.fewest_changes.specs.declared.repairing.Repair.{Repair}
 use Rattle.fewest_changes.specs.Openings.{IsKeptOpening}
 use Rattle.fewest_changes.specs.Incumbents.{IsBackFrom, IsIncumbent}
 
 -- ---- the tree
+
+-- the worths of boxes by the lists of a certificate, for the number of changes
+abbrev pub change_worths : List (Option ℕ) → Tables → Certificate → Worths
+change_worths old inst cert = worth_by (change_base old) inst cert.lists
 
 -- A certificate without price lists, and the plan that is answered with it, if there is one, where the search was given
 -- a feasible plan or none. Its tree is in range, has at most so many splits as turns, and each leaf holds. What is said
@@ -37,15 +42,14 @@ pub record IsRepairTree (inst : Tables) (old : List (Option ℕ)) (turns : ℕ) 
   pub of_nodes : IsTreeOf inst cert tree
   pub holds : All (CertLeafHolds (change_base old) (change_value old) inst cert) (leaves (root_box inst) tree)
   pub few : length (split_boxes (root_box inst) tree) ≤ turns
-  pub splits : All (IsSplitBox (change_base old) (change_value old) inst given cert)
-      (split_boxes (root_box inst) tree)
-  pub bounding : All
-      (λ leaf. IsBounding (change_base old) (change_value old) inst cert.lists plan leaf.box leaf.node)
+  pub splits : All (IsSplitBox (change_value old) inst (length cert.lists) (change_worths old inst cert) given
+      cert.bound) (split_boxes (root_box inst) tree)
+  pub bounding : All (λ leaf.
+      IsBounding (change_value old) inst (length cert.lists) (change_worths old inst cert) plan leaf.box leaf.node)
       (leaves (root_box inst) tree)
   pub no_worse : IsBestOver (change_value old) inst given plan
-  pub bound : IsLeastOf (IsAmong (change_base old) (change_value old) inst cert.lists plan (leaves (root_box inst)
-      tree))
-      cert.bound
+  pub bound : IsLeastOf
+      (IsAmong (change_value old) inst (change_worths old inst cert) plan (leaves (root_box inst) tree)) cert.bound
 
 -- a plan to set out from, the plan that the search is given, if there is one, and the tree
 pub record IsRepairOf (inst : Tables) (old : List (Option ℕ)) (turns : ℕ) (plan : Option (List ℕ)) (cert : Certificate)
@@ -77,7 +81,7 @@ pub record IsNothing (inst : Tables) (old : List (Option ℕ)) (turns : ℕ) (bo
   pub bound_is : cert.bound ≡ Least bound
   pub spent : split_count cert.nodes ≡ turns
   pub too_few : AreEnough inst turns → ⊥
-  pub left : Any (IsUnfinishedLeaf (change_base old) (change_value old) inst cert.lists None)
+  pub left : Any (IsUnfinishedLeaf (change_value old) inst (change_worths old inst cert) None)
       (leaves (root_box inst) made.found.tree)
   pub opening_infeasible : ¬ IsFeasible inst (map Some made.opening)
   pub changes : List Change

@@ -15,5 +15,5 @@ pub use laws::{
 };
 pub use names::{is_name, number_of};
 pub use required::{missing_key, text_of};
-pub use seen::{add_number, add_text};
+pub use seen::add_text;
 pub use spot::{Kind, Spot, element, kind_of, under};

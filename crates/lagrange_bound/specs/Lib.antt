@@ -9,6 +9,7 @@ pub mod Boxes
 pub mod Worth
 pub mod Pricings
 pub mod Tabulated
+pub mod PricedTables
 pub mod TailLemmas
 pub mod TermLemmas
 pub mod SizeLemmas

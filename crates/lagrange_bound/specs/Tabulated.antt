@@ -24,21 +24,30 @@ row_of table i = slice_index_or table.rows i []
 abbrev pub entry_of : PriceRows → ℕ → ℕ → Option ℤ
 entry_of table i s = slice_index_or (row_of table i) (s - 1) None
 
--- the price of a start, or nothing where it isn't allowed
-abbrev pub price_entry : (ℕ → ℕ → ℤ) → Tables → PriceList → ℕ → ℕ → Option ℤ
-price_entry base inst prices i s = if is_allowed inst i s then Some (price_of base inst prices i s) else None
+-- the price of a start by a pricing, or nothing where it isn't allowed
+abbrev pub entry_by : (ℕ → ℕ → ℤ) → Tables → ℕ → ℕ → Option ℤ
+entry_by price inst i s = if is_allowed inst i s then Some (price i s) else None
 
--- the entries of an intervention
+-- the entries of an intervention by a pricing
+abbrev pub row_by : (ℕ → ℕ → ℤ) → Tables → ℕ → List (Option ℤ)
+row_by price inst i = map (entry_by price inst i) (range_with_len 1 (tmax inst i))
+
+-- the entries of all interventions by a pricing
+abbrev pub rows_by : (ℕ → ℕ → ℤ) → Tables → List (List (Option ℤ))
+rows_by price inst = map (row_by price inst) (range_with_len 0 (length inst.names))
+
+-- an entry by a price list
+abbrev pub price_entry : (ℕ → ℕ → ℤ) → Tables → PriceList → ℕ → ℕ → Option ℤ
+price_entry base inst prices = entry_by (price_of base inst prices) inst
+
+-- the entries of an intervention by a price list
 abbrev pub price_row : (ℕ → ℕ → ℤ) → Tables → PriceList → ℕ → List (Option ℤ)
-price_row base inst prices i = map (price_entry base inst prices i) (range_with_len 1 (tmax inst i))
+price_row base inst prices = row_by (price_of base inst prices) inst
 
 -- the table of these bases and prices
 unfoldable pub table_of : (ℕ → ℕ → ℤ) → Tables → PriceList → PriceRows
 table_of base inst prices =
-    record {
-      rows = map (price_row base inst prices) (range_with_len 0 (length inst.names));
-      fixed = fixed_part inst prices;
-    }
+    record { rows = rows_by (price_of base inst prices) inst; fixed = fixed_part inst prices }
 
 -- the starts of an interval that have a price
 unfoldable pub priced_in : PriceRows → ℕ → Span → List ℕ

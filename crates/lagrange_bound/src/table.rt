@@ -2,13 +2,16 @@
 ghost use Rattle.std.specs.Prelude.{◌≡◌, ℕ, ◌<◌, ◌≤◌, ◌*◌, ◌^◌, List, [], None, IfOk, length, map, pos, unsigned_abs};
 ghost use Rattle.std.specs.Prelude.{slice_index_or, unwrap_or};
 ghost use Rattle.fixed_num.specs.Sums.{sum_below};
+ghost use Rattle.instance_model.specs.Tables.{Tables};
 ghost use Rattle.lagrange_bound.specs.Least.{least_over};
 ghost use Rattle.lagrange_bound.specs.declared.span.Span.{Span};
 ghost use Rattle.lagrange_bound.specs.Lesser.{IsSmallPrice};
 ghost use Rattle.lagrange_bound.specs.Prices.{IsPriceList};
 ghost use Rattle.lagrange_bound.specs.Boxes.{IsBox, HasStarts, span_of};
 ghost use Rattle.lagrange_bound.specs.Worth.{worth_of};
-ghost use Rattle.lagrange_bound.specs.Tabulated.{table_of, row_of, entry_of, priced_in, IsPricedBox, worth_in};
+ghost use Rattle.lagrange_bound.specs.Pricings.{Pricing};
+ghost use Rattle.lagrange_bound.specs.Tabulated.{table_of, row_of, rows_by, entry_of, priced_in, IsPricedBox, worth_in};
+ghost use Rattle.lagrange_bound.specs.PricedTables.{IsPricingTable};
 
 use crate::least_price::least_price;
 use crate::limit_cost::fixed_cost;
@@ -49,6 +52,11 @@ impl PriceTable {
         requires fixed { unsigned_abs fixed < 10 ^ 36 }
         ensures rows { result.rows ≡ map (λ row. row.items) rows.items }
         ensures fixed { result.fixed ≡ fixed }
+
+        // Of the rows and the constant of a pricing, the table gives its worth to each box with starts.
+        ensures pricing { (inst : Tables) (pricing : Pricing) →
+            map (λ row. row.items) rows.items ≡ rows_by pricing.price inst → fixed ≡ pricing.constant →
+            IsPricingTable inst pricing result }
     {
         PriceTable { rows, fixed }
     }
@@ -84,10 +92,7 @@ pub fn tabulate<G: Goal>(
 {
     inst.fits();
     let rows = price_rows(alloc, goal, inst, prices)?;
-    Ok(PriceTable {
-        rows,
-        fixed: fixed_cost(inst, prices),
-    })
+    Ok(PriceTable::from_rows(rows, fixed_cost(inst, prices)))
 }
 
 /// The worth of a box with a price in each interval. Takes no memory.

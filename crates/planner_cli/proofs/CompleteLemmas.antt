@@ -3,14 +3,15 @@ use Rattle.std.proofs.Common.{ℕ, List}
 use Rattle.plan_desk.specs.Desk.{Shown}
 use Rattle.instance_model.specs.declared.limits.Limits.{Limits}
 use Rattle.command_frame.specs.Ending.{NoFault}
+use Rattle.command_frame.specs.Kinds.{plain_kind}
+use Rattle.command_check.proofs.CheckComplete.{check_completes}
+use Rattle.command_rebound.proofs.ReboundComplete.{rebound_completes}
 use Rattle.planner_cli.specs.Outcome.{Outcome}
 use Rattle.planner_cli.specs.Complete.{IsComplete}
 use Rattle.planner_cli.proofs.EvaluateComplete.{evaluate_completes}
 use Rattle.planner_cli.proofs.ReplayComplete.{replay_completes}
-use Rattle.planner_cli.proofs.CheckComplete.{check_completes}
 use Rattle.planner_cli.proofs.SolveComplete.{solve_completes, solve_completes_enough}
 use Rattle.planner_cli.proofs.TableComplete.{table_completes}
-use Rattle.planner_cli.proofs.ReboundComplete.{rebound_completes}
 use Rattle.planner_cli.proofs.RollComplete.{roll_completes}
 use Rattle.planner_cli.proofs.RehearseComplete.{rehearse_completes}
 
@@ -25,8 +26,8 @@ runs_complete limits words old new status run calm =
           replay_completes limits source name script_name files old new status
           (run.replays source name script_name asks) tells calm;
       checks = λ source name cert_name files asks tells.
-          check_completes limits source name cert_name files old new status (run.checks source name cert_name asks)
-          tells calm;
+          check_completes plain_kind limits source name cert_name files old new status
+          (run.checks source name cert_name asks) tells calm;
       solves = λ source files turns inst asks tells.
           solve_completes limits source files turns inst old new status (run.solves source files turns asks) tells
           calm;
@@ -37,7 +38,7 @@ runs_complete limits words old new status run calm =
           table_completes limits source name from to inst plan old new status (run.tabulates source name from to asks)
           tells tells_plan calm;
       rebounds = λ source cert_name out inst cert asks tells tells_cert.
-          rebound_completes limits source cert_name out inst cert old new status
+          rebound_completes plain_kind limits source cert_name out inst cert old new status
           (run.rebounds source cert_name out asks) tells tells_cert calm;
       rolls = λ files period inst plan asks tells tells_plan.
           roll_completes limits files period inst plan old new status (run.rolls files period asks) tells tells_plan

@@ -1,10 +1,8 @@
 pub mod OutcomeLemmas
 pub mod EvaluateComplete
 pub mod ReplayComplete
-pub mod CheckComplete
 pub mod SolveComplete
 pub mod TableComplete
-pub mod ReboundComplete
 pub mod RollComplete
 pub mod RehearseComplete
 pub mod CompleteLemmas

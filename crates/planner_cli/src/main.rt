@@ -3,6 +3,10 @@
 //! `run` is the whole program over any device; `main` runs it over real files and standard output.
 #![tactic(auto)]
 
+ghost use Rattle.std.specs.Prelude.{◌≡◌, ◌≢◌};
+ghost use Rattle.std.specs.IoError.{error_kind};
+ghost use Rattle.std.specs.declared.io.ErrorKind.TheVariants.{OutOfMemory};
+
 #[cfg(test)]
 mod check_tests;
 #[cfg(test)]
@@ -50,7 +54,10 @@ fn given_words(rt: &HostRuntime, alloc: Global) -> io::Result<Vec<String>> {
 }
 
 /// The status where the system refuses the words.
-fn no_words_status(error: &io::Error) -> u8 {
+fn no_words_status(error: &io::Error) -> u8
+    ensures memory { error_kind error.now ≡ OutOfMemory → result ≡ 11 }
+    ensures other { error_kind error.now ≢ OutOfMemory → result ≡ 13 }
+{
     match error.kind() {
         io::ErrorKind::OutOfMemory => 11,
         _ => 13,

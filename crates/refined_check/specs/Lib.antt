@@ -1,6 +1,5 @@
 -- What the contracts cite.
-pub mod Holding
-pub mod Priced
+pub mod Worths
 pub mod Validity
 pub mod Laws
 pub mod Singles

@@ -1,4 +1,4 @@
-//! The walk over the nodes of a certificate: its contract is the verdict, and what that proves.
+//! The check of a certificate by the tables of its lists: its contract is the verdict, and what that proves.
 ghost use Rattle.std.specs.Prelude.{◌≡◌, IfOk};
 ghost use Rattle.lagrange_bound.specs.Goals.{risk_value};
 ghost use Rattle.certificate_tree.specs.Validity.{BoundsPlans};
@@ -6,49 +6,15 @@ ghost use Rattle.certificate_check.specs.declared.verdict.CertVerdict.{CertVerdi
 ghost use Rattle.certificate_check.specs.declared.verdict.CertVerdict.TheVariants.{Valid};
 ghost use Rattle.refined_certificate.specs.Ranges.{IsRefinedInRange};
 ghost use Rattle.refined_check.specs.Validity.{IsRefinedVerdict};
-ghost use Rattle.refined_check.specs.Priced.{AreRefinedTables};
 
 use crate::laws::refined_valid_bounds_plans;
-use crate::leaf::leaf_holds;
 use crate::tables::refined_tables_of;
-use certificate_check::CertVerdict;
-use certificate_tree::{BoxPath, Node, nodes_are_one_tree};
+use certificate_check::{CertVerdict, verdict_by};
+use certificate_tree::{nodes_are_one_tree, same_worths_prove_the_same};
 use instance_model::Instance;
-use lagrange_bound::PriceTable;
+use lagrange_bound::RiskGoal;
 use refined_certificate::RefinedCertificate;
 use std::alloc::{AllocError, Global};
-
-/// The verdict, by one walk over the nodes.
-fn verdict_of(
-    alloc: Global,
-    inst: &Instance,
-    cert: &RefinedCertificate,
-    tables: &[PriceTable],
-) -> Result<CertVerdict, AllocError>
-    requires in_range { IsRefinedInRange inst.now cert.now }
-    requires tables { AreRefinedTables inst.now cert.now.lists tables.now }
-    ensures { IfOk result (IsRefinedVerdict inst.now cert.now) }
-{
-    inst.fits();
-    let mut path = BoxPath::root(alloc, inst)?;
-    let mut leaves: u64 = 0;
-    for node in cert.nodes.as_slice() {
-        if path.has_ended() {
-            break;
-        }
-        match *node {
-            Node::Split { i, last } => path.split(i, last)?,
-            leaf => {
-                if !leaf_holds(alloc, inst, cert, tables, path.spans(), leaf)? {
-                    return Ok(CertVerdict::LeafFails { n: leaves + 1 });
-                }
-                leaves += 1;
-                path.leave();
-            }
-        }
-    }
-    Ok(CertVerdict::Valid)
-}
 
 /// Whether a certificate by refined price lists is valid for the score.
 ///
@@ -71,8 +37,16 @@ pub fn check_refined(
 {
     inst.fits();
     nodes_are_one_tree();
+    same_worths_prove_the_same();
     refined_valid_bounds_plans();
     let tables = refined_tables_of(alloc, inst, cert.lists.as_slice())?;
-    let verdict = verdict_of(alloc, inst, cert, tables.as_slice())?;
+    let verdict = verdict_by(
+        alloc,
+        &RiskGoal,
+        inst,
+        cert.bound,
+        cert.nodes.as_slice(),
+        tables.as_slice(),
+    )?;
     Ok(verdict)
 }

@@ -1,10 +1,11 @@
 //! The price tables of a certificate's lists, the list of zeros first.
 ghost use Rattle.std.specs.Prelude.{◌≡◌, length, map, All, IfOk};
 ghost use Rattle.std.specs.List.{range_with_len};
+ghost use Rattle.lagrange_bound.specs.PricedTables.{IsPricingTable};
 ghost use Rattle.refined_prices.specs.RefinedLists.{IsRefinedList};
 ghost use Rattle.refined_prices.specs.RefinedWorth.{refined_constant, refined_pricing};
 ghost use Rattle.refined_tables.specs.RefinedRows.{refined_row};
-ghost use Rattle.refined_check.specs.Priced.{IsPricingTable, AreRefinedTables};
+ghost use Rattle.refined_check.specs.Worths.{AreRefinedTables};
 
 use instance_model::Instance;
 use lagrange_bound::{PriceTable, Prices, RiskGoal, tabulate};

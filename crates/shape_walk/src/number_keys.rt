@@ -1,6 +1,6 @@
 //! Numbers of which nearly always each is one above the last.
 
-ghost use Rattle.std.specs.Prelude.{◌≡◌, ◌∷◌, [], ◌++◌, false, not, IfOk, IsTrue};
+ghost use Rattle.std.specs.Prelude.{◌≡◌, ◌∷◌, [], ◌++◌, false, not, IfOk, OnErr, IsTrue};
 ghost use Rattle.instance_shape.specs.Keys.{has_key, by_number};
 ghost use Rattle.instance_shape.specs.Seen.{numbers_of};
 ghost use Rattle.shape_walk.specs.Ascending.{comes_next};
@@ -35,11 +35,12 @@ impl NumberKeys {
         }
     }
 
-    /// Adds a number, and says whether it is new.
+    /// Adds a number, and says whether it is new. After want of memory the numbers are as before.
     pub fn add(&mut self, number: u32) -> Result<bool, AllocError>
         ensures new { IfOk result (λ new. new ≡ not (has_key (numbers_of self.old) (by_number number))) }
         ensures added { IfOk result (λ new. IsTrue new → self.new ≡ self.old ++ number ∷ []) }
         ensures kept { IfOk result (λ new. new ≡ false → self.new ≡ self.old) }
+        ensures err { OnErr result (self.new ≡ self.old) }
     {
         if self.others.len() == 0 && self.run.lengthen(number) {
             return Ok(true);

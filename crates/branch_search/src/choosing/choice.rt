@@ -6,26 +6,26 @@ ghost use Rattle.lagrange_bound.specs.Tabulated.{IsPricedBox};
 ghost use Rattle.certificate_tree.specs.Trees.{IsSplit};
 ghost use Rattle.certificate_tree.specs.Holding.{IsSingle};
 ghost use Rattle.box_state.specs.KeptLoads.{IsOver};
-ghost use Rattle.branch_search.specs.Tasks.{free_task};
 ghost use Rattle.branch_search.specs.Settled.{IsImprovedIn};
-ghost use Rattle.branch_search.specs.Pricing.{IsPricedByGiven};
+ghost use Rattle.branch_search.specs.Pricing.{ArePricedOver, IsLeadingOver};
 ghost use Rattle.branch_search.specs.Valued.{plan_in, IsValued};
 
 use crate::best::Best;
 use crate::choosing::cover::{Cover, better};
 use crate::choosing::cut::{Cut, Slacks, band_cut, exclusion_cut, longer, price_cut};
+use crate::choosing::leading::{Leading, leading_in};
 use crate::choosing::least_plan::LeastPlan;
 use crate::choosing::load_ranges::LoadRanges;
 use crate::choosing::middle::middle;
 use crate::choosing::separation::{CoverRoom, PlanView, separate};
 use crate::choosing::start_prices::least_price;
-use crate::closing::{Worths, greatest_worth, take_starts};
+use crate::closing::take_starts;
 use box_state::BoxLoads;
 use instance_model::Instance;
-use lagrange_bound::{Goal, PriceTable, Prices, Span, worth};
+use lagrange_bound::{Goal, PriceTable, Span, worth};
 use std::alloc::{AllocError, Global};
 
-/// What is kept for separation by one list: the plan of least prices, and room.
+/// What is kept for separation by one table: the plan of least prices, and room.
 #[derive(Drop)]
 struct Separator {
     plan: LeastPlan,
@@ -33,13 +33,14 @@ struct Separator {
 }
 
 /// What is kept for choices: the loads of each intervention, what each place has left, and what is kept for separation
-/// by the list of zeros and by the one handed in.
+/// by the table of list 0 and by the other one that led last, which has this number.
 #[derive(Drop)]
 pub(crate) struct Chooser {
     ranges: LoadRanges,
     slacks: Slacks,
-    zero: Separator,
-    given: Separator,
+    first: Separator,
+    other: Separator,
+    number: usize,
 }
 
 /// The middle of an interval of several starts: the last start of its first half.
@@ -56,29 +57,43 @@ impl Separator {
             room: CoverRoom::make(alloc, inst, ranges)?,
         })
     }
+
+    /// Forgets what was found by the prices of a table.
+    fn forget(&mut self) {
+        self.plan.forget();
+        self.room.forget();
+    }
 }
 
 impl Chooser {
     pub(crate) fn make(alloc: Global, inst: &Instance) -> Result<Chooser, AllocError> {
         let ranges = LoadRanges::make(alloc, inst)?;
-        let zero = Separator::make(alloc, inst, &ranges)?;
-        let given = Separator::make(alloc, inst, &ranges)?;
+        let first = Separator::make(alloc, inst, &ranges)?;
+        let other = Separator::make(alloc, inst, &ranges)?;
         Ok(Chooser {
             ranges,
             slacks: Slacks::make(alloc, inst)?,
-            zero,
-            given,
+            first,
+            other,
+            number: 0,
         })
+    }
+
+    /// Lets the other table be the one of this number.
+    fn follow_other(&mut self, number: usize) {
+        if self.number != number {
+            self.number = number;
+            self.other.forget();
+        }
     }
 }
 
-/// Separates the plan of least prices by one list: where it breaks nothing, it is judged, and it may become the best
+/// Separates the plan of least prices by one table: where it breaks nothing, it is judged, and it may become the best
 /// plan; else the best cover is the answer, where there is one.
 fn separate_by<G: Goal>(
     alloc: Global,
     goal: &G,
     inst: &Instance,
-    lists: &[Prices],
     table: &PriceTable,
     boxes: &BoxLoads,
     ranges: &LoadRanges,
@@ -90,8 +105,7 @@ fn separate_by<G: Goal>(
     requires spans { IsBox inst.now boxes.now.spans }
     requires priced { IsPricedBox table.now boxes.now.spans }
     requires valued { IsValued (G.value_gives goal.now) inst.now best.old }
-    ensures improved { OnOk result (IsImprovedIn
-        (free_task (G.base_gives goal.now) (G.value_gives goal.now) inst.now lists.now) boxes.now.spans
+    ensures improved { OnOk result (IsImprovedIn (G.value_gives goal.now) inst.now boxes.now.spans
         (plan_in best.old) (plan_in best.new)) }
     ensures valued { OnOk result (IsValued (G.value_gives goal.now) inst.now best.new) }
 {
@@ -112,15 +126,7 @@ fn separate_by<G: Goal>(
     };
     let separated = separate(&view, room)?;
     if !separated.is_broken && !plan.is_judged {
-        take_starts(
-            alloc,
-            goal,
-            inst,
-            lists,
-            spans,
-            plan.starts.as_slice(),
-            best,
-        )?;
+        take_starts(alloc, goal, inst, spans, plan.starts.as_slice(), best)?;
         plan.is_judged = true;
     }
     Ok(separated.cover)
@@ -193,26 +199,27 @@ fn split_or_middle(spans: &[Span], table: &PriceTable, found: Option<Cover>) -> 
 }
 
 /// What the worth of a box is to come to: the value of the best plan, or an eighth above the worth where there is none.
-fn target_of(worths: &Worths, spans: &[Span], best: &Option<Best>) -> i128
-    requires zero { IsPricedBox worths.now.zero spans.now }
-    requires given { IsPricedByGiven worths.now.given spans.now }
+fn target_of(leading: &Leading<'_>, spans: &[Span], best: &Option<Best>) -> i128
+    requires { IsLeadingOver spans.now leading.now }
 {
     if let Some(best) = best {
         return best.value;
     }
-    let (_, worth) = greatest_worth(worths, spans);
-    worth.saturating_add(worth.saturating_abs() / 8)
+    let mut most = worth(leading.first, spans);
+    if let Some(table) = leading.other {
+        most = most.max(worth(table, spans));
+    }
+    most.saturating_add(most.saturating_abs() / 8)
 }
 
-/// The longest cut by the prices of both lists.
-fn dearest_cut(worths: &Worths, spans: &[Span], value: i128) -> Option<Cut>
+/// The longest cut by the prices of the leading tables.
+fn dearest_cut(leading: &Leading<'_>, spans: &[Span], value: i128) -> Option<Cut>
     requires few { length spans.now ≤ 1024 }
-    requires zero { IsPricedBox worths.now.zero spans.now }
-    requires given { IsPricedByGiven worths.now.given spans.now }
+    requires leading { IsLeadingOver spans.now leading.now }
 {
-    let lacking = value.saturating_sub(worth(&worths.zero, spans));
-    let first = price_cut(&worths.zero, spans, lacking);
-    let Some(table) = &worths.given else {
+    let lacking = value.saturating_sub(worth(leading.first, spans));
+    let first = price_cut(leading.first, spans, lacking);
+    let Some(table) = leading.other else {
         return first;
     };
     let lacking = value.saturating_sub(worth(table, spans));
@@ -222,23 +229,23 @@ fn dearest_cut(worths: &Worths, spans: &[Span], value: i128) -> Option<Cut>
 /// The longest cut that closes one part of a box.
 fn closing_cut(
     inst: &Instance,
-    worths: &Worths,
+    leading: &Leading<'_>,
     boxes: &BoxLoads,
     chooser: &mut Chooser,
     best: &Option<Best>,
 ) -> Option<Cut>
     requires few { length boxes.now.spans ≤ 1024 }
     requires over { IsOver inst.now boxes.now }
-    requires zero { IsPricedBox worths.now.zero boxes.now.spans }
-    requires given { IsPricedByGiven worths.now.given boxes.now.spans }
+    requires leading { IsLeadingOver boxes.now.spans leading.now }
 {
     let spans = boxes.spans();
-    chooser.ranges.follow(inst, &worths.zero, spans);
+    let table = leading.first;
+    chooser.ranges.follow(inst, table, spans);
     chooser.slacks.follow(inst, boxes);
-    let mut found = band_cut(&chooser.ranges, &chooser.slacks, &worths.zero, spans);
+    let mut found = band_cut(&chooser.ranges, &chooser.slacks, table, spans);
     found = longer(found, exclusion_cut(inst, spans));
     if let Some(best) = best {
-        found = longer(found, dearest_cut(worths, spans, best.value));
+        found = longer(found, dearest_cut(leading, spans, best.value));
     }
     found
 }
@@ -246,18 +253,17 @@ fn closing_cut(
 /// A split that closes one part of a box, where there is one.
 fn closing_split(
     inst: &Instance,
-    worths: &Worths,
+    leading: &Leading<'_>,
     boxes: &BoxLoads,
     chooser: &mut Chooser,
     best: &Option<Best>,
 ) -> Option<(u32, u32)>
     requires few { length boxes.now.spans ≤ 1024 }
     requires over { IsOver inst.now boxes.now }
-    requires zero { IsPricedBox worths.now.zero boxes.now.spans }
-    requires given { IsPricedByGiven worths.now.given boxes.now.spans }
+    requires leading { IsLeadingOver boxes.now.spans leading.now }
     ensures { IfSome result (λ place. IsSplit boxes.now.spans place.0 place.1) }
 {
-    let cut = closing_cut(inst, worths, boxes, chooser, best)?;
+    let cut = closing_cut(inst, leading, boxes, chooser, best)?;
     if is_split(boxes.spans(), cut.i, cut.last) {
         Some((cut.i, cut.last))
     } else {
@@ -265,53 +271,36 @@ fn closing_split(
     }
 }
 
-/// Chooses the split of a box by its plans of least prices, which are judged where they break nothing.
-fn choose_by_plans<G: Goal>(
+/// The better cover of the plans of least prices by the leading tables, where there is one. Plans that break nothing
+/// are judged.
+fn cover_by_plans<G: Goal>(
     alloc: Global,
     goal: &G,
     inst: &Instance,
-    lists: &[Prices],
-    worths: &Worths,
+    leading: &Leading<'_>,
     boxes: &BoxLoads,
     chooser: &mut Chooser,
     best: &mut Option<Best>,
-) -> Result<Option<(u32, u32)>, AllocError>
+) -> Result<Option<Cover>, AllocError>
     requires over { IsOver inst.now boxes.now }
     requires spans { IsBox inst.now boxes.now.spans }
-    requires zero { IsPricedBox worths.now.zero boxes.now.spans }
-    requires given { IsPricedByGiven worths.now.given boxes.now.spans }
+    requires leading { IsLeadingOver boxes.now.spans leading.now }
     requires valued { IsValued (G.value_gives goal.now) inst.now best.old }
-    ensures some { IfOk result (λ place. IfSome place (λ at. IsSplit boxes.now.spans at.0 at.1)) }
-    ensures none { IfOk result (λ place. IfNone place (IsSingle boxes.now.spans)) }
-    ensures improved { OnOk result (IsImprovedIn
-        (free_task (G.base_gives goal.now) (G.value_gives goal.now) inst.now lists.now) boxes.now.spans
+    ensures improved { OnOk result (IsImprovedIn (G.value_gives goal.now) inst.now boxes.now.spans
         (plan_in best.old) (plan_in best.new)) }
     ensures valued { OnOk result (IsValued (G.value_gives goal.now) inst.now best.new) }
 {
-    inst.fits();
-    let target = target_of(worths, boxes.spans(), best);
+    let target = target_of(leading, boxes.spans(), best);
+    let (table, kept) = (leading.first, &mut chooser.first);
     let ranges = &chooser.ranges;
-    let zero = &mut chooser.zero;
-    let first = separate_by(
-        alloc,
-        goal,
-        inst,
-        lists,
-        &worths.zero,
-        boxes,
-        ranges,
-        zero,
-        target,
-        best,
-    )?;
-    let Some(table) = &worths.given else {
-        return Ok(split_or_middle(boxes.spans(), &worths.zero, first));
+    let first = separate_by(alloc, goal, inst, table, boxes, ranges, kept, target, best)?;
+    let Some(table) = leading.other else {
+        return Ok(first);
     };
-    let given = &mut chooser.given;
-    let second = separate_by(
-        alloc, goal, inst, lists, table, boxes, ranges, given, target, best,
-    )?;
-    Ok(split_or_middle(boxes.spans(), table, better(second, first)))
+    chooser.follow_other(leading.number);
+    let (ranges, kept) = (&chooser.ranges, &mut chooser.other);
+    let second = separate_by(alloc, goal, inst, table, boxes, ranges, kept, target, best)?;
+    Ok(better(second, first))
 }
 
 /// Chooses the split of a box. Where it closes neither part, the plans of least prices are judged.
@@ -319,27 +308,28 @@ pub(crate) fn choose<G: Goal>(
     alloc: Global,
     goal: &G,
     inst: &Instance,
-    lists: &[Prices],
-    worths: &Worths,
+    tables: &[PriceTable],
     boxes: &BoxLoads,
     chooser: &mut Chooser,
     best: &mut Option<Best>,
 ) -> Result<Option<(u32, u32)>, AllocError>
     requires over { IsOver inst.now boxes.now }
     requires spans { IsBox inst.now boxes.now.spans }
-    requires zero { IsPricedBox worths.now.zero boxes.now.spans }
-    requires given { IsPricedByGiven worths.now.given boxes.now.spans }
+    requires tables { ArePricedOver boxes.now.spans tables.now }
     requires valued { IsValued (G.value_gives goal.now) inst.now best.old }
     ensures some { IfOk result (λ place. IfSome place (λ at. IsSplit boxes.now.spans at.0 at.1)) }
     ensures none { IfOk result (λ place. IfNone place (IsSingle boxes.now.spans)) }
-    ensures improved { OnOk result (IsImprovedIn
-        (free_task (G.base_gives goal.now) (G.value_gives goal.now) inst.now lists.now) boxes.now.spans
+    ensures improved { OnOk result (IsImprovedIn (G.value_gives goal.now) inst.now boxes.now.spans
         (plan_in best.old) (plan_in best.new)) }
     ensures valued { OnOk result (IsValued (G.value_gives goal.now) inst.now best.new) }
 {
     inst.fits();
-    if let Some(place) = closing_split(inst, worths, boxes, chooser, best) {
+    let spans = boxes.spans();
+    let leading = leading_in(tables, spans);
+    if let Some(place) = closing_split(inst, &leading, boxes, chooser, best) {
         return Ok(Some(place));
     }
-    choose_by_plans(alloc, goal, inst, lists, worths, boxes, chooser, best)
+    let cover = cover_by_plans(alloc, goal, inst, &leading, boxes, chooser, best)?;
+    let table = leading.other.unwrap_or(leading.first);
+    Ok(split_or_middle(spans, table, cover))
 }

@@ -98,7 +98,12 @@ impl LeastPlan {
         }
     }
 
-    /// Takes over the least prices of a box. The table is the same at each call.
+    /// Forgets the intervals, so that the next box may be followed by another table.
+    pub(crate) fn forget(&mut self) {
+        self.spans.fill(Span { from: 1, to: 0 });
+    }
+
+    /// Takes over the least prices of a box. The table is the same at each call since the intervals were forgotten.
     pub(crate) fn follow(&mut self, inst: &Instance, table: &PriceTable, spans: &[Span]) {
         for i in 0..inst.interventions() {
             if let Some(span) = spans.get(i as usize) {

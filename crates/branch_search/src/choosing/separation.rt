@@ -101,6 +101,11 @@ impl CoverRoom {
         }
     }
 
+    /// Forgets what is kept of all interventions, where their plan is another.
+    pub(crate) fn forget(&mut self) {
+        self.kept.fill(UNKNOWN);
+    }
+
     /// Takes over the intervals of a box. The plan's starts are those of least prices in them.
     pub(crate) fn follow(&mut self, inst: &Instance, ranges: &LoadRanges, spans: &[Span]) {
         for i in 0..inst.interventions() {

@@ -6,13 +6,12 @@ ghost use Rattle.certificate_tree.specs.Trees.{AreStartsIn};
 ghost use Rattle.certificate_tree.specs.Holding.{IsSingle, first_starts};
 ghost use Rattle.branch_search.specs.Best.{IsReached};
 ghost use Rattle.branch_search.specs.Searched.{IsPointLeaf};
-ghost use Rattle.branch_search.specs.Tasks.{free_task};
 ghost use Rattle.branch_search.specs.Settled.{IsImprovedIn};
 ghost use Rattle.branch_search.specs.Valued.{plan_in, IsValued};
 
 use crate::best::{Best, is_below};
 use instance_model::{Instance, Starts, plan_of};
-use lagrange_bound::{Goal, Prices, Span};
+use lagrange_bound::{Goal, Span};
 use plan_score::broken_rule;
 use std::alloc::{AllocError, Global};
 
@@ -59,7 +58,6 @@ fn take_plan<G: Goal>(
     alloc: Global,
     goal: &G,
     inst: &Instance,
-    lists: &[Prices],
     spans: &[Span],
     starts: &[u32],
     best: &mut Option<Best>,
@@ -67,14 +65,12 @@ fn take_plan<G: Goal>(
     requires spans { IsBox inst.now spans.now }
     requires inside { AreStartsIn spans.now starts.now }
     requires valued { IsValued (G.value_gives goal.now) inst.now best.old }
-    ensures improved { OnOk result (IsImprovedIn
-        (free_task (G.base_gives goal.now) (G.value_gives goal.now) inst.now lists.now) spans.now
+    ensures improved { OnOk result (IsImprovedIn (G.value_gives goal.now) inst.now spans.now
         (plan_in best.old) (plan_in best.new)) }
     ensures reached { OnOk result (IsFeasible inst.now (map Some starts.now) →
         IsReached (G.value_gives goal.now) inst.now (plan_in best.new) (G.value_gives goal.now inst.now starts.now)) }
     ensures valued { OnOk result (IsValued (G.value_gives goal.now) inst.now best.new) }
 {
-    let _lists = lists;
     let _spans = spans;
     let plan = plan_of(alloc, starts)?;
     if broken_rule(inst, plan.as_slice()).is_some() {
@@ -97,20 +93,18 @@ pub(crate) fn take_starts<G: Goal>(
     alloc: Global,
     goal: &G,
     inst: &Instance,
-    lists: &[Prices],
     spans: &[Span],
     starts: &[u32],
     best: &mut Option<Best>,
 ) -> Result<(), AllocError>
     requires spans { IsBox inst.now spans.now }
     requires valued { IsValued (G.value_gives goal.now) inst.now best.old }
-    ensures improved { OnOk result (IsImprovedIn
-        (free_task (G.base_gives goal.now) (G.value_gives goal.now) inst.now lists.now) spans.now
+    ensures improved { OnOk result (IsImprovedIn (G.value_gives goal.now) inst.now spans.now
         (plan_in best.old) (plan_in best.new)) }
     ensures valued { OnOk result (IsValued (G.value_gives goal.now) inst.now best.new) }
 {
     if are_within(spans, starts) {
-        take_plan(alloc, goal, inst, lists, spans, starts, best)?;
+        take_plan(alloc, goal, inst, spans, starts, best)?;
     }
     Ok(())
 }
@@ -120,20 +114,18 @@ pub(crate) fn take_point<G: Goal>(
     alloc: Global,
     goal: &G,
     inst: &Instance,
-    lists: &[Prices],
     spans: &[Span],
     best: &mut Option<Best>,
 ) -> Result<(), AllocError>
     requires spans { IsBox inst.now spans.now }
     requires single { IsSingle spans.now }
     requires valued { IsValued (G.value_gives goal.now) inst.now best.old }
-    ensures improved { OnOk result (IsImprovedIn
-        (free_task (G.base_gives goal.now) (G.value_gives goal.now) inst.now lists.now) spans.now
+    ensures improved { OnOk result (IsImprovedIn (G.value_gives goal.now) inst.now spans.now
         (plan_in best.old) (plan_in best.new)) }
     ensures reached { OnOk result
         (IsPointLeaf (G.value_gives goal.now) inst.now (plan_in best.new) spans.now) }
     ensures valued { OnOk result (IsValued (G.value_gives goal.now) inst.now best.new) }
 {
     let starts = starts_of(alloc, spans)?;
-    take_plan(alloc, goal, inst, lists, spans, starts.as_slice(), best)
+    take_plan(alloc, goal, inst, spans, starts.as_slice(), best)
 }

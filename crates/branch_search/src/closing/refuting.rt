@@ -1,7 +1,8 @@
 //! A leaf that refutes the current box: an interval without a start, a band, or an exclusion.
-ghost use Rattle.std.specs.Prelude.{◌≡◌, ◌<◌, ◌≤◌, length, slice_set, IfSome, IfNone};
+ghost use Rattle.std.specs.Prelude.{◌≡◌, ℕ, ◌<◌, ◌≤◌, length, slice_set, IsTrue, IfSome, IfNone};
 ghost use Rattle.instance_model.specs.Tables.{tmax};
-ghost use Rattle.lagrange_bound.specs.Boxes.{HasStarts, span_of};
+ghost use Rattle.lagrange_bound.specs.Boxes.{IsBox, HasStarts, span_of};
+ghost use Rattle.certificate_tree.specs.Ranges.{IsLeafInRange};
 ghost use Rattle.box_state.specs.Bands.{IsPart};
 ghost use Rattle.branch_search.specs.Boxes.{IsUnrefuted};
 ghost use Rattle.branch_search.specs.CurrentBoxes.{IsCurrentBox};
@@ -9,7 +10,7 @@ ghost use Rattle.branch_search.specs.Refuting.{IsEmptyIn, IsRefuting};
 
 use crate::splitting::CurrentBox;
 use box_state::{Band, holding_exclusion, holding_exclusion_by, others_are_kept};
-use certificate_tree::{Node, has_start};
+use certificate_tree::{Node, band_holds, excl_holds, has_start};
 use instance_model::Instance;
 use lagrange_bound::Span;
 
@@ -39,7 +40,7 @@ fn band_leaf(band: Band) -> Node
 }
 
 /// A leaf that refutes the current box: of its first interval without a start, of a band, or of an exclusion.
-pub(crate) fn refuting_leaf(inst: &Instance, current: &CurrentBox) -> Option<Node>
+fn refuting_leaf(inst: &Instance, current: &CurrentBox) -> Option<Node>
     requires { IsCurrentBox inst.now current.now }
     ensures some { IfSome result (IsRefuting inst.now current.now.boxes.spans) }
     ensures none { IfNone result (IsUnrefuted inst.now current.now.boxes.spans) }
@@ -57,8 +58,37 @@ pub(crate) fn refuting_leaf(inst: &Instance, current: &CurrentBox) -> Option<Nod
     }
 }
 
-/// The same where no leaf refuted the box while the interval of intervention `i` was `whole`, of which it is a part
-/// now. Tests that interval, the bands in the periods of its runs, and the exclusions that name the intervention.
+/// Whether a leaf is a `band` or an `excl` that holds.
+fn is_held(inst: &Instance, spans: &[Span], leaf: Node) -> bool
+    requires spans { IsBox inst.now spans.now }
+    requires leaf { (lists : ℕ) × IsLeafInRange inst.now lists leaf }
+    ensures { IsTrue result → IsRefuting inst.now spans.now leaf }
+{
+    match leaf {
+        Node::Band { c, t, side } => band_holds(inst, spans, c, t, side),
+        Node::Excl { e } => excl_holds(inst, spans, e),
+        Node::Split { .. } | Node::Cost { .. } | Node::Point | Node::Empty { .. } => false,
+    }
+}
+
+/// The leaf that was given of the current box, where it is a `band` or an `excl` that holds, and else one that refutes
+/// the box.
+pub(crate) fn leaf_over(inst: &Instance, current: &CurrentBox, given: Node) -> Option<Node>
+    requires current { IsCurrentBox inst.now current.now }
+    requires spans { IsBox inst.now current.now.boxes.spans }
+    requires given { (lists : ℕ) × IsLeafInRange inst.now lists given }
+    ensures some { IfSome result (IsRefuting inst.now current.now.boxes.spans) }
+    ensures none { IfNone result (IsUnrefuted inst.now current.now.boxes.spans) }
+{
+    if is_held(inst, current.boxes.spans(), given) {
+        return Some(given);
+    }
+    refuting_leaf(inst, current)
+}
+
+/// A leaf that refutes the current box, where no leaf refuted it while the interval of intervention `i` was `whole`, of
+/// which it is a part now. Tests that interval, the bands in the periods of its runs, and the exclusions that name the
+/// intervention.
 pub(crate) fn refuting_part(
     inst: &Instance,
     current: &CurrentBox,

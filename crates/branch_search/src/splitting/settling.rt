@@ -1,23 +1,24 @@
 //! The leaf of a new box: a refuting one, that of a single plan, or one that waits.
-ghost use Rattle.std.specs.Prelude.{IfOk, OnOk, IfSome, IfNone};
+ghost use Rattle.std.specs.Prelude.{◌≡◌, ◌-◌, ◌<◌, length, slice_set, IfOk, OnOk, IfSome, IfNone};
 ghost use Rattle.lagrange_bound.specs.Boxes.{IsBox};
-ghost use Rattle.certificate_tree.specs.Trees.{IsSplit, root_box};
+ghost use Rattle.certificate_tree.specs.Trees.{IsSplit};
+ghost use Rattle.certificate_tree.specs.Ranges.{IsLeafInRange};
 ghost use Rattle.certificate_tree.specs.Holding.{IsSingle};
 ghost use Rattle.branch_search.specs.Boxes.{IsUnrefuted};
-ghost use Rattle.branch_search.specs.Refuting.{IsRefuting};
+ghost use Rattle.branch_search.specs.Refuting.{IsRefuting, IsPartOfUnrefuted};
 ghost use Rattle.branch_search.specs.CurrentBoxes.{IsCurrentBox, IsPartedBy};
 ghost use Rattle.branch_search.specs.Tasks.{free_task};
 ghost use Rattle.branch_search.specs.Settled.{IsLeafOf, ArePartsOf, IsImprovedIn};
-ghost use Rattle.branch_search.specs.Pricing.{AreWorthsOf};
+ghost use Rattle.branch_search.specs.Pricing.{AreSearchTables};
 ghost use Rattle.branch_search.specs.Valued.{plan_in, IsValued};
 
 use crate::best::Best;
 use crate::choosing::{Chooser, choose};
-use crate::closing::{Worths, greatest_worth, is_single, refuting_leaf, refuting_part, take_point};
+use crate::closing::{is_single, leaf_over, refuting_part, take_point};
 use crate::splitting::current_box::CurrentBox;
-use certificate_tree::{BoxPath, Node, parts_are_boxes};
+use certificate_tree::{Node, greatest_worth, parts_are_boxes};
 use instance_model::Instance;
-use lagrange_bound::{Goal, Prices, Span};
+use lagrange_bound::{Goal, PriceTable, Span};
 use std::alloc::{AllocError, Global};
 
 /// A leaf, and the worth of its box where it waits.
@@ -38,12 +39,11 @@ pub(crate) struct Parts {
 
 /// The leaf of a box, given one that refutes it, or none. The plan of a box that is a single one may become the best
 /// plan.
-pub(crate) fn settle<G: Goal>(
+fn settle<G: Goal>(
     alloc: Global,
     goal: &G,
     inst: &Instance,
-    lists: &[Prices],
-    worths: &Worths,
+    tables: &[PriceTable],
     spans: &[Span],
     refuting: Option<Node>,
     best: &mut Option<Best>,
@@ -51,13 +51,11 @@ pub(crate) fn settle<G: Goal>(
     requires spans { IsBox inst.now spans.now }
     requires refuted { IfSome refuting (IsRefuting inst.now spans.now) }
     requires unrefuted { IfNone refuting (IsUnrefuted inst.now spans.now) }
-    requires worths { AreWorthsOf (G.base_gives goal.now) inst.now lists.now worths.now }
+    requires tables { AreSearchTables inst.now tables.now }
     requires valued { IsValued (G.value_gives goal.now) inst.now best.old }
-    ensures leaf { IfOk result (IsLeafOf
-        (free_task (G.base_gives goal.now) (G.value_gives goal.now) inst.now lists.now)
+    ensures leaf { IfOk result (IsLeafOf (free_task (G.value_gives goal.now) inst.now tables.now)
         (plan_in best.new) spans.now) }
-    ensures improved { OnOk result (IsImprovedIn
-        (free_task (G.base_gives goal.now) (G.value_gives goal.now) inst.now lists.now) spans.now
+    ensures improved { OnOk result (IsImprovedIn (G.value_gives goal.now) inst.now spans.now
         (plan_in best.old) (plan_in best.new)) }
     ensures valued { OnOk result (IsValued (G.value_gives goal.now) inst.now best.new) }
 {
@@ -65,54 +63,75 @@ pub(crate) fn settle<G: Goal>(
         return Ok(Settled { node, worth: None });
     }
     if is_single(spans) {
-        take_point(alloc, goal, inst, lists, spans, best)?;
+        take_point(alloc, goal, inst, spans, best)?;
         return Ok(Settled {
             node: Node::Point,
             worth: None,
         });
     }
-    let (list, worth) = greatest_worth(worths, spans);
+    let (list, worth) = greatest_worth(tables, spans);
     Ok(Settled {
         node: Node::Cost { list },
         worth: Some(worth),
     })
 }
 
-/// The box of all starts, as the current one, and its leaf.
-pub(crate) fn settle_root<G: Goal>(
+/// The leaf of the current box in the place of a given one, which stays where it is a `band` or an `excl` that holds.
+pub(crate) fn settle_again<G: Goal>(
     alloc: Global,
     goal: &G,
     inst: &Instance,
-    lists: &[Prices],
-    worths: &Worths,
+    tables: &[PriceTable],
+    current: &CurrentBox,
+    given: Node,
     best: &mut Option<Best>,
-) -> Result<(CurrentBox, Settled), AllocError>
-    requires worths { AreWorthsOf (G.base_gives goal.now) inst.now lists.now worths.now }
+) -> Result<Settled, AllocError>
+    requires current { IsCurrentBox inst.now current.now }
+    requires spans { IsBox inst.now current.now.boxes.spans }
+    requires given { IsLeafInRange inst.now (length tables.now - 1) given }
+    requires tables { AreSearchTables inst.now tables.now }
     requires valued { IsValued (G.value_gives goal.now) inst.now best.old }
-    ensures current { IfOk result (λ root. IsCurrentBox inst.now root.0) }
-    ensures leaf { IfOk result (λ root. IsLeafOf
-        (free_task (G.base_gives goal.now) (G.value_gives goal.now) inst.now lists.now)
-        (plan_in best.new) (root_box inst.now) root.1) }
-    ensures improved { OnOk result (IsImprovedIn
-        (free_task (G.base_gives goal.now) (G.value_gives goal.now) inst.now lists.now) (root_box inst.now)
+    ensures leaf { IfOk result (IsLeafOf (free_task (G.value_gives goal.now) inst.now tables.now)
+        (plan_in best.new) current.now.boxes.spans) }
+    ensures improved { OnOk result (IsImprovedIn (G.value_gives goal.now) inst.now current.now.boxes.spans
         (plan_in best.old) (plan_in best.new)) }
     ensures valued { OnOk result (IsValued (G.value_gives goal.now) inst.now best.new) }
 {
-    inst.fits();
-    let root = BoxPath::root(alloc, inst)?;
-    let current = CurrentBox::make(alloc, inst, root.spans())?;
-    let refuting = refuting_leaf(inst, &current);
-    let leaf = settle(
-        alloc,
-        goal,
-        inst,
-        lists,
-        worths,
-        current.boxes.spans(),
-        refuting,
-        best,
-    )?;
-    Ok((current, leaf))
+    let refuting = leaf_over(inst, current, given);
+    let spans = current.boxes.spans();
+    settle(alloc, goal, inst, tables, spans, refuting, best)
+}
+
+/// The leaf of a part of a box, which becomes the current box: where no leaf refuted the box with the interval `whole`
+/// of intervention `i`, of which the part has the interval `span`.
+fn settle_part<G: Goal>(
+    alloc: Global,
+    goal: &G,
+    inst: &Instance,
+    tables: &[PriceTable],
+    current: &mut CurrentBox,
+    i: u32,
+    whole: Span,
+    span: Span,
+    best: &mut Option<Best>,
+) -> Result<Settled, AllocError>
+    requires current { IsCurrentBox inst.now current.old }
+    requires number { i < length inst.now.names }
+    requires part { IsPartOfUnrefuted inst.now current.old.boxes.spans i whole span }
+    requires tables { AreSearchTables inst.now tables.now }
+    requires valued { IsValued (G.value_gives goal.now) inst.now best.old }
+    ensures leaf { IfOk result (IsLeafOf (free_task (G.value_gives goal.now) inst.now tables.now)
+        (plan_in best.new) (slice_set current.old.boxes.spans i span)) }
+    ensures improved { OnOk result (IsImprovedIn (G.value_gives goal.now) inst.now
+        (slice_set current.old.boxes.spans i span) (plan_in best.old) (plan_in best.new)) }
+    ensures valued { OnOk result (IsValued (G.value_gives goal.now) inst.now best.new) }
+    ensures current { OnOk result (IsCurrentBox inst.now current.new) }
+    ensures spans { OnOk result (current.new.boxes.spans ≡ slice_set current.old.boxes.spans i span) }
+{
+    current.boxes.set_span(inst, i, span);
+    let refuting = refuting_part(inst, current, i, whole);
+    let spans = current.boxes.spans();
+    settle(alloc, goal, inst, tables, spans, refuting, best)
 }
 
 /// The leaves of the two parts of the current box, the left one first. The right part is the current box then.
@@ -120,8 +139,7 @@ fn settle_parts<G: Goal>(
     alloc: Global,
     goal: &G,
     inst: &Instance,
-    lists: &[Prices],
-    worths: &Worths,
+    tables: &[PriceTable],
     current: &mut CurrentBox,
     i: u32,
     last: u32,
@@ -131,11 +149,10 @@ fn settle_parts<G: Goal>(
     requires spans { IsBox inst.now current.old.boxes.spans }
     requires unrefuted { IsUnrefuted inst.now current.old.boxes.spans }
     requires splits { IsSplit current.old.boxes.spans i last }
-    requires worths { AreWorthsOf (G.base_gives goal.now) inst.now lists.now worths.now }
+    requires tables { AreSearchTables inst.now tables.now }
     requires valued { IsValued (G.value_gives goal.now) inst.now best.old }
-    ensures parts { IfOk result (λ parts. ArePartsOf
-        (free_task (G.base_gives goal.now) (G.value_gives goal.now) inst.now lists.now) current.old.boxes.spans i last
-        (plan_in best.old) (plan_in best.new) parts.0 parts.1) }
+    ensures parts { IfOk result (λ parts. ArePartsOf (free_task (G.value_gives goal.now) inst.now tables.now)
+        current.old.boxes.spans i last (plan_in best.old) (plan_in best.new) parts.0 parts.1) }
     ensures valued { OnOk result (IsValued (G.value_gives goal.now) inst.now best.new) }
     ensures current { OnOk result (IsCurrentBox inst.now current.new) }
 {
@@ -147,34 +164,12 @@ fn settle_parts<G: Goal>(
         from: whole.from,
         to: last,
     };
-    current.boxes.set_span(inst, i, below);
-    let leaf = refuting_part(inst, current, i, whole);
-    let left = settle(
-        alloc,
-        goal,
-        inst,
-        lists,
-        worths,
-        current.boxes.spans(),
-        leaf,
-        best,
-    )?;
+    let left = settle_part(alloc, goal, inst, tables, current, i, whole, below, best)?;
     let above = Span {
         from: last + 1,
         to: whole.to,
     };
-    current.boxes.set_span(inst, i, above);
-    let leaf = refuting_part(inst, current, i, whole);
-    let right = settle(
-        alloc,
-        goal,
-        inst,
-        lists,
-        worths,
-        current.boxes.spans(),
-        leaf,
-        best,
-    )?;
+    let right = settle_part(alloc, goal, inst, tables, current, i, whole, above, best)?;
     Ok((left, right))
 }
 
@@ -184,8 +179,7 @@ pub(crate) fn part<G: Goal>(
     alloc: Global,
     goal: &G,
     inst: &Instance,
-    lists: &[Prices],
-    worths: &Worths,
+    tables: &[PriceTable],
     current: &mut CurrentBox,
     chooser: &mut Chooser,
     best: &mut Option<Best>,
@@ -193,29 +187,21 @@ pub(crate) fn part<G: Goal>(
     requires current { IsCurrentBox inst.now current.old }
     requires spans { IsBox inst.now current.old.boxes.spans }
     requires unrefuted { IsUnrefuted inst.now current.old.boxes.spans }
-    requires worths { AreWorthsOf (G.base_gives goal.now) inst.now lists.now worths.now }
+    requires tables { AreSearchTables inst.now tables.now }
     requires valued { IsValued (G.value_gives goal.now) inst.now best.old }
     ensures some { IfOk result (λ parts. IfSome parts (IsPartedBy
-        (free_task (G.base_gives goal.now) (G.value_gives goal.now) inst.now lists.now) current.old.boxes.spans
+        (free_task (G.value_gives goal.now) inst.now tables.now) current.old.boxes.spans
         (plan_in best.old) (plan_in best.new))) }
     ensures none { IfOk result (λ parts. IfNone parts (IsSingle current.old.boxes.spans)) }
     ensures valued { OnOk result (IsValued (G.value_gives goal.now) inst.now best.new) }
     ensures current { OnOk result (IsCurrentBox inst.now current.new) }
 {
-    let place = choose(
-        alloc,
-        goal,
-        inst,
-        lists,
-        worths,
-        &current.boxes,
-        chooser,
-        best,
-    )?;
+    let boxes = &current.boxes;
+    let place = choose(alloc, goal, inst, tables, boxes, chooser, best)?;
     let Some((i, last)) = place else {
         return Ok(None);
     };
-    let (left, right) = settle_parts(alloc, goal, inst, lists, worths, current, i, last, best)?;
+    let (left, right) = settle_parts(alloc, goal, inst, tables, current, i, last, best)?;
     Ok(Some(Parts {
         i,
         last,

@@ -1,5 +1,6 @@
 //! The nodes of a tree under construction, and how one is split.
 ghost use Rattle.std.specs.Prelude.{◌≡◌, ◌<◌, length, OnOk};
+ghost use Rattle.branch_search.specs.Begun.{with_leaf};
 ghost use Rattle.branch_search.specs.Growing.{split_cells};
 
 use certificate_tree::Node;
@@ -43,4 +44,17 @@ pub(crate) fn split_cell(
         left: next,
     };
     Ok(())
+}
+
+/// Gives a number a leaf.
+pub(crate) fn set_leaf(cells: &mut Vec<Cell>, number: usize, node: Node)
+    requires { number < length cells.old.items }
+    ensures { cells.new.items ≡ with_leaf cells.old.items number node }
+{
+    let cell = cells[number];
+    cells[number] = Cell {
+        node,
+        parent: cell.parent,
+        left: cell.left,
+    };
 }

@@ -4,14 +4,14 @@ ghost use Rattle.branch_search.specs.Shapes.{Shape, IsShapeOf};
 ghost use Rattle.branch_search.specs.Valued.{plan_in};
 ghost use Rattle.branch_search.specs.States.{IsKept, bound_with, IsAnswerOf};
 
-use crate::TreeEnd;
+use crate::SearchEnd;
 use crate::best::Best;
 use crate::splitting::left_worth;
+use crate::tree::counts::LeafCounts;
 use crate::tree::growth::Growth;
 use crate::tree::nodes::nodes_of;
-use certificate_tree::{Bound, Certificate, Nodes, PriceLists, Version};
+use certificate_tree::{Bound, Nodes};
 use instance_model::Starts;
-use lagrange_bound::Prices;
 use std::alloc::{AllocError, Global};
 
 /// The bound where this worth is the least that is left, or where none is.
@@ -37,27 +37,25 @@ fn starts_of(best: Option<Best>) -> Option<Starts>
     }
 }
 
-/// The certificate and the best plan. All that waits is given up as `cost` leaves.
+/// The bound, the nodes and the best plan. All that waits is given up as `cost` leaves.
 pub(crate) fn finish(
     alloc: Global,
-    lists: Vec<Prices>,
     growth: Growth,
-) -> Result<TreeEnd, AllocError>
+    counts: LeafCounts,
+) -> Result<SearchEnd, AllocError>
     requires kept { IsKept growth }
     requires shape { (shape : Shape) × IsShapeOf growth.cells.items shape }
-    ensures { IfOk result (IsAnswerOf growth lists.items) }
+    ensures { IfOk result (IsAnswerOf growth counts) }
 {
     let left = left_worth(&growth);
     let nodes = nodes_of(alloc, growth.cells.as_slice())?;
     let bound = bound_of(left, &growth.best);
-    Ok(TreeEnd {
-        cert: Certificate {
-            version: Version::Two,
-            bound,
-            lists: PriceLists::from_vec(lists),
-            nodes: Nodes::from_vec(nodes),
-        },
+    Ok(SearchEnd {
+        bound,
+        nodes: Nodes::from_vec(nodes),
         best: starts_of(growth.best),
         unfinished: left.is_some(),
+        kept: counts.kept,
+        changed: counts.changed,
     })
 }

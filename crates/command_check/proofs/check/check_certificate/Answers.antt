@@ -18,7 +18,8 @@ returns-in_err-inst-clause-err g c =
     rw (p.1, p.2)
     (refuses_instance c.args.limits.now (source_view c.args.source.now) old new
     (λ i. OnGiven c.args.limits.now i (reading old new) 3 (option_copied c.args.plan)
-    (OnChecked c.args.limits.now c.args.certificate.now i old new)) _ c.in_err-inst.ensures.err)
+    (OnChecked g.C.FileCertificate.kind c.args.limits.now c.args.certificate.now i old new)) _
+    c.in_err-inst.ensures.err)
 
 pub returns-in_err-plan-clause-err : goal.returns-in_err-plan-clause-err
 returns-in_err-plan-clause-err g c =
@@ -26,7 +27,7 @@ returns-in_err-plan-clause-err g c =
     let mid = g.D.Desk.shows c.instance_of.new.desk in
     let p = err_from_is_err_and c.from_residual-in_err-plan.result c.from_residual-in_err-plan.ensures.1 in
     rw (p.1, p.2)
-    (check_refuses_plan c.args.limits.now (source_view c.args.source.now)
+    (check_refuses_plan g.C.FileCertificate.kind c.args.limits.now (source_view c.args.source.now)
     (option_copied c.args.plan) c.args.certificate.now old mid
     (g.D.Desk.shows c.given_plan_of.new.desk) c.in_ok-inst.inst _ c.in_ok-inst.ensures.ok
     (is_read c.args.source.now.instance.now old mid c.in_ok-inst.ensures.read c.in_ok-inst.ensures.faults)
@@ -40,7 +41,7 @@ returns-in_err-certificate-clause-err g c =
     let p = err_from_is_err_and c.from_residual-in_err-certificate.result
     c.from_residual-in_err-certificate.ensures.1 in
     rw (p.1, p.2)
-    (check_refuses_certificate c.args.limits.now (source_view c.args.source.now)
+    (check_refuses_certificate g.C.FileCertificate.kind c.args.limits.now (source_view c.args.source.now)
     (option_copied c.args.plan) c.args.certificate.now old mid last
     (g.D.Desk.shows c.certificate_of.new.desk) c.in_ok-inst.inst c.in_ok-plan.plan _ c.in_ok-inst.ensures.ok
     (is_read c.args.source.now.instance.now old mid c.in_ok-inst.ensures.read c.in_ok-inst.ensures.faults)
@@ -68,7 +69,7 @@ returns-in-Ok-clause-ok g c =
     let old = g.D.Desk.shows c.args.desk.now in
     let mid = g.D.Desk.shows c.instance_of.new.desk in
     let last = g.D.Desk.shows c.given_plan_of.new.desk in
-    check_answers c.args.limits.now (source_view c.args.source.now)
+    check_answers g.C.FileCertificate.kind c.args.limits.now (source_view c.args.source.now)
     (option_copied c.args.plan) c.args.certificate.now old mid last
     (g.D.Desk.shows c.certificate_of.new.desk) c.in_ok-inst.inst c.in_ok-plan.plan c.in_ok-certificate.certificate
     (reply c.in-Ok.report.status c.in-Ok.report.text) c.in_ok-inst.ensures.ok

@@ -20,4 +20,5 @@ pub returns : goal.returns
 returns c =
     joined (fault_of c.args.fault.now) c.args.line.now c.push.new.self c.push-2.new.self c.push_place.new.line
     c.push-3.new.self c.words_of.result.now
-    c.in_ok-push.ensures c.in_ok-push-2.ensures c.words_of.ensures c.in_ok-push_place.ensures c.in_ok-push-3.ensures
+    c.in_ok-push.ensures.added c.in_ok-push-2.ensures.added c.words_of.ensures c.in_ok-push_place.ensures
+    c.in_ok-push-3.ensures.added

@@ -6,7 +6,7 @@ use Rattle.plan_moves.specs.declared.change.Change.{Change}
 use Rattle.plan_moves.specs.KeptPlans.{KeptPlans, present}
 use Rattle.certificate_tree.specs.declared.node.Node.{Node}
 use Rattle.descent_ends.specs.Ends.{end_of}
-use Rattle.descent_ends.specs.Turns.{split_count}
+use Rattle.branch_search.specs.Splits.{split_count}
 use Rattle.descent_ends.proofs.EndLemmas.{end_is, instance_is, is_trail, present_feasible}
 use Rattle.command_rehearse.specs.Rehearsed.{IsBounded}
 use Rattle.command_rehearse.proofs.RehearsalLemmas.{key_is, all_count, first_left}

@@ -44,5 +44,5 @@ returns c =
     ∙ ap (λ (t : List ℕ). t ++ ranges_text v) (gap
     ∙ ap (λ (t : List ℕ). t ++ gap_line (v.score -ℤ bound)) (least
     ∙ ap (λ (t : List ℕ). t ++ bound_line bound) (score
-    ∙ ap (λ (t : List ℕ). t ++ score_line v.score) (c.in_ok-push.ensures
+    ∙ ap (λ (t : List ℕ). t ++ score_line v.score) (c.in_ok-push.ensures.added
     ∙ ap (λ (t : List ℕ). t ++ codes "plan found\n") c.new-text.ensures)))))

@@ -1,5 +1,5 @@
 use Rattle.std.proofs.Common.{◌≡◌, ◌≤◌, take}
-use Rattle.descent_ends.specs.Turns.{split_count}
+use Rattle.branch_search.specs.Splits.{split_count}
 use Rattle.descent_ends.proofs.splits.split_count.Given as goal
 
 abbrev pub invariant-loop-node : goal.invariant-loop-node

@@ -1,7 +1,7 @@
 use Rattle.std.proofs.Common.{◌∙◌, arith}
 use Rattle.refined_prices.specs.RefinedWorth.{refined_price, refined_constant, refined_pricing}
 use Rattle.lagrange_bound.proofs.RowLemmas.{items_of}
-use Rattle.refined_check.proofs.PricingTables.{row_count, rows_small, constant_back, IsPricingTable-from}
+use Rattle.lagrange_bound.proofs.TableLemmas.{row_count, rows_small, constant_back}
 use Rattle.refined_check.proofs.tables.refined_table.Goals as goal
 
 pub from_rows-requires-clause-few : goal.from_rows-requires-clause-few
@@ -22,7 +22,7 @@ from_rows-requires-clause-fixed c =
     let small = c.refined_prices_are_small.ensures.constants c.args.inst.now c.args.list.now c.fits.ensures
     c.requires in
     (constant_back c.in_ok-rows.constant (refined_constant c.args.inst.now c.args.list.now)
-    c.in_ok-rows.ensures.constant small).1
+    c.in_ok-rows.ensures.constant (omega (arith, small))).1
 
 pub returns-clause-rows : goal.returns-clause-rows
 returns-clause-rows c = c.from_rows.ensures.rows ∙ c.in_ok-rows.ensures.rows
@@ -32,13 +32,13 @@ returns-clause-constant c =
     let small = c.refined_prices_are_small.ensures.constants c.args.inst.now c.args.list.now c.fits.ensures
     c.requires in
     c.from_rows.ensures.fixed ∙ (constant_back c.in_ok-rows.constant (refined_constant c.args.inst.now
-    c.args.list.now) c.in_ok-rows.ensures.constant small).0
+    c.args.list.now) c.in_ok-rows.ensures.constant (omega (arith, small))).0
 
 pub returns-clause-worths : goal.returns-clause-worths
 returns-clause-worths c =
     let small = c.refined_prices_are_small.ensures.constants c.args.inst.now c.args.list.now c.fits.ensures
     c.requires in
-    IsPricingTable-from c.args.inst.now (refined_pricing c.args.inst.now c.args.list.now) c.from_rows.result
-    (c.from_rows.ensures.rows ∙ c.in_ok-rows.ensures.rows)
-    (c.from_rows.ensures.fixed ∙ (constant_back c.in_ok-rows.constant (refined_constant c.args.inst.now
-    c.args.list.now) c.in_ok-rows.ensures.constant small).0)
+    c.from_rows.ensures.pricing c.args.inst.now (refined_pricing c.args.inst.now c.args.list.now)
+    c.in_ok-rows.ensures.rows
+    ((constant_back c.in_ok-rows.constant (refined_constant c.args.inst.now
+    c.args.list.now) c.in_ok-rows.ensures.constant (omega (arith, small))).0)

@@ -3,12 +3,16 @@ use Rattle.certificate_tree.specs.Trees.{IsSplit}
 use Rattle.branch_search.specs.Tasks.{free_task}
 use Rattle.branch_search.specs.Valued.{plan_in}
 use Rattle.branch_search.proofs.LeafLemmas.{parts_after}
+use Rattle.branch_search.proofs.SettleLemmas.{priced_over}
 use Rattle.branch_search.proofs.splitting.settling.part.Goals as goal
+
+pub choose-requires-clause-tables : goal.choose-requires-clause-tables
+choose-requires-clause-tables g c = priced_over c.args.inst.now c.args.tables.now c.args.current.now.boxes.spans
+    c.requires.tables c.requires.spans c.requires.unrefuted.starts
 
 pub returns-clause-some : goal.returns-clause-some
 returns-clause-some g c =
-    let task = free_task (g.G.Goal.base_gives c.args.goal.now) (g.G.Goal.value_gives c.args.goal.now) c.args.inst.now
-    c.args.lists.now in
+    let task = free_task (g.G.Goal.value_gives c.args.goal.now) c.args.inst.now c.args.tables.now in
     let split : IsSplit c.args.current.now.boxes.spans c.in-Some.i c.in-Some.last = search rules in
     record {
       split = split;

@@ -1,4 +1,4 @@
-use Rattle.std.proofs.Common.{◌<◌, ◌+◌, length, ap, arith, rules, inl, inr, List}
+use Rattle.std.proofs.Common.{◌<◌, length, ap, arith, rules, inl, inr, List}
 use Rattle.std.proofs.lemmas.List.{length_push, nil_from_length}
 use Rattle.certificate_tree.specs.declared.node.Node.{Node}
 use Rattle.branch_search.specs.Growing.{node_at}

@@ -1,4 +1,3 @@
-use Rattle.std.proofs.Common.{map}
 use Rattle.std.proofs.lemmas.List.Sorted.{IsPermutation-map}
 use Rattle.branch_search.proofs.HeapLemmas.{least_first}
 use Rattle.branch_search.proofs.tree.waiting.Waiting.pop.Goals as goal

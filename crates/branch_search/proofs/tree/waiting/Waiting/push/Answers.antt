@@ -1,5 +1,5 @@
 use Rattle.std.specs.declared.cmp.Reverse.{Reverse}
-use Rattle.std.proofs.Common.{ℕ, ℤ, map, to_z-of_z}
+use Rattle.std.proofs.Common.{ℕ, ℤ, to_z-of_z}
 use Rattle.std.proofs.lemmas.List.Sorted.{IsPermutation-map}
 use Rattle.branch_search.proofs.tree.waiting.Waiting.push.Goals as goal
 

@@ -1,0 +1,16 @@
+pub mod StepLemmas
+pub mod TreeLemmas
+pub mod HeaderLemmas
+pub mod LastLemmas
+pub mod GroupLemmas
+pub mod FewLemmas
+pub mod NumberLemmas
+pub mod CliqueLemmas
+pub mod TakeLemmas
+pub mod PartLemmas
+pub mod ListLemmas
+pub mod WholeLemmas
+pub mod CompleteLemmas
+pub mod FaultLemmas
+pub mod LedLemmas
+pub mod ToldLemmas

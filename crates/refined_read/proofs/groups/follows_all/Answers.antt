@@ -1,0 +1,23 @@
+use Rattle.std.proofs.Common.{ℕ, List, sym, subst, arith}
+use Rattle.refined_prices.specs.declared.member.Member.{Member}
+use Rattle.refined_certificate.specs.Orders.{first_scenario, GroupBefore}
+use Rattle.refined_grammar.specs.Further.{group_of}
+use Rattle.refined_read.proofs.LastLemmas.{all_from_last, last_from_all}
+use Rattle.refined_read.proofs.GroupLemmas.{less_told, less_true}
+use Rattle.refined_read.proofs.groups.follows_all.Goals as goal
+
+pub returns-in-Some : goal.returns-in-Some
+returns-in-Some c =
+    let groups = c.args.groups.now in
+    let last = c.in-Some.last.now in
+    let here = group_of c.args.members.now in
+    let first = rw c.as_slice.ensures at c.first_scenario.ensures in (
+      λ t.
+          let less = less_told c.from.result c.first_in_line.result t in
+          all_from_last GroupBefore (λ other. GroupBefore other here) groups last c.in-Some.ensures.value c.requires
+          (λ x before behind. omega (arith, before, behind))
+          (omega (arith, less, first, c.from.ensures, c.first_in_line.ensures)),
+      λ all. less_true c.from.result c.first_in_line.result
+          (let less = last_from_all GroupBefore (λ other. GroupBefore other here) groups last
+          c.in-Some.ensures.value all in omega (arith, less, first, c.from.ensures, c.first_in_line.ensures)),
+    )

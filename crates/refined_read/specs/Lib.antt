@@ -1,0 +1,6 @@
+-- What the contracts cite.
+pub mod Faults
+pub mod Laws
+pub mod Parts
+pub mod Reading
+pub mod Taking
