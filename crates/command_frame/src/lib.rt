@@ -35,7 +35,7 @@ pub use reading::{certificate_of, given_plan_of, instance_of, plan_of, script_of
 pub use refusal::{MEMORY_LINE, Refusal, WORDS_LINE, leaf_text};
 pub use report::{
     Report, accepted_text, feasible_text, infeasible_text, push_bound_line, push_bound_or_none,
-    push_gap_line, push_ranges, push_rounded, push_score,
+    push_gap, push_gap_line, push_ranges, push_rounded, push_score,
 };
 pub use saying::{refuse, say, say_line, say_numbered, say_report};
 pub use source::Source;

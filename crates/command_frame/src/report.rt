@@ -125,7 +125,7 @@ fn push_fixed_line(text: &mut Text, word: &str, n: i128) -> Result<(), AllocErro
 }
 
 /// Adds the score of a plan that was given, and how far it is above the bound.
-fn push_gap(text: &mut Text, bound: Bound, score: Option<i128>) -> Result<(), AllocError>
+pub fn push_gap(text: &mut Text, bound: Bound, score: Option<i128>) -> Result<(), AllocError>
     requires bound { IsBoundInRange bound }
     requires score { IfSome score (λ z. unsigned_abs z < 10 ^ 36) }
     ensures { OnOk result (text.new ≡ text.old ++ gap_text bound score) }

@@ -1,5 +1,5 @@
 -- The worths by refined price lists bound the scores of plans, and so does a valid certificate by them.
-use Rattle.std.proofs.Common.{ℕ, zero, suc, ◌+◌, ◌<◌, ◌≤◌, arith, ◌≤ℤ◌, List, length, get_or, All}
+use Rattle.std.proofs.Common.{ℕ, zero, suc, ◌≤◌, arith, ◌≤ℤ◌, List, length, get_or, All}
 use Rattle.instance_model.specs.Tables.{Tables}
 use Rattle.instance_model.specs.Fitting.{IsFitting}
 use Rattle.lagrange_bound.specs.declared.span.Span.{Span}

@@ -1,10 +1,6 @@
-use Rattle.std.proofs.Common.{◌≡◌, ◌∙◌, sym, ap, false, List, ℕ, ◌++◌, ◌&&◌, not}
-use Rattle.instance_shape.specs.declared.fault.Flaw.TheVariants as flaw
-use Rattle.instance_shape.specs.Keys.{has_key, by_text, is_name}
+use Rattle.std.proofs.Common.{◌≡◌, ◌∙◌, sym, false}
+use Rattle.instance_shape.specs.Keys.{has_key, by_text}
 use Rattle.instance_shape.specs.Seen.{texts_of}
-use Rattle.instance_shape.specs.Shape.{kind_of}
-use Rattle.instance_shape.specs.ShapeFaults.{where_so, takes_names, first_past, key_limit}
-use Rattle.shape_walk.specs.Flaws.{first_flaw}
 use Rattle.shape_walk.proofs.KeyLemmas.{text_case, is_new}
 use Rattle.shape_walk.proofs.seen.take_text.Goals as goal
 
