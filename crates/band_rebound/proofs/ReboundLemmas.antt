@@ -8,6 +8,7 @@ use Rattle.instance_model.specs.Fitting.{IsFitting}
 use Rattle.lagrange_bound.specs.Prices.{PriceList, IsPriceList, zero_list}
 use Rattle.lagrange_bound.specs.Goals.{risk_base, risk_value, ValuesAreSmall}
 use Rattle.lagrange_bound.specs.Worth.{ex_total, price_total, WorthsAreSmall}
+use Rattle.lagrange_bound.proofs.PriceLemmas.{zero_in_range}
 use Rattle.certificate_lines.specs.declared.line.Bound.{Bound}
 use Rattle.certificate_lines.specs.declared.line.Version.{Version}
 use Rattle.certificate_tree.specs.declared.node.Node.{Node}
@@ -18,7 +19,6 @@ use Rattle.certificate_tree.specs.Holding.{Worths, worth_by, list_at}
 use Rattle.certificate_tree.specs.Validity.{Claim, IsProved, IsValid, BoundBoxes, BoundsPlans}
 use Rattle.certificate_tree.specs.Laws.{NodesAreOneTree, ProvedBoundsPlans, ValidBoundsPlans}
 use Rattle.certificate_tree.proofs.RootLemmas.{root_is_box}
-use Rattle.certificate_tree.proofs.Soundness.{zero_in_range}
 use Rattle.band_rebound.specs.declared.rebounded.ReboundTree.{ReboundTree}
 use Rattle.band_rebound.specs.declared.rebounded.Rebounded.{Rebounded}
 use Rattle.band_rebound.specs.declared.growth.Growth.{Growth}

@@ -157,7 +157,7 @@ pub begun_first : (task : Task) (best : Option (List ℕ)) (t : Tree) (stack : L
     → NodesAreOneTree → AreNodesOf task.inst task.lists (root_box task.inst) t task.given
     → BoundBoxes task.value task.inst task.lists task.worths
     → IsBestOver task.value task.inst task.incumbent best → stack ≡ 0 ∷ []
-    → IsBegun task ((record { node = Point; parent = 0; left = 0 }) ∷ []) [] best 0 stack task.given
+    → IsBegun task ((record { node = Point; parent = 0; left = 0 }) ∷ []) [] best stack task.given
 begun_first task best t stack fits one nodes law best_is is = record {
   boxes = root_box task.inst ∷ [];
   shape = tip 0;
@@ -179,7 +179,6 @@ begun_first task best t stack fits one nodes law best_is is = record {
   );
   apart = (tt, tt);
   splits_are = omega arith;
-  counts = omega arith;
   settled = λ k l. only (λ k. IsOneOf k ((record { number = 0; tree = t }) ∷ [])
       ⊎ IsSettled task best (box_at (root_box task.inst ∷ []) k)
       (node_at ((record { node = Point; parent = 0; left = 0 }) ∷ []) k)) k l (inl (inl refl));
@@ -210,7 +209,7 @@ leaf_from (Band c t s) h = tt
 leaf_from (Excl e) h = tt
 leaf_from (Empty i) h = tt
 
-pub record IsTop (task : Task) (cells : List Cell) (entries : List (ℤ × ℕ)) (best : Option (List ℕ)) (leaves : ℕ)
+pub record IsTop (task : Task) (cells : List Cell) (entries : List (ℤ × ℕ)) (best : Option (List ℕ))
     (under : List ℕ) (k : ℕ) (rest : List Node) : Type 0 where
   pub boxes : List (List Span)
   pub shape : Shape
@@ -225,7 +224,6 @@ pub record IsTop (task : Task) (cells : List Cell) (entries : List (ℤ × ℕ))
   pub apart_first : IsApart k others
   pub apart_others : AreApart others
   pub splits_are : forks shape + split_count rest ≡ split_count task.given
-  pub counts : leaves + forks shape + length rest ≡ length task.given
   pub settled : (j : ℕ) → j < length cells
       → (k ≡ j) ⊎ IsOneOf j others ⊎ IsSettled task best (box_at boxes j) (node_at cells j)
   pub waits : AreEntries task cells boxes entries
@@ -233,16 +231,16 @@ pub record IsTop (task : Task) (cells : List Cell) (entries : List (ℤ × ℕ))
   pub floors : (bound : Bound) → IsProved task.value task.inst (given_claim task bound)
       → IsFloor task cells boxes best bound
 
-pub at_top : (task : Task) (cells : List Cell) (entries : List (ℤ × ℕ)) (best : Option (List ℕ)) (leaves : ℕ)
-    (stack under : List ℕ) (k : ℕ) (rest : List Node) → IsBegun task cells entries best leaves stack rest
-    → stack ≡ under ++ k ∷ [] → IsTop task cells entries best leaves under k rest
-at_top task cells entries best leaves stack under k rest h e =
+pub at_top : (task : Task) (cells : List Cell) (entries : List (ℤ × ℕ)) (best : Option (List ℕ))
+    (stack under : List ℕ) (k : ℕ) (rest : List Node) → IsBegun task cells entries best stack rest
+    → stack ≡ under ++ k ∷ [] → IsTop task cells entries best under k rest
+at_top task cells entries best stack under k rest h e =
     at h.places (sym (reversed under k) ∙ ap reverse (sym e) ∙ h.stack_is) h.rest_is h.open_are h.apart h.settled
   where
     at : (places : List Place) → k ∷ reverse under ≡ map (λ place. place.number) places → nodes_at places ≡ rest
         → AreOpen task cells h.boxes places → AreApart places
         → ((j : ℕ) → j < length cells → IsOneOf j places ⊎ IsSettled task best (box_at h.boxes j) (node_at cells j))
-        → IsTop task cells entries best leaves under k rest
+        → IsTop task cells entries best under k rest
     at [] f r o a s = absurd (some_are_none k (reverse under) f)
     at (p ∷ ps) f r o a s =
         let is : p.number ≡ k = sym (head_is k p.number (reverse under) (map (λ place. place.number) ps) f) in
@@ -260,7 +258,6 @@ at_top task cells entries best leaves stack under k rest h e =
           apart_first = subst (λ (n : ℕ). IsApart n ps) is a.0;
           apart_others = a.1;
           splits_are = h.splits_are;
-          counts = h.counts;
           settled = λ j l. settled j (s j l) is;
           waits = h.waits;
           best_is = h.best_is;
@@ -326,10 +323,10 @@ split_first inst lists box (split j n a b) others i m after e r =
     }
 
 -- ---- a leaf is laid
-module _ (task : Task) (cells : List Cell) (old new : List (ℤ × ℕ)) (best next : Option (List ℕ)) (count : ℕ)
+module _ (task : Task) (cells : List Cell) (old new : List (ℤ × ℕ)) (best next : Option (List ℕ))
     (under : List ℕ) (k : ℕ) (node : Node) (after : List Node) (here : Settled) (fits : IsFitting task.inst)
     (law : BoundBoxes task.value task.inst task.lists task.worths) (plain : IsLeafNode node)
-    (g : IsTop task cells old best count under k (node ∷ after))
+    (g : IsTop task cells old best under k (node ∷ after))
     (laid : IsLeafOf (freed task) next (box_at g.boxes k) here)
     (improved : IsImprovedIn task.value task.inst (box_at g.boxes k) best next)
     (waits : IsPermutation (with_entry here.worth k old) new) where
@@ -389,7 +386,7 @@ module _ (task : Task) (cells : List Cell) (old new : List (ℤ × ℕ)) (best n
   cost_at bound h j list l e (inr d) = (g.floors bound h).under_costs j list l
       (sym (ap (λ (c : Cell). c.node) (change.same j l d)) ∙ e)
 
-  pub leaf_laid : IsBegun task (with_leaf cells k here.node) new next (count + 1) under after
+  pub leaf_laid : IsBegun task (with_leaf cells k here.node) new next under after
   leaf_laid = record {
     boxes = g.boxes;
     shape = g.shape;
@@ -402,7 +399,6 @@ module _ (task : Task) (cells : List Cell) (old new : List (ℤ × ℕ)) (best n
         g.open_others;
     apart = g.apart_others;
     splits_are = let z = leaf_count node after plain in let s = g.splits_are in omega (arith, z, s);
-    counts = let c = g.counts in omega (arith, c);
     settled = λ j l. settled_at j (omega (arith, l, length_leaf cells k here.node known)) (cases_eq j k);
     waits = entries_changed task cells (with_leaf cells k here.node) g.boxes g.boxes k known g.open_first.node change
         old g.waits here.worth new
@@ -417,9 +413,9 @@ module _ (task : Task) (cells : List Cell) (old new : List (ℤ × ℕ)) (best n
   }
 
 -- ---- a split is laid
-module _ (task : Task) (cells : List Cell) (entries : List (ℤ × ℕ)) (best : Option (List ℕ)) (count : ℕ)
+module _ (task : Task) (cells : List Cell) (entries : List (ℤ × ℕ)) (best : Option (List ℕ))
     (under stack : List ℕ) (k i m : ℕ) (after : List Node)
-    (g : IsTop task cells entries best count under k (Split i m ∷ after)) where
+    (g : IsTop task cells entries best under k (Split i m ∷ after)) where
   split_known : k < length cells
   split_known = g.open_first.known
 
@@ -547,9 +543,6 @@ module _ (task : Task) (cells : List Cell) (entries : List (ℤ × ℕ)) (best :
     splits_are = let s = g.splits_are in
         let f = forks_more cells k i m Point Point split_known split_leaf tt tt g.shape g.is_shape in
         omega (arith, s, f);
-    counts = let c = g.counts in
-        let f = forks_more cells k i m Point Point split_known split_leaf tt tt g.shape g.is_shape in
-        omega (arith, c, f);
     settled = λ j l. split_settled j (where_is (length cells) k j
         (omega (arith, l, length_split cells k i m Point Point split_known)));
     waits = entries_changed task cells (split_cells cells k i m Point Point) g.boxes (split_list g.boxes k i m) k
@@ -569,26 +562,23 @@ nodes_are_some : (t : Tree) (ns : List Node) → pre_order t ++ ns ≡ [] → �
 nodes_are_some (leaf n) ns e = some_are_none n ns e
 nodes_are_some (split i m l r) ns e = some_are_none (Split i m) ((pre_order l ++ pre_order r) ++ ns) e
 
-pub begun_end : (task : Task) (cells : List Cell) (entries : List (ℤ × ℕ)) (best : Option (List ℕ)) (count : ℕ)
-    (stack : List ℕ) → IsBegun task cells entries best count stack []
-    → IsGrown task cells entries best 0 × (count + splits_before task ≡ length task.given)
-begun_end task cells entries best count stack h = (
-  record {
-    boxes = h.boxes;
-    shape = h.shape;
-    are_boxes = h.are_boxes;
-    is_shape = h.is_shape;
-    splits_are = let s = h.splits_are in omega (arith, s);
-    settled = λ k l. settled k h.places h.rest_is (h.settled k l);
-    level = λ none k i m j l e s. absurd (let f = fork_is_there cells k i m h.shape e h.is_shape.stands
-        (omega (arith, h.is_shape.once k l)) in
-        let q = h.splits_are in omega (arith, f, q, none));
-    floors = h.floors;
-    waits = h.waits;
-    best_is = h.best_is;
-  },
-  (let c = h.counts in let s = h.splits_are in omega (arith, c, s)),
-)
+pub begun_end : (task : Task) (cells : List Cell) (entries : List (ℤ × ℕ)) (best : Option (List ℕ))
+    (stack : List ℕ) → IsBegun task cells entries best stack []
+    → IsGrown task cells entries best 0
+begun_end task cells entries best stack h = record {
+  boxes = h.boxes;
+  shape = h.shape;
+  are_boxes = h.are_boxes;
+  is_shape = h.is_shape;
+  splits_are = let s = h.splits_are in omega (arith, s);
+  settled = λ k l. settled k h.places h.rest_is (h.settled k l);
+  level = λ none k i m j l e s. absurd (let f = fork_is_there cells k i m h.shape e h.is_shape.stands
+      (omega (arith, h.is_shape.once k l)) in
+      let q = h.splits_are in omega (arith, f, q, none));
+  floors = h.floors;
+  waits = h.waits;
+  best_is = h.best_is;
+}
   where
     settled : (k : ℕ) (places : List Place) → nodes_at places ≡ []
         → IsOneOf k places ⊎ IsSettled task best (box_at h.boxes k) (node_at cells k)
@@ -598,19 +588,19 @@ begun_end task cells entries best count stack h = (
     settled k (p ∷ ps) e (inl o) = absurd (nodes_are_some p.tree (nodes_at ps) e)
 
 -- the next node
-pub begun_at : (task : Task) (cells : List Cell) (entries : List (ℤ × ℕ)) (best : Option (List ℕ)) (count : ℕ)
+pub begun_at : (task : Task) (cells : List Cell) (entries : List (ℤ × ℕ)) (best : Option (List ℕ))
     (stack : List ℕ) (nodes : List Node) (n : ℕ) → n < length nodes
-    → IsBegun task cells entries best count stack (drop n nodes)
-    → IsBegun task cells entries best count stack (get_or nodes n (Split 0 0) ∷ drop (n + 1) nodes)
-begun_at task cells entries best count stack nodes n l h =
-    subst (IsBegun task cells entries best count stack)
+    → IsBegun task cells entries best stack (drop n nodes)
+    → IsBegun task cells entries best stack (get_or nodes n (Split 0 0) ∷ drop (n + 1) nodes)
+begun_at task cells entries best stack nodes n l h =
+    subst (IsBegun task cells entries best stack)
     (drop-cons nodes n (Split 0 0) l ∙ ap (λ (k : ℕ). get_or nodes n (Split 0 0) ∷ drop k nodes) (sym (add-one n))) h
 
 -- a number is left as long as a node is to come
-pub some_top : (task : Task) (cells : List Cell) (entries : List (ℤ × ℕ)) (best : Option (List ℕ)) (count : ℕ)
-    (stack : List ℕ) (node : Node) (after : List Node) → IsBegun task cells entries best count stack (node ∷ after)
+pub some_top : (task : Task) (cells : List Cell) (entries : List (ℤ × ℕ)) (best : Option (List ℕ))
+    (stack : List ℕ) (node : Node) (after : List Node) → IsBegun task cells entries best stack (node ∷ after)
     → stack ≡ [] → ⊥
-some_top task cells entries best count stack node after h e =
+some_top task cells entries best stack node after h e =
     at h.places (ap reverse (sym e) ∙ h.stack_is) h.rest_is
   where
     at : (places : List Place) → [] ≡ map (λ place. place.number) places → nodes_at places ≡ node ∷ after → ⊥
@@ -618,17 +608,17 @@ some_top task cells entries best count stack node after h e =
     at (p ∷ ps) f r = some_are_none p.number (map (λ place. place.number) ps) (sym f)
 
 -- no node is to come, or no number is left
-pub begun_done : (task : Task) (cells : List Cell) (entries : List (ℤ × ℕ)) (best : Option (List ℕ)) (count : ℕ)
-    (stack : List ℕ) (nodes : List Node) (n : ℕ) → IsBegun task cells entries best count stack (drop n nodes)
+pub begun_done : (task : Task) (cells : List Cell) (entries : List (ℤ × ℕ)) (best : Option (List ℕ))
+    (stack : List ℕ) (nodes : List Node) (n : ℕ) → IsBegun task cells entries best stack (drop n nodes)
     → (length nodes ≤ n) ⊎ ((n < length nodes) × (stack ≡ []))
-    → IsGrown task cells entries best 0 × (count + splits_before task ≡ length task.given)
-begun_done task cells entries best count stack nodes n h (inl l) =
-    begun_end task cells entries best count stack
-    (subst (IsBegun task cells entries best count stack) (drop_all n nodes l) h)
-begun_done task cells entries best count stack nodes n h (inr (l, e)) =
+    → IsGrown task cells entries best 0
+begun_done task cells entries best stack nodes n h (inl l) =
+    begun_end task cells entries best stack
+    (subst (IsBegun task cells entries best stack) (drop_all n nodes l) h)
+begun_done task cells entries best stack nodes n h (inr (l, e)) =
     let node = get_or nodes n (Split 0 0) in
-    absurd (some_top task cells entries best count stack node (drop (n + 1) nodes)
-    (begun_at task cells entries best count stack nodes n l h) e)
+    absurd (some_top task cells entries best stack node (drop (n + 1) nodes)
+    (begun_at task cells entries best stack nodes n l h) e)
 
 -- the plan handed in, as it is kept
 pub given_feasible : (inst : Tables) (incumbent : Option (Bor (List ℕ))) (best : Option (List ℕ))

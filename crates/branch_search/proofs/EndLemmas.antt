@@ -253,9 +253,8 @@ none_is_floor task growth boxes left h some = at growth.best left h.under_best s
     at (Some best) None h some = absurd (h best.starts refl)
 
 -- ---- the answer of these parts
-abbrev answer_of : Bound → List Node → Option (List ℕ) → Bool → ℕ → ℕ → SearchEnd
-answer_of b n p u k c =
-    record { bound = b; nodes = n; best = p; unfinished = u; kept = k; changed = c }
+abbrev answer_of : Bound → List Node → Option (List ℕ) → Bool → SearchEnd
+answer_of b n p u = record { bound = b; nodes = n; best = p; unfinished = u }
 
 module _ (task : Task) (growth : Growth) (g : IsGrowth task growth) (left : Option ℤ)
     (some : IfSome left (IsLeftWorth growth.best growth.waiting))
@@ -281,11 +280,11 @@ module _ (task : Task) (growth : Growth) (g : IsGrowth task growth) (left : Opti
       none_is_floor task growth g.state.boxes left floor
       (λ z e. left_floor NoPlan z (left_of left (IsLeftWorth growth.best growth.waiting) z e some) floor)
 
-  module _ (turns kept changed : ℕ) (few : growth.splits ≤ turns)
+  module _ (turns : ℕ) (few : growth.splits ≤ turns)
       (spent : (z : ℤ) → IsLeftWorth growth.best growth.waiting z → growth.splits ≡ turns) where
     searched_of : IsSearchedBy task.value task.inst task.lists task.worths task.incumbent (splits_before task) turns
         (answer_of (bound_with left growth.best) (map (node_at growth.cells.items) (numbers g.state.shape))
-        (plan_in growth.best) (is_some left) kept changed)
+        (plan_in growth.best) (is_some left))
     searched_of = record {
       tree = tree_of growth.cells.items g.state.shape;
       of_nodes = record {
@@ -376,26 +375,17 @@ module _ (task : Task) (growth : Growth) (g : IsGrowth task growth) (left : Opti
 
     pub searched : (answer : SearchEnd) → answer.bound ≡ bound_with left growth.best
         → answer.nodes ≡ map (node_at growth.cells.items) (numbers g.state.shape)
-        → answer.best ≡ plan_in growth.best → answer.unfinished ≡ is_some left → answer.kept ≡ kept
-        → answer.changed ≡ changed
+        → answer.best ≡ plan_in growth.best → answer.unfinished ≡ is_some left
         → IsSearchedBy task.value task.inst task.lists task.worths task.incumbent (splits_before task) turns answer
-    searched answer b n p u k c = subst
+    searched answer b n p u = subst
         (IsSearchedBy task.value task.inst task.lists task.worths task.incumbent (splits_before task) turns)
         (sym same) searched_of
       where
         same : answer ≡ answer_of (bound_with left growth.best)
-            (map (node_at growth.cells.items) (numbers g.state.shape)) (plan_in growth.best) (is_some left) kept changed
-        same = ap (λ (x : Bound). answer_of x answer.nodes answer.best answer.unfinished answer.kept answer.changed) b
-            ∙ ap (λ (x : List Node). answer_of (bound_with left growth.best) x answer.best answer.unfinished answer.kept
-            answer.changed) n
+            (map (node_at growth.cells.items) (numbers g.state.shape)) (plan_in growth.best) (is_some left)
+        same = ap (λ (x : Bound). answer_of x answer.nodes answer.best answer.unfinished) b
+            ∙ ap (λ (x : List Node). answer_of (bound_with left growth.best) x answer.best answer.unfinished) n
             ∙ ap (λ (x : Option (List ℕ)). answer_of (bound_with left growth.best)
-            (map (node_at growth.cells.items) (numbers g.state.shape)) x answer.unfinished answer.kept
-            answer.changed) p
+            (map (node_at growth.cells.items) (numbers g.state.shape)) x answer.unfinished) p
             ∙ ap (λ (x : Bool). answer_of (bound_with left growth.best)
-            (map (node_at growth.cells.items) (numbers g.state.shape)) (plan_in growth.best) x answer.kept
-            answer.changed) u
-            ∙ ap (λ (x : ℕ). answer_of (bound_with left growth.best)
-            (map (node_at growth.cells.items) (numbers g.state.shape)) (plan_in growth.best) (is_some left) x
-            answer.changed) k
-            ∙ ap (λ (x : ℕ). answer_of (bound_with left growth.best)
-            (map (node_at growth.cells.items) (numbers g.state.shape)) (plan_in growth.best) (is_some left) kept x) c
+            (map (node_at growth.cells.items) (numbers g.state.shape)) (plan_in growth.best) x) u

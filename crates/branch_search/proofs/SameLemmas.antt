@@ -115,10 +115,10 @@ least_same among others (Least b) there back h = (there b h.0, λ z a. h.1 z (ba
 
 -- ---- the statement
 pub searched_same : (value : PlanValue) (inst : Tables) (lists : ℕ) (worths others : Worths)
-    (incumbent : Option (List ℕ)) (before turns kept changed : ℕ) (answer : SearchEnd) → IsFitting inst
+    (incumbent : Option (List ℕ)) (before turns : ℕ) (answer : SearchEnd) → IsFitting inst
     → AreSameWorths inst lists worths others → IsSearchedBy value inst lists worths incumbent before turns answer
-    → IsSearchedBy value inst lists others incumbent before turns (record answer { kept = kept; changed = changed })
-searched_same value inst lists worths others incumbent before turns kept changed answer fits same h = record {
+    → IsSearchedBy value inst lists others incumbent before turns answer
+searched_same value inst lists worths others incumbent before turns answer fits same h = record {
   tree = h.tree;
   of_nodes = h.of_nodes;
   holds = subst

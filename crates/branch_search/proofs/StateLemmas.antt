@@ -28,7 +28,6 @@ use Rattle.branch_search.specs.declared.tree.growth.Growth.{Growth}
 use Rattle.branch_search.specs.declared.splitting.settling.Settled.{Settled}
 use Rattle.branch_search.specs.declared.search_end.SearchEnd.{SearchEnd}
 use Rattle.branch_search.specs.declared.tree_end.TreeEnd.{TreeEnd}
-use Rattle.branch_search.specs.declared.tree.counts.LeafCounts.{LeafCounts}
 use Rattle.branch_search.specs.Best.{IsShort}
 use Rattle.branch_search.specs.Searched.{lists_of, IsSearchedBy, IsSearched}
 use Rattle.branch_search.specs.Tasks.{Task, splits_before, freed}
@@ -171,13 +170,12 @@ step_kept task old new n i m c1 c2 left right y z rest mid spans law grow g w p 
     }
 
 -- ---- the end
-pub answer_is : (task : Task) (growth : Growth) (counts : LeafCounts) (answer : SearchEnd) (turns : ℕ)
-    → IsGrowth task growth → IsAnswerOf growth counts answer → growth.splits ≤ turns
+pub answer_is : (task : Task) (growth : Growth) (answer : SearchEnd) (turns : ℕ) → IsGrowth task growth
+    → IsAnswerOf growth answer → growth.splits ≤ turns
     → ((z : ℤ) → IsLeftWorth growth.best growth.waiting z → growth.splits ≡ turns)
     → IsSearchedBy task.value task.inst task.lists task.worths task.incumbent (splits_before task) turns answer
-answer_is task growth counts answer turns g a few spent = searched task growth g a.left a.some a.none turns counts.kept
-    counts.changed few spent answer a.bound (a.nodes g.state.shape g.state.is_shape) a.best a.unfinished a.kept
-    a.changed
+answer_is task growth answer turns g a few spent = searched task growth g a.left a.some a.none turns few spent answer
+    a.bound (a.nodes g.state.shape g.state.is_shape) a.best a.unfinished
 
 pub enough_turns : (value : PlanValue) (inst : Tables) (lists : ℕ) (worths : Worths) (incumbent : Option (List ℕ))
     (before turns : ℕ) (answer : SearchEnd) → IsFitting inst
@@ -208,8 +206,8 @@ searched_by_lists base value inst prices incumbent turns lists tables answer fit
     record {
       version = refl;
       lists = e;
-      by = searched_same value inst (length lists) (table_worths tables) (worth_by base inst lists) incumbent 0 turns 0
-          0 answer fits h.same
+      by = searched_same value inst (length lists) (table_worths tables) (worth_by base inst lists) incumbent 0 turns
+          answer fits h.same
           (subst (λ (n : ℕ). IsSearchedBy value inst n (table_worths tables) incumbent 0 turns answer) each s);
     }
 

@@ -84,8 +84,8 @@ abbrev pub AreOpen : Task → List Cell → List (List Span) → List Place → 
 AreOpen task cells boxes [] = Unit {0}
 AreOpen task cells boxes (p ∷ ps) = IsOpen task cells boxes p × AreOpen task cells boxes ps
 
--- what holds on the way: so many leaves are laid, and the rest of the nodes is to come
-pub record IsBegun (task : Task) (cells : List Cell) (entries : List (ℤ × ℕ)) (best : Option (List ℕ)) (leaves : ℕ)
+-- what holds on the way: the rest of the nodes is to come
+pub record IsBegun (task : Task) (cells : List Cell) (entries : List (ℤ × ℕ)) (best : Option (List ℕ))
     (stack : List ℕ) (rest : List Node) : Type 0 where
   pub boxes : List (List Span)
   pub shape : Shape
@@ -97,7 +97,6 @@ pub record IsBegun (task : Task) (cells : List Cell) (entries : List (ℤ × ℕ
   pub open_are : AreOpen task cells boxes places
   pub apart : AreApart places
   pub splits_are : forks shape + split_count rest ≡ split_count task.given
-  pub counts : leaves + forks shape + length rest ≡ length task.given
   pub settled : (k : ℕ) → k < length cells
       → IsOneOf k places ⊎ IsSettled task best (box_at boxes k) (node_at cells k)
   pub waits : AreEntries task cells boxes entries

@@ -130,8 +130,6 @@ end_of answer =
       nodes = answer.cert.nodes;
       best = answer.best;
       unfinished = answer.unfinished;
-      kept = 0;
-      changed = 0;
     }
 
 -- the answer of a search given a price list or none: the certificate is one of version 2 with that list, or none, and

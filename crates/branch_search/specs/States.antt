@@ -12,7 +12,6 @@ use Rattle.branch_search.specs.declared.best.Best.{Best}
 use Rattle.branch_search.specs.declared.tree.cell.Cell.{Cell}
 use Rattle.branch_search.specs.declared.tree.growth.Growth.{Growth}
 use Rattle.branch_search.specs.declared.search_end.SearchEnd.{SearchEnd}
-use Rattle.branch_search.specs.declared.tree.counts.LeafCounts.{LeafCounts}
 use Rattle.branch_search.specs.Best.{IsBestOver}
 use Rattle.branch_search.specs.Valued.{plan_in, IsValued, IsSmallValue, IsBelow}
 use Rattle.branch_search.specs.Tasks.{Task, splits_before, given_claim}
@@ -103,12 +102,10 @@ bound_with None None = NoPlan
 bound_with None (Some best) = Least best.value
 
 -- an answer says what is kept
-pub record IsAnswerOf (growth : Growth) (counts : LeafCounts) (answer : SearchEnd) : Type 0 where
+pub record IsAnswerOf (growth : Growth) (answer : SearchEnd) : Type 0 where
   pub nodes : (shape : Shape) → IsShapeOf growth.cells.items shape
       → answer.nodes ≡ map (node_at growth.cells.items) (numbers shape)
   pub best : answer.best ≡ plan_in growth.best
-  pub kept : answer.kept ≡ counts.kept
-  pub changed : answer.changed ≡ counts.changed
   pub left : Option ℤ
   pub unfinished : answer.unfinished ≡ is_some left
   pub bound : answer.bound ≡ bound_with left growth.best

@@ -102,10 +102,6 @@ pub fn go_on<G: Goal>(
     ensures no_plan { IfOk result (λ answer.
         IsProved (G.value_gives goal.now) inst.now (claim_by NoPlan tables.now nodes.now) → answer.bound ≡ NoPlan) }
 
-    // Each leaf of the nodes stayed, or became another one.
-    ensures leaves { IfOk result (λ answer.
-        answer.kept + answer.changed + split_count nodes.now ≡ length nodes.now) }
-
     // A tree has two nodes more with each split.
     ensures nodes { IfOk result (λ answer. length answer.nodes ≤ length nodes.now + 2 * turns) }
 
@@ -114,7 +110,7 @@ pub fn go_on<G: Goal>(
         ≤ split_count nodes.now + turns + 1 → answer.unfinished ≡ false) }
 {
     inst.fits();
-    let (mut growth, counts) = begin(alloc, goal, inst, tables, nodes, incumbent)?;
+    let mut growth = begin(alloc, goal, inst, tables, nodes, incumbent)?;
     grow(
         alloc,
         goal,
@@ -125,7 +121,7 @@ pub fn go_on<G: Goal>(
         turns,
         &mut growth,
     )?;
-    let answer = finish(alloc, growth, counts)?;
+    let answer = finish(alloc, growth)?;
     Ok(answer)
 }
 

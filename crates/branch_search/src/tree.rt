@@ -1,6 +1,5 @@
 //! The tree of boxes under construction: its nodes, the leaves that wait, and the answer that it becomes.
 mod cell;
-mod counts;
 mod finishing;
 mod growth;
 mod node_box;
@@ -8,7 +7,6 @@ mod nodes;
 mod waiting;
 
 pub(crate) use cell::{Cell, set_leaf, split_cell};
-pub(crate) use counts::LeafCounts;
 pub(crate) use finishing::finish;
 pub(crate) use growth::Growth;
 pub(crate) use node_box::box_of;

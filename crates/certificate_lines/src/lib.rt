@@ -20,5 +20,5 @@ pub use line::{Bound, CertificateLine, Side, Version};
 pub use numbers::Numbers;
 pub use places::places_of;
 pub use read::line_of;
-pub use words::{cut_word, next_number, one, three, two};
-pub use write::{write_line, write_places, write_tail, write_words};
+pub use words::{cut_word, next_number, three};
+pub use write::{write_line, write_tail, write_words};

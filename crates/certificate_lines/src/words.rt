@@ -31,7 +31,7 @@ pub fn next_number(text: &[u8]) -> Option<(u64, &[u8])>
 }
 
 /// The number that is the only word.
-pub fn one(text: &[u8]) -> Option<u64>
+pub(crate) fn one(text: &[u8]) -> Option<u64>
     ensures found { IfSome result (λ n. text.now ≡ words (n ∷ [])) }
     ensures small { IfSome result (λ n. IsNumber n) }
     ensures none { IfNone result ((n : ℕ) → IsNumber n → text.now ≡ words (n ∷ []) → ⊥) }
@@ -44,7 +44,7 @@ pub fn one(text: &[u8]) -> Option<u64>
 }
 
 /// The numbers that are the only two words.
-pub fn two(text: &[u8]) -> Option<(u64, u64)>
+pub(crate) fn two(text: &[u8]) -> Option<(u64, u64)>
     ensures found { IfSome result (λ pair. text.now ≡ words (pair.0 ∷ pair.1 ∷ [])) }
     ensures small { IfSome result (λ pair. IsNumber pair.0 × IsNumber pair.1) }
     ensures none { IfNone result ((n m : ℕ) → IsNumber n → IsNumber m → text.now ≡ words (n ∷ m ∷ []) → ⊥) }

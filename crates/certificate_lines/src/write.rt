@@ -145,7 +145,7 @@ pub fn write_words<D: Desk>(numbers: &[u64], desk: &mut D) -> Result<(), Failed>
 }
 
 /// The same of smaller numbers.
-pub fn write_places<D: Desk>(places: &[u32], desk: &mut D) -> Result<(), Failed>
+fn write_places<D: Desk>(places: &[u32], desk: &mut D) -> Result<(), Failed>
     requires opened { IsTrue (D.shows desk.old).output.opened }
     ensures { WritesText (words places.now) (D.shows desk.old) (D.shows desk.new) result }
 {

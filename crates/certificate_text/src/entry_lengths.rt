@@ -100,7 +100,7 @@ fn tail_length(t: u32, tail: &Tail) -> u64
 }
 
 /// The scenarios of a tail.
-pub fn places_length(places: &[u32]) -> u64
+fn places_length(places: &[u32]) -> u64
     ensures { result ≡ counted_length (words places.now) }
 {
     let mut total: u64 = 0;

@@ -17,7 +17,7 @@ mod put;
 mod write;
 
 pub use entries::write_entries;
-pub use entry_lengths::{entries_length, places_length};
+pub use entry_lengths::entries_length;
 pub use laws::{
     entries_grow, lead_to_certificates, lines_are_cut_one_way, texts_are_short, texts_lead,
     texts_tell, zeros_have_no_entry,

@@ -1,20 +1,18 @@
 -- A proved claim bounds every feasible plan, and so does a valid certificate.
-use Rattle.std.proofs.Common.{◌≡◌, ℕ, zero, suc, ◌-◌, ◌*◌, ◌≤◌, sym, ◌∙◌, subst, arith, ℤ, ◌≤ℤ◌, List, length}
-use Rattle.std.proofs.Common.{get_or, map, Option, Some, None, All}
+use Rattle.std.proofs.Common.{◌≡◌, ℕ, zero, suc, ◌≤◌, sym, subst, arith, ℤ, ◌≤ℤ◌, List, length}
+use Rattle.std.proofs.Common.{get_or, map, Some, All}
 use Rattle.std.specs.List.{Any}
-use Rattle.std.proofs.lemmas.List.{length-replicate, get_or-replicate}
-use Rattle.std.proofs.lemmas.List.Elements.{All-replicate}
 use Rattle.fixed_num.proofs.SignedLemmas.{signed_arith}
 use Rattle.instance_model.specs.Tables.{Tables}
 use Rattle.instance_model.specs.Fitting.{IsFitting}
 use Rattle.instance_model.specs.Rules.{IsFeasible}
 use Rattle.instance_model.proofs.EntryLemmas.{is_allowed_facts}
 use Rattle.lagrange_bound.specs.declared.span.Span.{Span}
-use Rattle.lagrange_bound.specs.declared.tail.Tail.{Tail}
 use Rattle.lagrange_bound.specs.Prices.{PriceList, IsPriceList, zero_list}
 use Rattle.lagrange_bound.specs.Goals.{Bases, PlanValue}
 use Rattle.lagrange_bound.specs.Boxes.{span_of, IsBox, HasStarts, IsPlanIn}
 use Rattle.lagrange_bound.specs.Worth.{WorthBoundsPlans}
+use Rattle.lagrange_bound.proofs.PriceLemmas.{zero_in_range}
 use Rattle.certificate_lines.specs.declared.line.Bound.{Bound}
 use Rattle.certificate_lines.specs.declared.line.Bound.TheVariants.{NoPlan, Least}
 use Rattle.certificate_tree.specs.declared.node.Node.{Node}
@@ -37,24 +35,7 @@ at_least_more : (bound : Bound) (x y : ℤ) → IsAtLeast bound x → x ≤ℤ y
 at_least_more NoPlan x y h l = absurd h
 at_least_more (Least b) x y h l = at_most_trans b x y h l
 
--- ---- list 0 and the others are in range
-pub zero_in_range : (inst : Tables) → IsPriceList inst (zero_list inst)
-unfolding zero_list
-zero_in_range inst = record {
-  up_each = length-replicate (length inst.resource_names * inst.periods) 0;
-  lo_each = length-replicate (length inst.resource_names * inst.periods) 0;
-  up_small = All-replicate (λ (v : ℕ). v ≤ 1_000_000_000) (length inst.resource_names * inst.periods) 0 (omega arith);
-  lo_small = All-replicate (λ (v : ℕ). v ≤ 1_000_000_000) (length inst.resource_names * inst.periods) 0 (omega arith);
-  tails_each = length-replicate inst.periods None;
-  tails = λ t one few x e. absurd (let z : Option Tail = None in
-      let w = get_or-replicate inst.periods (t - 1) z z (omega (arith, one, few)) in none_some x (sym w ∙ e));
-  ex = tt;
-  ex_ascend = λ i j d l m. absurd (omega (arith, m));
-}
-  where
-    none_some : (x : Tail) → None ≡ Some x → ⊥
-    none_some x e = cc
-
+-- ---- the lists are in range
 pub list_in_range : (inst : Tables) (lists : List PriceList) (j : ℕ) → j ≤ length lists → All (IsPriceList inst) lists
     → IsPriceList inst (list_at inst lists j)
 unfolding list_at

@@ -1,6 +1,6 @@
 //! Words that name files.
-ghost use Rattle.std.specs.Prelude.{◌≡◌, map};
-ghost use Rattle.command_words.specs.Files.{are_apart, are_file_words, differs_from_each};
+ghost use Rattle.std.specs.Prelude.{◌≡◌, map, option_copied};
+ghost use Rattle.command_words.specs.Files.{are_apart, are_file_words, given_of, differs_from_each};
 
 /// Whether each of these is a file word.
 #[tactic(auto, unfolding(crate::specs::Files::are_file_words))]
@@ -11,6 +11,13 @@ pub fn are_file_words(words: &[&str]) -> bool
         [] => true,
         [word, words @ ..] => !word.is_empty() && are_file_words(words),
     }
+}
+
+/// The name of a file that may be left out: the word `-` stands for none.
+pub fn given_of(word: &str) -> Option<&str>
+    ensures { option_copied result ≡ given_of word.now }
+{
+    if word == "-" { None } else { Some(word) }
 }
 
 /// Whether no two of these names are the same text.

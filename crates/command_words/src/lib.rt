@@ -8,6 +8,6 @@ mod files;
 mod numbers;
 mod source;
 
-pub use files::{are_apart, are_file_words};
+pub use files::{are_apart, are_file_words, given_of};
 pub use numbers::{count_of, period_of, seed_of, span_of, turns_of};
 pub use source::source_of;

@@ -1,7 +1,6 @@
 -- The command line. A word is the list of its bytes; words count from 1, and word 1 is the name of the command.
-use Rattle.std.specs.Prelude.{◌≡◌, ℕ, List, [], ◌∷◌, codes, bytes_eq, ◌&&◌, Option, Some, None, option_map}
-use Rattle.std.specs.Prelude.{if◌then◌else◌}
-use Rattle.command_words.specs.Files.{is_file_word, are_file_words, are_apart}
+use Rattle.std.specs.Prelude.{◌≡◌, ℕ, List, [], ◌∷◌, codes, bytes_eq, ◌&&◌, Option, None, option_map, if◌then◌else◌}
+use Rattle.command_words.specs.Files.{is_file_word, are_file_words, given_of, are_apart}
 use Rattle.command_words.specs.Numbers.{turns_of, period_of, span_of, seed_of, count_of}
 use Rattle.command_words.specs.Ends.{source_of}
 use Rattle.command_words.specs.Parsing.{of_both}
@@ -40,15 +39,11 @@ replay_of (instance ∷ plan ∷ script ∷ end) =
     else None
 replay_of words = None
 
--- the plan of a check: the word `-` stands for none
-abbrev pub given_plan : List ℕ → Option (List ℕ)
-given_plan word = if bytes_eq word (codes "-") then None else Some word
-
--- `check INSTANCE PLAN CERTIFICATE`
+-- `check INSTANCE PLAN CERTIFICATE`, where PLAN may be `-`, for none
 abbrev pub check_of : List (List ℕ) → Option Command
 check_of (instance ∷ plan ∷ cert ∷ end) =
     if is_file_word plan && is_file_word cert
-    then option_map (λ source. check source (given_plan plan) cert) (source_of instance end)
+    then option_map (λ source. check source (given_of plan) cert) (source_of instance end)
     else None
 check_of words = None
 

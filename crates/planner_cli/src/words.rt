@@ -1,7 +1,6 @@
 //! The command line: word 1 names the command, and the words behind it are that command's own.
-ghost use Rattle.std.specs.Prelude.{◌≡◌, map, string_bytes, option_copied};
-ghost use Rattle.planner_cli.specs.Words.{command_of, command_named, evaluate_of, replay_of, check_of, given_plan};
-ghost use Rattle.planner_cli.specs.Words.{rebound_of};
+ghost use Rattle.std.specs.Prelude.{map, string_bytes};
+ghost use Rattle.planner_cli.specs.Words.{command_of, command_named, evaluate_of, replay_of, check_of, rebound_of};
 ghost use Rattle.planner_cli.specs.Asked.{IsAsked};
 
 mod rehearse;
@@ -12,7 +11,7 @@ mod table;
 use command_frame::Source;
 use command_roll::RollFiles;
 use command_solve::SolveFiles;
-use command_words::{are_apart, are_file_words, source_of};
+use command_words::{are_apart, are_file_words, given_of, source_of};
 use rehearse::rehearse_of;
 use roll::roll_of;
 use solve::solve_of;
@@ -142,16 +141,9 @@ fn check_of(words: &[String]) -> Option<Command<'_>>
     let source = source_of(instance.as_str(), end)?;
     Some(Command::Check {
         source,
-        plan: given_plan(plan.as_str()),
+        plan: given_of(plan.as_str()),
         certificate: certificate.as_str(),
     })
-}
-
-/// The plan of a check: the word `-` stands for none.
-fn given_plan(word: &str) -> Option<&str>
-    ensures { option_copied result ≡ given_plan word.now }
-{
-    if word == "-" { None } else { Some(word) }
 }
 
 /// `rebound` of these words.

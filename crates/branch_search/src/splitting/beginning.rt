@@ -20,7 +20,7 @@ use crate::best::Best;
 use crate::choosing::Chooser;
 use crate::splitting::current_box::CurrentBox;
 use crate::splitting::settling::settle_again;
-use crate::tree::{Cell, Growth, LeafCounts, Waiting, await_leaf, box_of, set_leaf, split_cell};
+use crate::tree::{Cell, Growth, Waiting, await_leaf, box_of, set_leaf, split_cell};
 use certificate_tree::{BoxPath, Node, nodes_are_one_tree};
 use instance_model::{Instance, Starts};
 use lagrange_bound::{Goal, PriceTable};
@@ -84,7 +84,7 @@ fn new_growth(alloc: Global, inst: &Instance, best: Option<Best>) -> Result<Grow
     })
 }
 
-/// Gives a number the leaf of its box in the place of a given one, and says whether it is the same.
+/// Gives a number the leaf of its box in the place of a given one.
 fn lay_leaf<G: Goal>(
     alloc: Global,
     goal: &G,
@@ -93,7 +93,7 @@ fn lay_leaf<G: Goal>(
     growth: &mut Growth,
     number: usize,
     given: Node,
-) -> Result<bool, AllocError>
+) -> Result<(), AllocError>
     requires tables { AreSearchTables inst.now tables.now }
     requires number { number < length growth.old.cells.items }
     requires boxes { (boxes : List (List Span)) × AreBoxesOf inst.now growth.old.cells.items boxes }
@@ -112,10 +112,10 @@ fn lay_leaf<G: Goal>(
     let leaf = settle_again(alloc, goal, inst, tables, current, given, best)?;
     set_leaf(&mut growth.cells, number, leaf.node);
     await_leaf(&mut growth.waiting, leaf.worth, number)?;
-    Ok(leaf.node == given)
+    Ok(())
 }
 
-/// The state before any split of the search's own, and how many leaves of the given tree stayed.
+/// The state before any split of the search's own.
 pub(crate) fn begin<G: Goal>(
     alloc: Global,
     goal: &G,
@@ -123,25 +123,19 @@ pub(crate) fn begin<G: Goal>(
     tables: &[PriceTable],
     nodes: &[Node],
     incumbent: Option<&[u32]>,
-) -> Result<(Growth, LeafCounts), AllocError>
+) -> Result<Growth, AllocError>
     requires tables { AreSearchTables inst.now tables.now }
     requires lawful { BoundBoxes (G.value_gives goal.now) inst.now (length tables.now - 1) (table_worths tables.now) }
     requires tree { (t : Tree) × AreNodesOf inst.now (length tables.now - 1) (root_box inst.now) t nodes.now }
     requires incumbent { IfSome incumbent (λ given. IsFeasiblePlan inst.now given.now) }
     ensures state { IfOk result (λ begun. IsGrowth (task_of (G.value_gives goal.now) inst.now tables.now nodes.now
-        (option_map (λ given. given.now) incumbent.entry)) begun.0) }
-    ensures none { IfOk result (λ begun. begun.0.splits ≡ 0) }
-    ensures counts { IfOk result (λ begun.
-        begun.1.kept + begun.1.changed + split_count nodes.now ≡ length nodes.now) }
+        (option_map (λ given. given.now) incumbent.entry)) begun) }
+    ensures none { IfOk result (λ begun. begun.splits ≡ 0) }
 {
     inst.fits();
     nodes_are_one_tree();
     let best = given_best(alloc, goal, inst, incumbent)?;
     let mut growth = new_growth(alloc, inst, best)?;
-    let mut counts = LeafCounts {
-        kept: 0,
-        changed: 0,
-    };
     let mut stack = Vec::new(alloc);
     stack.push(0usize)?;
     for node in nodes {
@@ -155,11 +149,8 @@ pub(crate) fn begin<G: Goal>(
                 stack.push(left + 1)?;
                 stack.push(left)?;
             }
-            leaf => {
-                let is_same = lay_leaf(alloc, goal, inst, tables, &mut growth, number, leaf)?;
-                counts.take(is_same);
-            }
+            leaf => lay_leaf(alloc, goal, inst, tables, &mut growth, number, leaf)?,
         }
     }
-    Ok((growth, counts))
+    Ok(growth)
 }

@@ -7,7 +7,6 @@ ghost use Rattle.branch_search.specs.States.{IsKept, bound_with, IsAnswerOf};
 use crate::SearchEnd;
 use crate::best::Best;
 use crate::splitting::left_worth;
-use crate::tree::counts::LeafCounts;
 use crate::tree::growth::Growth;
 use crate::tree::nodes::nodes_of;
 use certificate_tree::{Bound, Nodes};
@@ -38,14 +37,10 @@ fn starts_of(best: Option<Best>) -> Option<Starts>
 }
 
 /// The bound, the nodes and the best plan. All that waits is given up as `cost` leaves.
-pub(crate) fn finish(
-    alloc: Global,
-    growth: Growth,
-    counts: LeafCounts,
-) -> Result<SearchEnd, AllocError>
+pub(crate) fn finish(alloc: Global, growth: Growth) -> Result<SearchEnd, AllocError>
     requires kept { IsKept growth }
     requires shape { (shape : Shape) × IsShapeOf growth.cells.items shape }
-    ensures { IfOk result (IsAnswerOf growth counts) }
+    ensures { IfOk result (IsAnswerOf growth) }
 {
     let left = left_worth(&growth);
     let nodes = nodes_of(alloc, growth.cells.as_slice())?;
@@ -55,7 +50,5 @@ pub(crate) fn finish(
         nodes: Nodes::from_vec(nodes),
         best: starts_of(growth.best),
         unfinished: left.is_some(),
-        kept: counts.kept,
-        changed: counts.changed,
     })
 }

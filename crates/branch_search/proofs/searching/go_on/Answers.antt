@@ -17,7 +17,7 @@ use Rattle.branch_search.proofs.searching.go_on.Goals as goal
 pub returns-clause-searched : goal.returns-clause-searched
 returns-clause-searched g c =
     answer_is (task_of (g.G.Goal.value_gives c.args.goal.now) c.args.inst.now c.args.tables.now c.args.nodes.now
-    (option_map (λ given. given.now) c.args.incumbent)) c.grow.new.growth c.in_ok-growth.counts c.in_ok-answer.answer
+    (option_map (λ given. given.now) c.args.incumbent)) c.grow.new.growth c.in_ok-answer.answer
     c.args.turns c.in_ok-grow.ensures.state c.in_ok-answer.ensures c.in_ok-grow.ensures.few c.in_ok-grow.ensures.spent
 
 pub returns-clause-proved : goal.returns-clause-proved
@@ -48,10 +48,6 @@ returns-clause-no_plan g c = λ h.
     a.bound ∙ no_plan (task_of (g.G.Goal.value_gives c.args.goal.now) c.args.inst.now c.args.tables.now
     c.args.nodes.now (option_map (λ given. given.now) c.args.incumbent)) c.grow.new.growth c.in_ok-grow.ensures.state
     a.left a.some a.none h
-
-pub returns-clause-leaves : goal.returns-clause-leaves
-returns-clause-leaves g c =
-    let a = c.in_ok-answer.ensures in omega (arith, a.kept, a.changed, c.in_ok-growth.ensures.counts)
 
 pub returns-clause-nodes : goal.returns-clause-nodes
 returns-clause-nodes g c =

@@ -11,7 +11,7 @@ use Rattle.branch_search.proofs.BegunLemmas.{leaf_from, leaf_first, leaf_laid, s
 use Rattle.branch_search.proofs.splitting.beginning.begin.Goals as goal
 use Rattle.branch_search.proofs.splitting.beginning.begin.Goals.{else-loop-node-test, then-loop-node-test+in_default}
 use Rattle.branch_search.proofs.splitting.beginning.begin.Goals.{in-Split+in_ok-split_cell-in-Split+in_ok-push-in-Split+in_ok-push-in-Split-2}
-use Rattle.branch_search.proofs.splitting.beginning.begin.Goals.{in_default-node+in_ok-is_same-in_default-node}
+use Rattle.branch_search.proofs.splitting.beginning.begin.Goals.{in_default-node+in_ok-lay_leaf-in_default-node}
 
 pub loop-node-init : goal.loop-node-init
 loop-node-init g c =
@@ -37,11 +37,10 @@ split_cell-requires g c =
     let k = c.loop-node.node-index in
     let n : Node = get_or nodes k (Split 0 0) in
     let growth = c.loop-node.growth in
-    let count = c.loop-node.counts.kept + c.loop-node.counts.changed in
     let under = c.pop.new.self.items in
-    let top = at_top task growth.cells.items growth.waiting (plan_in growth.best) count c.loop-node.stack.items under
+    let top = at_top task growth.cells.items growth.waiting (plan_in growth.best) c.loop-node.stack.items under
     c.in-Some.number (n ∷ drop (k + 1) nodes)
-    (begun_at task growth.cells.items growth.waiting (plan_in growth.best) count c.loop-node.stack.items nodes k
+    (begun_at task growth.cells.items growth.waiting (plan_in growth.best) c.loop-node.stack.items nodes k
     c.loop-node-test.true c.loop-node.invariant.begun) c.in-Some.ensures.items in
     top.open_first.known
 
@@ -53,11 +52,10 @@ lay_leaf-requires g c =
     let k = c.loop-node.node-index in
     let n : Node = get_or nodes k (Split 0 0) in
     let growth = c.loop-node.growth in
-    let count = c.loop-node.counts.kept + c.loop-node.counts.changed in
     let under = c.pop.new.self.items in
-    let top = at_top task growth.cells.items growth.waiting (plan_in growth.best) count c.loop-node.stack.items under
+    let top = at_top task growth.cells.items growth.waiting (plan_in growth.best) c.loop-node.stack.items under
     c.in-Some.number (n ∷ drop (k + 1) nodes)
-    (begun_at task growth.cells.items growth.waiting (plan_in growth.best) count c.loop-node.stack.items nodes k
+    (begun_at task growth.cells.items growth.waiting (plan_in growth.best) c.loop-node.stack.items nodes k
     c.loop-node-test.true c.loop-node.invariant.begun) c.in-Some.ensures.items in
     record {
       tables = c.requires.tables;
@@ -77,20 +75,19 @@ loop-node-preserved g c =
     let k = c.loop-node.node-index in
     let n : Node = get_or nodes k (Split 0 0) in
     let growth = c.loop-node.growth in
-    let count = c.loop-node.counts.kept + c.loop-node.counts.changed in
     let under = c.pop.new.self.items in
-    let top = at_top task growth.cells.items growth.waiting (plan_in growth.best) count c.loop-node.stack.items under
+    let top = at_top task growth.cells.items growth.waiting (plan_in growth.best) c.loop-node.stack.items under
     c.in-Some.number (n ∷ drop (k + 1) nodes)
-    (begun_at task growth.cells.items growth.waiting (plan_in growth.best) count c.loop-node.stack.items nodes k
+    (begun_at task growth.cells.items growth.waiting (plan_in growth.best) c.loop-node.stack.items nodes k
     c.loop-node-test.true c.loop-node.invariant.begun) c.in-Some.ensures.items in
     elim c.match-node.branch [
       | in-Split+in_ok-split_cell-in-Split+in_ok-push-in-Split+in_ok-push-in-Split-2 w ↦
-          (let here = subst (λ (x : Node). IsTop task growth.cells.items growth.waiting (plan_in growth.best) count
+          (let here = subst (λ (x : Node). IsTop task growth.cells.items growth.waiting (plan_in growth.best)
           under c.in-Some.number (x ∷ drop (k + 1) nodes)) w.in-Split.is top in
           let left : w.len-left.result ≡ length growth.cells.items =
           omega (arith, w.len-left.ensures, growth.cells.ok.0) in
-          rw (w.growth-is, w.counts-is, w.stack-is, w.in_ok-split_cell-in-Split.ensures) (record {
-            begun = split_laid task growth.cells.items growth.waiting (plan_in growth.best) count under
+          rw (w.growth-is, w.stack-is, w.in_ok-split_cell-in-Split.ensures) (record {
+            begun = split_laid task growth.cells.items growth.waiting (plan_in growth.best) under
                 w.push-in-Split-2.new.self.items c.in-Some.number w.in-Split.i w.in-Split.last (drop (k + 1) nodes)
                 here
                 (w.in_ok-push-in-Split-2.ensures.items
@@ -100,16 +97,16 @@ loop-node-preserved g c =
             current = c.loop-node.invariant.current;
             none = c.loop-node.invariant.none;
           }))
-      | in_default-node+in_ok-is_same-in_default-node w ↦
-          (let laid = w.in_ok-is_same-in_default-node.ensures.laid in
-          rw (w.growth-is, w.counts-is, w.stack-is, laid.cells, w.take.ensures) (record {
+      | in_default-node+in_ok-lay_leaf-in_default-node w ↦
+          (let laid = w.in_ok-lay_leaf-in_default-node.ensures.laid in
+          rw (w.growth-is, w.stack-is, laid.cells) (record {
             begun = leaf_laid task growth.cells.items growth.waiting w.lay_leaf.new.growth.waiting
-                (plan_in growth.best) (plan_in w.lay_leaf.new.growth.best) count under c.in-Some.number n
+                (plan_in growth.best) (plan_in w.lay_leaf.new.growth.best) under c.in-Some.number n
                 (drop (k + 1) nodes) laid.leaf c.fits.ensures c.requires.lawful
                 (leaf_from n w.in_default-node.not-Split) top (laid.leaf_is top.boxes top.are_boxes)
                 (laid.improved top.boxes top.are_boxes) laid.waits;
-            valued = w.in_ok-is_same-in_default-node.ensures.valued;
-            current = w.in_ok-is_same-in_default-node.ensures.current;
+            valued = w.in_ok-lay_leaf-in_default-node.ensures.valued;
+            current = w.in_ok-lay_leaf-in_default-node.ensures.current;
             none = laid.splits ∙ c.loop-node.invariant.none;
           }))
     ]
@@ -119,33 +116,16 @@ returns-clause-state g c =
     let task = (task_of (g.G.Goal.value_gives c.args.goal.now) c.args.inst.now c.args.tables.now c.args.nodes.now
     (option_map (λ given. given.now) c.args.incumbent)) in
     let growth = c.loop-node.growth in
-    let count = c.loop-node.counts.kept + c.loop-node.counts.changed in
-    let done = begun_done task growth.cells.items growth.waiting (plan_in growth.best) count c.loop-node.stack.items
+    let done = begun_done task growth.cells.items growth.waiting (plan_in growth.best) c.loop-node.stack.items
     c.args.nodes.now c.loop-node.node-index c.loop-node.invariant.begun in
     record {
       state = rw c.loop-node.invariant.none (elim c.loop-node-test.branch [
-        | else-loop-node-test w ↦ (done (inl w.loop-node-test.false)).0
-        | then-loop-node-test+in_default w ↦ (done (inr (
+        | else-loop-node-test w ↦ done (inl w.loop-node-test.false)
+        | then-loop-node-test+in_default w ↦ done (inr (
           w.loop-node-test.true,
           nil_from_length c.loop-node.stack.items (omega (arith, w.in_default.ensures.cases.0, c.loop-node.stack.ok.0)),
-        ))).0
+        ))
       ]);
       valued = c.loop-node.invariant.valued;
       current = c.loop-node.invariant.current;
     }
-
-pub returns-clause-counts : goal.returns-clause-counts
-returns-clause-counts g c =
-    let task = (task_of (g.G.Goal.value_gives c.args.goal.now) c.args.inst.now c.args.tables.now c.args.nodes.now
-    (option_map (λ given. given.now) c.args.incumbent)) in
-    let growth = c.loop-node.growth in
-    let count = c.loop-node.counts.kept + c.loop-node.counts.changed in
-    let done = begun_done task growth.cells.items growth.waiting (plan_in growth.best) count c.loop-node.stack.items
-    c.args.nodes.now c.loop-node.node-index c.loop-node.invariant.begun in
-    elim c.loop-node-test.branch [
-      | else-loop-node-test w ↦ (done (inl w.loop-node-test.false)).1
-      | then-loop-node-test+in_default w ↦ (done (inr (
-        w.loop-node-test.true,
-        nil_from_length c.loop-node.stack.items (omega (arith, w.in_default.ensures.cases.0, c.loop-node.stack.ok.0)),
-      ))).1
-    ]

@@ -1,4 +1,4 @@
-use Rattle.std.proofs.Common.{◌≡◌, ◌+◌, drop}
+use Rattle.std.proofs.Common.{◌≡◌, drop}
 use Rattle.std.specs.Prelude.{option_map}
 use Rattle.branch_search.specs.Tasks.{task_of}
 use Rattle.branch_search.specs.CurrentBoxes.{IsCurrentBox}
@@ -10,7 +10,7 @@ abbrev pub invariant-loop-node : goal.invariant-loop-node
 invariant-loop-node g l = record {
   begun : IsBegun (task_of (g.G.Goal.value_gives l.goal) l.inst l.tables l.nodes
       (option_map (λ given. given.now) l.incumbent)) l.growth.cells.items l.growth.waiting (plan_in l.growth.best)
-      (l.counts.kept + l.counts.changed) l.stack.items (drop l.node-index l.nodes);
+      l.stack.items (drop l.node-index l.nodes);
   valued : IsValued (g.G.Goal.value_gives l.goal) l.inst l.growth.best;
   current : IsCurrentBox l.inst l.growth.current;
   none : l.growth.splits ≡ 0;
