@@ -513,7 +513,7 @@ module _ (task : Task) (cells : List Cell) (entries : List (ℤ × ℕ)) (best :
       (ap (λ (c : Cell). c.node) (at_right cells k i m Point Point split_known j q)) e)
 
   pub split_laid : stack ≡ (under ++ (length cells + 1) ∷ []) ++ length cells ∷ []
-      → IsBegun task (split_cells cells k i m Point Point) entries best count stack after
+      → IsBegun task (split_cells cells k i m Point Point) entries best stack after
   split_laid is = record {
     boxes = split_list g.boxes k i m;
     shape = grown k (length cells) g.shape;
