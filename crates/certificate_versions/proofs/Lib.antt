@@ -1,0 +1,4 @@
+pub mod TailLemmas
+pub mod RangeLemmas
+pub mod WorthLemmas
+pub mod TextLemmas

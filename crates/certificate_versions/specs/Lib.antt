@@ -1,0 +1,4 @@
+-- What the contracts cite.
+pub mod Versions
+pub mod AnyTexts
+pub mod Laws
