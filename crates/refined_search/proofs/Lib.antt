@@ -1,0 +1,9 @@
+pub mod AlikeLemmas
+pub mod RowLemmas
+pub mod OrderLemmas
+pub mod ListLemmas
+pub mod WalkLemmas
+pub mod BeginLemmas
+pub mod TreeLemmas
+pub mod LentLemmas
+pub mod RaiseLemmas
