@@ -1,0 +1,3 @@
+pub mod OutcomeLemmas
+pub mod BoundComplete
+pub mod CompleteLemmas

@@ -1,0 +1,75 @@
+-- The command line. A word is the list of its bytes; words count from 1, and word 1 is the name of the command.
+use Rattle.std.specs.Prelude.{◌≡◌, ℕ, List, [], ◌∷◌, codes, bytes_eq, ◌&&◌, Option, Some, None, option_map}
+use Rattle.std.specs.Prelude.{if◌then◌else◌}
+use Rattle.command_words.specs.Files.{is_file_word, are_file_words, given_of, are_apart}
+use Rattle.command_words.specs.Numbers.{turns_of}
+use Rattle.command_words.specs.Ends.{source_of}
+use Rattle.command_words.specs.Parsing.{of_both}
+use Rattle.command_frame.specs.Sources.{Source}
+
+-- What a command line asks for, with the names of its files. A check has its plan as word 3, if it has one, and its
+-- certificate as word 4. What is rebound has its certificate as word 3, and is written to word 4. A bound has a plan as
+-- word 3 and a certificate that it goes on with as word 4, each if it has one, and is written to word 5.
+pub data Command : Type 0 where
+  check : (source : Source) (plan : Option (List ℕ)) (certificate : List ℕ) → Command
+  rebound : (source : Source) (certificate out : List ℕ) → Command
+  bound : (source : Source) (plan certificate : Option (List ℕ)) (out : List ℕ) (turns : ℕ) → Command
+
+-- ---- the words of each command behind its name; `end` is one word `slack=D`, or none
+
+-- `check INSTANCE PLAN CERTIFICATE`, where PLAN may be `-`, for none
+abbrev pub check_of : List (List ℕ) → Option Command
+check_of (instance ∷ plan ∷ cert ∷ end) =
+    if is_file_word plan && is_file_word cert
+    then option_map (λ source. check source (given_of plan) cert) (source_of instance end)
+    else None
+check_of words = None
+
+-- `rebound INSTANCE CERTIFICATE OUT`, three files whose names differ
+abbrev pub rebound_of : List (List ℕ) → Option Command
+rebound_of (instance ∷ cert ∷ out ∷ end) =
+    if are_file_words (cert ∷ out ∷ []) && are_apart (instance ∷ cert ∷ out ∷ [])
+    then option_map (λ source. rebound source cert out) (source_of instance end)
+    else None
+rebound_of words = None
+
+-- a name, if it is given, and others
+abbrev pub with_given : Option (List ℕ) → List (List ℕ) → List (List ℕ)
+with_given None names = names
+with_given (Some name) names = name ∷ names
+
+-- the names of the files of a bound that are given
+abbrev pub bound_names : (instance : List ℕ) → (plan cert : Option (List ℕ)) → (out : List ℕ) → List (List ℕ)
+bound_names instance plan cert out = instance ∷ with_given plan (with_given cert (out ∷ []))
+
+-- `bound INSTANCE PLAN CERTIFICATE OUT TURNS`, where PLAN and CERTIFICATE may be `-`, for none; the names of the files
+-- that are given differ
+abbrev pub bound_of : List (List ℕ) → Option Command
+bound_of (instance ∷ plan ∷ cert ∷ out ∷ turns ∷ end) =
+    if are_file_words (plan ∷ cert ∷ out ∷ [])
+    && are_apart (bound_names instance (given_of plan) (given_of cert) out)
+    then of_both (λ source count. bound source (given_of plan) (given_of cert) out count) (source_of instance end)
+    (turns_of turns)
+    else None
+bound_of words = None
+
+-- ---- the table of commands
+
+-- the command of this name, of the words behind it
+abbrev pub command_named : (name : List ℕ) → List (List ℕ) → Option Command
+command_named name words =
+    if bytes_eq name (codes "check") then check_of words
+    else if bytes_eq name (codes "rebound") then rebound_of words
+    else if bytes_eq name (codes "bound") then bound_of words
+    else None
+
+-- the command of these words; none where they are not in the grammar
+abbrev pub command_of : List (List ℕ) → Option Command
+command_of [] = None
+command_of (name ∷ words) = command_named name words
+
+-- Each name has its own words: the command of a name is what those words ask for, and that of no other.
+pub record GoesByName : Type 0 where
+  pub checks : (words : List (List ℕ)) → command_of (codes "check" ∷ words) ≡ check_of words
+  pub rebounds : (words : List (List ℕ)) → command_of (codes "rebound" ∷ words) ≡ rebound_of words
+  pub bounds : (words : List (List ℕ)) → command_of (codes "bound" ∷ words) ≡ bound_of words
