@@ -7,7 +7,7 @@
 PROGRAM is what `./planner --build` names; without it the solvers stand alone. Debian's packages have the solvers
 (bench/mip.py). All runs come one after the other, and have the same limit in seconds of the clock, behind which they
 are killed. `--match` also gives the solvers the seconds of the program's last run. A solver with a word behind a colon
-takes another model (bench/milp/model.py); those are left out where `Alpha` is 1.
+takes another model (tools/modelling/program.py); those are left out where `Alpha` is 1.
 
 A row has seconds of the clock and of a processor, score and bound as multiples of 10^18, the gap in percent of the
 score, how far in percent the score is above the best one of the table and the bound below the best one, peak memory,
@@ -22,8 +22,9 @@ from dataclasses import dataclass
 
 sys.dont_write_bytecode = True
 import cases
+from drawn import MILLION, Plain
 from milp import solvers
-from plain import MILLION, Plain, read_instance, read_plan
+from plain import read_instance, read_plan
 
 ONE = 10 ** 18
 # Seconds to read an instance and to make a model of it.

@@ -19,7 +19,8 @@ import tempfile
 from fractions import Fraction
 
 sys.dont_write_bytecode = True
-from milp import model, solvers
+from milp import solvers
+from modelling import program, writing
 from plain import MILLION, Plain, read_instance
 
 SCORE = 10 ** 18
@@ -31,7 +32,7 @@ def read_words():
     parser.add_argument("--write", metavar="LP")
     parser.add_argument("--solve", type=float, metavar="SECONDS")
     parser.add_argument("--solver", choices=solvers.SOLVERS, default="cbc")
-    parser.add_argument("--variant", choices=model.VARIANTS, default="exact")
+    parser.add_argument("--variant", choices=program.VARIANTS, default="exact")
     parser.add_argument("--linear", action="store_true", help="binaries from 0 to 1")
     parser.add_argument("--plan", default=os.devnull, help="where to write the plan")
     parser.add_argument("--largest", type=int, default=8_000_000, help="terms of the model")
@@ -78,15 +79,15 @@ def main():
     words = read_words()
     plain = Plain(read_instance(words.instance))
     try:
-        built = model.build(plain, words.variant, words.largest)
-    except model.TooLarge as fault:
+        built = program.build(plain, words.variant, words.largest)
+    except program.TooLarge as fault:
         sys.exit(f"model {fault}")
     print(f"model columns {len(built.columns)} rows {len(built.rows)} terms {built.terms}")
     if built.hopeless:
         print(f"status infeasible: {built.hopeless}")
         return
     if words.write:
-        built.write_lp(words.write, words.linear)
+        writing.write_lp(built, words.write, linear=words.linear)
     if words.solve is None:
         return
     with tempfile.TemporaryDirectory() as folder:

@@ -4,7 +4,11 @@ import os
 import re
 import shutil
 import subprocess
+import sys
 from dataclasses import dataclass
+
+sys.path.insert(0, os.path.join(os.path.dirname(os.path.abspath(__file__)), "..", "..", "tools"))
+from modelling.writing import write_lp
 
 SOLVERS = ("cbc", "glpk", "highs")
 # The seconds behind its limit after which a solver is killed, and the status that it then ends with.
@@ -95,7 +99,7 @@ def lines_of(path):
 
 def cbc(model, seconds, path, said, linear):
     lp, solution = fresh(path + ".lp"), fresh(path + ".sol")
-    model.write_lp(lp, linear)
+    write_lp(model, lp, linear=linear)
     words = [program("cbc", "coinor-cbc"), lp, "-timeMode", "elapsed", "-sec", str(seconds), "-ratio", "0", "-solve",
              "-solution", solution]
     ran = run(words, seconds + GRACE, said)
@@ -135,7 +139,7 @@ def cbc_bound(said):
 
 def glpk(model, seconds, path, said, linear):
     lp, solution = fresh(path + ".lp"), fresh(path + ".sol")
-    model.write_lp(lp, linear)
+    write_lp(model, lp, linear=linear)
     words = [program("glpsol", "glpk-utils"), "--lp", lp, "--tmlim", str(int(seconds)), "-w", solution]
     ran = run([*words, "--nomip" if linear else "--cuts"], seconds + GRACE, said)
     if "invalid number of columns" in ran.said:  # (its cuts fail where presolving has solved all)

@@ -1,4 +1,4 @@
-"""The problem as a mixed-integer program, and its text in the LP format.
+"""The problem as a mixed-integer program.
 
 One binary for each intervention and start that it may have. A limit that can be broken is a row. An exclusion is, in
 each period of its season, "at most one of the two is in progress"; those of one season that form a clique share their
@@ -11,16 +11,19 @@ exact   over_t >= D_t,k - M_t,k y_t,k, where D is the scenario's sum less the me
 mean    left out: its bound holds for the problem, and its plan has the least mean.
 cvar    over_t is at least the mean of the n - rank + 1 greatest D: the value is at least the plan's score, so it gives
         plans and no bound.
+
+Columns and rows are named after what they are about: a number, which makes them unique, and what a format can have of
+a name. So x12_north_line_s3 is intervention 12 of the file, as its name begins, started in 3; p is a period, k a
+scenario.
 """
-import os
-import sys
+import re
 from itertools import combinations
 
-sys.path.insert(0, os.path.join(os.path.dirname(os.path.abspath(__file__)), "..", "..", "tools"))
 from plain import COUNTS, MILLION
 
 VARIANTS = ("exact", "mean", "cvar")
-TERMS_PER_LINE = 6
+# How many characters of a name stand in that of a column or a row.
+NAME = 24
 
 
 class TooLarge(Exception):
@@ -57,36 +60,29 @@ class Model:
         if self.terms > self.largest:
             raise TooLarge(f"more than {self.largest} terms")
 
-    def write_lp(self, path, linear=False):
-        """Writes it. All columns stand in the objective, so a reader comes to them in this order."""
-        with open(path, "w", encoding="ascii", buffering=1 << 20) as out:
-
-            def line_up(terms):
-                for n in range(0, len(terms), TERMS_PER_LINE):
-                    part = terms[n:n + TERMS_PER_LINE]
-                    out.write(" " + " ".join(f"{a:+.15g} {self.columns[v]}" for v, a in part) + "\n")
-
-            out.write("Minimize\n obj:\n")
-            line_up(list(enumerate(self.costs)))
-            out.write("Subject To\n")
-            for name, terms, sense, right in self.rows:
-                out.write(f" {name}:\n")
-                line_up(terms)
-                out.write(f" {sense} {right:.15g}\n")
-            out.write("Bounds\n")
-            for name, binary, free in zip(self.columns, self.binary, self.free):
-                if free:
-                    out.write(f" {name} free\n")
-                elif binary and linear:
-                    out.write(f" 0 <= {name} <= 1\n")
-            if not linear:
-                out.write("Binaries\n")
-                out.writelines(f" {name}\n" for name, is_one in zip(self.columns, self.binary) if is_one)
-            out.write("End\n")
-
 
 def amount(count):
     return count / COUNTS
+
+
+def safe(name):
+    """What of a name a format can have: letters, digits and underscores of ASCII, and no more than a few of them."""
+    return re.sub("[^A-Za-z0-9]+", "_", name)[:NAME].strip("_")
+
+
+def start_name(inst, i, s):
+    """The name of the column of an intervention and a start."""
+    return f"x{i + 1}_{safe(inst.intervention_names[i])}_s{s}"
+
+
+def possible_starts(inst):
+    """By intervention the starts that it may have: those that are allowed, and break no exclusion with itself."""
+    never = {}
+    for i, j, q in inst.exclusions:
+        if i == j:
+            never.setdefault(i, set()).update(inst.seasons[q])
+    return [[s for s in inst.allowed(i) if not never.get(i, set()) & set(inst.run(i, s))]
+            for i in range(inst.interventions)]
 
 
 def build(plain, variant="exact", largest=8_000_000):
@@ -106,26 +102,21 @@ def build(plain, variant="exact", largest=8_000_000):
 
 
 def add_starts(plain, model, in_progress):
-    inst, never = plain.inst, {}
-    for i, j, q in inst.exclusions:
-        if i == j:
-            never.setdefault(i, set()).update(inst.seasons[q])
-    for i in range(inst.interventions):
+    inst = plain.inst
+    for i, starts in enumerate(possible_starts(inst)):
         own = []
-        for s in inst.allowed(i):
+        for s in starts:
             run = inst.run(i, s)
-            if never.get(i, set()) & set(run):
-                continue
             rows = [plain.risks[i, s, t] for t in run]
             cost = sum(inst.alpha * sum(row) / len(row) for row in rows)
-            v = model.column(f"x{i + 1}_{s}", cost / COUNTS / MILLION, binary=True)
+            v = model.column(start_name(inst, i, s), cost / COUNTS / MILLION, binary=True)
             model.starts[i, s] = v
             own.append((v, 1))
             for t, row in zip(run, rows):
                 in_progress[t].append((i, v, row))
         if not own:
             model.hopeless = f"{inst.intervention_names[i]} has no start"
-        model.row(f"one{i + 1}", own, "=", 1)
+        model.row(f"one{i + 1}_{safe(inst.intervention_names[i])}", own, "=", 1)
 
 
 def add_bands(plain, model):
@@ -149,12 +140,13 @@ def add_band(plain, model, c, t, terms):
         greatest[i] = max(greatest.get(i, 0), count)
     row = [(v, amount(count)) for _, v, count in terms]
     low, high = plain.lower[c][t - 1], plain.upper[c][t - 1]
+    name = plain.inst.resource_names[c]
     if sum(greatest.values()) < low or sum(least.values()) > high:
-        model.hopeless = f"no load of {plain.inst.resource_names[c]} in period {t} is within its band"
+        model.hopeless = f"no load of {name} in period {t} is within its band"
     elif sum(greatest.values()) > high:
-        model.row(f"up{c + 1}_{t}", row, "<=", amount(high))
+        model.row(f"up{c + 1}_{safe(name)}_p{t}", row, "<=", amount(high))
     if not model.hopeless and sum(least.values()) < low:
-        model.row(f"lo{c + 1}_{t}", row, ">=", amount(low))
+        model.row(f"lo{c + 1}_{safe(name)}_p{t}", row, ">=", amount(low))
 
 
 def cliques(pairs):
@@ -179,20 +171,21 @@ def add_exclusions(inst, model):
     seasons = {}
     for i, j, q in inst.exclusions:
         if i != j:
-            seasons.setdefault(tuple(inst.seasons[q]), set()).add((min(i, j), max(i, j)))
+            _, pairs = seasons.setdefault(tuple(inst.seasons[q]), (inst.season_names[q], set()))
+            pairs.add((min(i, j), max(i, j)))
     # the columns of an intervention whose run holds a period
     holding = {}
     for (i, s), v in model.starts.items():
         for t in inst.run(i, s):
             holding.setdefault((i, t), []).append(v)
     number = 0
-    for season, pairs in seasons.items():
+    for season, (name, pairs) in seasons.items():
         for clique in cliques(pairs):
             number += 1
             for t in season:
                 groups = [holding[i, t] for i in clique if (i, t) in holding]
                 if len(groups) > 1:
-                    model.row(f"apart{number}_{t}", [(v, 1) for group in groups for v in group], "<=", 1)
+                    model.row(f"apart{number}_{safe(name)}_p{t}", [(v, 1) for group in groups for v in group], "<=", 1)
 
 
 def deviations(n, entries):
@@ -233,29 +226,29 @@ def add_quantile(plain, model, t, entries):
         return
     if model.terms + n * len(entries) > model.largest:
         raise TooLarge(f"more than {model.largest} terms")
-    over = model.column(f"over{t}", (MILLION - alpha) / MILLION)
+    over = model.column(f"over_p{t}", (MILLION - alpha) / MILLION)
     slack = needed_slack(n, rank, entries) if rank < n else [0] * n
     given_up = []
     for k, row in enumerate(deviations(n, entries)):
         terms = [(over, 1)] + [(v, -a) for v, a in row]
         if slack[k] > 0:
-            y = model.column(f"y{t}_{k + 1}", binary=True)
+            y = model.column(f"y_p{t}_k{k + 1}", binary=True)
             given_up.append((y, 1))
             terms.append((y, amount(slack[k])))
-        model.row(f"above{t}_{k + 1}", terms, ">=", 0)
+        model.row(f"above_p{t}_k{k + 1}", terms, ">=", 0)
     if len(given_up) > n - rank:
-        model.row(f"given{t}", given_up, "<=", n - rank)
+        model.row(f"given_p{t}", given_up, "<=", n - rank)
 
 
 def add_cvar(plain, model, t, entries):
     alpha, n, rank = plain.inst.alpha, plain.inst.scenarios[t - 1], plain.rank(t)
     if n == 1 or not entries:
         return
-    over = model.column(f"over{t}", (MILLION - alpha) / MILLION)
-    level = model.column(f"level{t}", free=True)
+    over = model.column(f"over_p{t}", (MILLION - alpha) / MILLION)
+    level = model.column(f"level_p{t}", free=True)
     tail = []
     for k, row in enumerate(deviations(n, entries)):
-        z = model.column(f"z{t}_{k + 1}")
+        z = model.column(f"z_p{t}_k{k + 1}")
         tail.append((z, -1 / (n - rank + 1)))
-        model.row(f"tail{t}_{k + 1}", [(z, 1), (level, 1)] + [(v, -a) for v, a in row], ">=", 0)
-    model.row(f"mean{t}", [(over, 1), (level, -1)] + tail, ">=", 0)
+        model.row(f"tail_p{t}_k{k + 1}", [(z, 1), (level, 1)] + [(v, -a) for v, a in row], ">=", 0)
+    model.row(f"mean_p{t}", [(over, 1), (level, -1)] + tail, ">=", 0)

@@ -1,0 +1,226 @@
+"""An instance as a method for planning sees it: names, numbers of periods and scenarios, and exact tables.
+
+The file is read when something of it is asked for, and no judgement is made here: what is wrong with it the programs
+say. Calls hand its path on to them, so that an instance needs to be read only by who looks into it.
+"""
+from __future__ import annotations
+
+import json
+import os
+from dataclasses import dataclass, field
+from fractions import Fraction
+from functools import cached_property
+from typing import Any, Callable, Dict, FrozenSet, List, Mapping, Tuple, TypeVar
+
+from .running import Path
+
+Made = TypeVar("Made")
+
+
+class Unreadable(ValueError):
+    """The file isn't an instance as far as this package reads it. `evaluate` says what is wrong with it, and where."""
+
+
+@dataclass(frozen=True)
+class Exclusion:
+    """Two interventions that must not be in progress in the same period of a season."""
+
+    name: str
+    one: str
+    other: str
+    season: str
+
+
+@dataclass(frozen=True)
+class Band:
+    """The limits of a resource, by period: `upper[0]` and `lower[0]` are those of period 1, in its unit."""
+
+    name: str
+    upper: Tuple[Fraction, ...]
+    lower: Tuple[Fraction, ...]
+
+
+@dataclass(frozen=True)
+class Intervention:
+    """A work: its name, its last start, and its duration at each start from 1 on, in periods."""
+
+    name: str
+    last_start: int
+    durations: Tuple[int, ...]
+    periods: int = field(repr=False)
+    _workload: Mapping[str, Any] = field(repr=False, compare=False)
+    _risk: Mapping[str, Any] = field(repr=False, compare=False)
+
+    @cached_property
+    def starts(self) -> Tuple[int, ...]:
+        """The allowed starts: those whose run ends in the last period or before."""
+        return tuple(start for start, duration in enumerate(self.durations, 1) if start + duration <= self.periods + 1)
+
+    def run(self, start: int) -> range:
+        """The periods in which it is in progress, if it starts so. Raises ValueError for a start that it hasn't."""
+        if not 1 <= start <= len(self.durations):
+            raise ValueError(f"{self.name} has the starts 1 to {len(self.durations)}, and not {start}")
+        return range(start, start + self.durations[start - 1])
+
+    @cached_property
+    def resources(self) -> Tuple[str, ...]:
+        """The resources under which it has workloads."""
+        return tuple(self._workload)
+
+    @cached_property
+    def _loads(self) -> Dict[str, Dict[Tuple[int, int], str]]:
+        return {name: {(int(t), int(s)): text for t, row in table.items() for s, text in row.items()}
+                for name, table in self._workload.items()}
+
+    @cached_property
+    def _risks(self) -> Dict[Tuple[int, int], List[str]]:
+        return {(int(t), int(s)): row for t, table in self._risk.items() for s, row in table.items()}
+
+    def load(self, resource: str, period: int, start: int) -> Fraction:
+        """Its load on a resource in a period of its run from a start, in the resource's unit; 0 where none is told."""
+        if period not in self.run(start):
+            return Fraction(0)
+        return Fraction(self._loads.get(resource, {}).get((period, start), "0"))
+
+    def risks(self, period: int, start: int) -> Tuple[Fraction, ...]:
+        """Its risks in a period of its run from a start, one for each scenario of the period."""
+        if period not in self.run(start):
+            raise ValueError(f"{self.name}, started in {start}, isn't in progress in period {period}")
+        return tuple(map(Fraction, self._risks[period, start]))
+
+    def float_load(self, resource: str, period: int, start: int) -> float:
+        """`load` as a float, which is fast and rounded."""
+        if period not in self.run(start):
+            return 0.0
+        return float(self._loads.get(resource, {}).get((period, start), "0"))
+
+    def float_risks(self, period: int, start: int) -> List[float]:
+        """`risks` as floats, which are fast and rounded."""
+        if period not in self.run(start):
+            raise ValueError(f"{self.name}, started in {start}, isn't in progress in period {period}")
+        return list(map(float, self._risks[period, start]))
+
+
+class Instance:
+    """An instance file.
+
+    >>> instance = Instance.read("examples/summer/instance.json")
+    >>> instance.periods, instance.scenarios
+    (3, (2, 2, 2))
+    >>> list(instance.interventions), list(instance.resources)
+    (['north-line', 'south-line'], ['crew'])
+    >>> line = instance.interventions["north-line"]
+    >>> line.starts, list(line.run(1)), line.load("crew", 2, 2)
+    ((1, 2), [1, 2], Fraction(3, 1))
+    >>> instance.resources["crew"].lower
+    (Fraction(0, 1), Fraction(1, 1), Fraction(0, 1))
+    """
+
+    def __init__(self, path: Path) -> None:
+        self.path = os.fspath(path)
+
+    @classmethod
+    def read(cls, path: Path) -> Instance:
+        """The instance of a file, whose tables are read once they are asked for.
+
+        Raises OSError where it can't be opened. What is wrong with its text is said by the calls that take it; a table
+        that can't be read raises Unreadable.
+        """
+        with open(path, "rb"):
+            return cls(path)
+
+    def __fspath__(self) -> str:
+        return self.path
+
+    def __repr__(self) -> str:
+        return f"Instance({self.path!r})"
+
+    @cached_property
+    def _root(self) -> Dict[str, Any]:
+        try:
+            with open(self.path, encoding="utf-8") as file:
+                root = json.load(file, parse_float=str, parse_int=str)
+        except (ValueError, RecursionError) as fault:
+            raise Unreadable(f"{self.path}: {fault}") from None
+        if not isinstance(root, dict):
+            raise Unreadable(f"{self.path}: no object")
+        return root
+
+    def _read(self, name: str, made: Callable[[Any], Made]) -> Made:
+        """What is made of the value of a key."""
+        root = self._root
+        try:
+            return made(root[name])
+        except (KeyError, TypeError, ValueError, AttributeError, ZeroDivisionError) as fault:
+            raise Unreadable(f"{self.path}: {name}: {fault!r}") from None
+
+    @cached_property
+    def periods(self) -> int:
+        """The number of periods, which count from 1."""
+        return self._read("T", _whole)
+
+    @cached_property
+    def scenarios(self) -> Tuple[int, ...]:
+        """The number of scenarios of each period: `scenarios[0]` is that of period 1."""
+        return self._read("Scenarios_number", lambda numbers: tuple(map(_whole, numbers)))
+
+    @cached_property
+    def alpha(self) -> Fraction:
+        """The weight of the mean risk in the cost."""
+        return self._read("Alpha", Fraction)
+
+    @cached_property
+    def quantile(self) -> Fraction:
+        """What part of the scenarios the quantile of the excess is at."""
+        return self._read("Quantile", Fraction)
+
+    def rank(self, period: int) -> int:
+        """Which of the scenarios of a period, in ascending order of their risks, is the quantile; it counts from 1."""
+        product = self.quantile * self.scenarios[period - 1]
+        return -(-product.numerator // product.denominator)
+
+    @cached_property
+    def resources(self) -> Dict[str, Band]:
+        """The resources by name, in the order of the file."""
+
+        def band(name: str, it: Mapping[str, Any]) -> Band:
+            return Band(name, tuple(map(Fraction, it["max"])), tuple(map(Fraction, it["min"])))
+
+        return self._read("Resources", lambda found: {name: band(name, it) for name, it in found.items()})
+
+    @cached_property
+    def interventions(self) -> Dict[str, Intervention]:
+        """The interventions by name, in the order of the file."""
+        periods = self.periods
+
+        def made(name: str, it: Mapping[str, Any]) -> Intervention:
+            last = _whole(it["tmax"])
+            return Intervention(name, last, tuple(map(_whole, it["Delta"][:last])), periods, it["workload"], it["risk"])
+
+        return self._read("Interventions", lambda found: {name: made(name, it) for name, it in found.items()})
+
+    @cached_property
+    def seasons(self) -> Dict[str, FrozenSet[int]]:
+        """The periods of each season, by name; periods that the year hasn't are left out."""
+        horizon = range(1, self.periods + 1)
+        return self._read("Seasons", lambda found: {
+            name: frozenset(t for t in map(_whole, it) if t in horizon) for name, it in found.items()})
+
+    @cached_property
+    def exclusions(self) -> Dict[str, Exclusion]:
+        """The exclusions by name, in the order of the file."""
+        return self._read("Exclusions", lambda found: {name: Exclusion(name, *it) for name, it in found.items()})
+
+    def meeting(self, exclusion: str, starts: Mapping[str, int]) -> Tuple[int, ...]:
+        """The periods of an exclusion's season in which a plan has both of its interventions in progress."""
+        it = self.exclusions[exclusion]
+        runs = [self.interventions[name].run(starts[name]) for name in (it.one, it.other)]
+        return tuple(t for t in sorted(self.seasons[it.season]) if all(t in run for run in runs))
+
+
+def _whole(number: Any) -> int:
+    value = Fraction(number)
+    if value.denominator != 1:
+        raise ValueError(f"{number} is no whole number")
+    return int(value)
+

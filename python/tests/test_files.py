@@ -1,0 +1,130 @@
+"""Plans, names that are hostile to texts, and instances as they are read."""
+import json
+import os
+from fractions import Fraction
+
+import gadvresa
+import pytest
+from gadvresa import Instance, Plan
+
+HOSTILE = ["slack=0.001", "S1", "end", "-", "--help", "a\u2028b", "c\u0085d", "e\u00a0f", "</script>", "\"'`$(x)", "\\",
+           "\u202eright-to-left", "x" * 128, "\U0001f4a1", "rounded", "g\u2003h", "%s{}", "../../etc", "i\ufeff"]
+
+
+def hostile_file(tmp_path):
+    """An instance whose interventions, resources and exclusions have hostile names."""
+    works = {name: {"tmax": 2, "Delta": [1, 1], "workload": {name: {"1": {"1": 1}, "2": {"2": 0.5}}},
+                    "risk": {"1": {"1": [1]}, "2": {"2": [0.25]}}} for name in HOSTILE}
+    root = {"Resources": {name: {"max": [1, 1], "min": [0, 0]} for name in HOSTILE}, "Seasons": {"end": [1]},
+            "Interventions": works, "Exclusions": {"clash": [HOSTILE[0], HOSTILE[1], "end"]}, "T": 2,
+            "Scenarios_number": [1, 1], "Quantile": 0.5, "Alpha": 0.5}
+    path = tmp_path / "slack=0"
+    path.write_text(json.dumps(root, ensure_ascii=False), encoding="utf-8")
+    return path
+
+
+def test_hostile_names(tmp_path):
+    path = hostile_file(tmp_path)
+    instance = Instance.read(path)
+    assert list(instance.interventions) == HOSTILE == list(instance.resources)
+    plan = Plan(dict.fromkeys(HOSTILE, 2))
+    assert Plan.of_text(plan.text()) == plan and len(plan.text().split("\n")) == len(HOSTILE) + 1
+    plan.write(tmp_path / "-")
+    os.chdir(tmp_path)
+    for given in (plan, dict(plan), "-", tmp_path / "-"):
+        assert gadvresa.evaluate("slack=0", given, slack="0.0001").feasible
+    for name in HOSTILE:
+        assert gadvresa.evaluate(path, plan.without(name)).rule.name == name
+    broken = gadvresa.evaluate(path, plan.moved({HOSTILE[0]: 1, HOSTILE[1]: 1})).rule
+    assert (broken.code, broken.name, broken.period) == ("X1", "clash", 1)
+    table = gadvresa.table(path, plan)
+    assert [run.name for run in table.periods[1].runs] == HOSTILE
+    assert [load.resource for load in table.periods[0].loads] == HOSTILE
+    script = [gadvresa.move(HOSTILE[5], 1), gadvresa.swap(HOSTILE[2], HOSTILE[6])]
+    assert gadvresa.replay(path, plan, script).lines == 2
+
+
+def test_names_that_no_instance_has():
+    for name in ("", "a b", "a\nb", "a\tb", "\x7f", "x" * 129, "\u00e9" * 65):
+        with pytest.raises(ValueError):
+            Plan({name: 1})
+        with pytest.raises(ValueError):
+            gadvresa.move(name, 1)
+    with pytest.raises(TypeError):
+        Plan({1: 1})
+    for start in (-1, 10 ** 9):
+        with pytest.raises(ValueError):
+            Plan({"a": start})
+    for start in (1.0, "1", None, True):
+        with pytest.raises(TypeError):
+            Plan({"a": start})
+
+
+def test_plans_are_read_as_the_programs_read_them(tmp_path):
+    path = tmp_path / "plan"
+    path.write_bytes(b"a  1  \r\n\n   \nb\xff 007\nc 2")
+    plan = Plan.read(path)
+    assert list(plan.values()) == [1, 7, 2]
+    plan.write(path)
+    assert path.read_bytes() == b"a 1\nb\xff 7\nc 2\n"
+    for text, line in (("a 1\nb", 2), (" a 1", 1), ("a\t1", 1), ("a 1234567890", 1), ("a -1", 1), ("a 1\na 2", 2),
+                       ("a 1\n\nb 1.0", 3), ("a 1 \r\r\n", 1)):
+        with pytest.raises(ValueError, match=f"line {line} "):
+            Plan.of_text(text)
+
+
+def test_plans_as_mappings():
+    plan = Plan({"a": 1, "b": 2})
+    assert plan == {"a": 1, "b": 2} and hash(plan) == hash(Plan({"b": 2, "a": 1}))
+    assert plan.moved(a=3) == {"a": 3, "b": 2} and plan["a"] == 1
+    assert plan.changes({"b": 3, "c": 1}) == {"a": (1, None), "b": (2, 3), "c": (None, 1)}
+    with pytest.raises(TypeError):
+        plan["a"] = 2
+    assert Plan(plan) == Plan(plan.items()) == plan
+
+
+def test_a_file_is_written_whole_or_not_at_all(tmp_path):
+    path, link = tmp_path / "plan", tmp_path / "link"
+    path.write_text("old\n")
+    path.chmod(0o640)
+    link.symlink_to(path)
+    Plan({"a": 1}).write(link)
+    assert path.read_text() == "a 1\n" and link.is_symlink() and path.stat().st_mode & 0o777 == 0o640
+    with pytest.raises(OSError):
+        Plan({"a": 1}).write(tmp_path)
+    with pytest.raises(OSError):
+        Plan({"a": 1}).write(tmp_path / "none" / "plan")
+    assert sorted(os.listdir(tmp_path)) == ["link", "plan"]
+
+
+def test_an_instance_in_the_forms_of_the_challenge():
+    instance = Instance.read("examples/challenge/instance.json")
+    work = instance.interventions["I1"]
+    assert (work.last_start, work.durations, work.starts) == (2, (2, 1), (1, 2))
+    assert work.load("c1", 1, 1) == Fraction("10.5") and work.load("c1", 3, 1) == 0 and work.load("none", 1, 1) == 0
+    assert work.risks(1, 1) == (4, 8, 3) and work.float_risks(2, 2) == [6.0, 2.0]
+    assert instance.seasons["winter"] == {1, 3} and instance.alpha == Fraction(1, 2)
+    assert [instance.rank(t) for t in (1, 2, 3)] == [3, 2, 4]
+    assert instance.meeting("E1", {"I1": 1, "I2": 2}) == (2,) and instance.meeting("E1", {"I1": 1, "I2": 1}) == ()
+    with pytest.raises(ValueError):
+        work.run(3)
+    with pytest.raises(ValueError):
+        work.risks(3, 1)
+
+
+def test_numbers_stay_exact(tmp_path):
+    text = json.dumps({"Resources": {"c": {"max": ["@"], "min": [0]}}, "T": 1}).replace('"@"', "0.1234567890123456789")
+    (tmp_path / "exact").write_text(text)
+    assert Instance.read(tmp_path / "exact").resources["c"].upper == (Fraction("0.1234567890123456789"),)
+
+
+def test_what_is_no_instance(tmp_path):
+    with pytest.raises(OSError):
+        Instance.read(tmp_path / "none")
+    path = tmp_path / "file"
+    for text in ("", "[1]", "{}", '{"T": "x"}', '{"T": 1.5}', "[" * 100000, '{"T": null}', "\x80"):
+        path.write_text(text, encoding="latin-1")
+        instance = Instance.read(path)
+        with pytest.raises(gadvresa.Unreadable):
+            print(instance.periods)
+    assert repr(instance) == f"Instance({str(path)!r})" and os.fspath(instance) == str(path)

@@ -1,0 +1,254 @@
+"""Runs a method within its time, and leaves nothing of it behind: no process, however it was started, and no output.
+
+Whatever a method starts stays below this process, which takes orphans in (the kernel's child subreaper), so all of it
+is found in /proc and killed; so it is where there come to be too many. What it prints is read and dropped, but for its
+beginning and its end. While it runs, its plan is looked at: each new text of it is kept with its time.
+
+Processes are counted a few times a second, so what forks faster than that may fill a machine before it is ended, above
+all where this runs as root, whom no limit of the system holds. What isn't trusted so far belongs into a container.
+"""
+import ctypes
+import hashlib
+import os
+import resource
+import signal
+import stat
+import subprocess
+import time
+from dataclasses import dataclass, field
+from typing import Optional
+
+SUBREAPER, DEATH_SIGNAL = 36, 1
+LIBRARY = ctypes.CDLL(None, use_errno=True)
+# How much of the plan file, and of each end of the output, is kept; the largest file that a method may write.
+LONGEST_PLAN, LONGEST_SAID, LARGEST_FILE = 1 << 24, 1 << 13, 1 << 33
+# Seconds between two looks, and their part of the time that has passed, so that long runs aren't looked at too often.
+LOOK, PART = 0.05, 0.02
+# Seconds between two counts of the processes.
+COUNT = 0.2
+MOST_ROUNDS = 1000
+
+
+@dataclass
+class Seen:
+    """A text that the plan file had, `seconds` after the beginning."""
+
+    seconds: float
+    data: bytes
+
+
+@dataclass
+class Ran:
+    """How a run ended: `exit`, `signal`, `limit` or `processes`, with the status or signal; what it took; what was
+    seen; and how many processes it left, where it ended by itself.
+    """
+
+    ended: str
+    status: int
+    seconds: float = 0.0
+    processor: float = 0.0
+    peak: float = 0.0
+    left: Optional[int] = None
+    said: bytes = b""
+    seen: list = field(default_factory=list)
+
+
+class Interrupted(BaseException):
+    """The run is to be given up: a signal came, or who asked for it is gone."""
+
+
+def take_orphans():
+    """Whatever is started below this process, and loses its parent, becomes a child of this process."""
+    LIBRARY.prctl(SUBREAPER, 1, 0, 0, 0)
+
+
+def below():
+    """The processes below this one, with their states."""
+    parents, states = {}, {}
+    for name in os.listdir("/proc"):
+        if name.isdigit():
+            try:
+                with open(f"/proc/{name}/stat", "rb") as file:
+                    words = file.read().rpartition(b")")[2].split()
+            except OSError:
+                continue
+            states[int(name)] = words[0].decode()
+            parents.setdefault(int(words[1]), []).append(int(name))
+    found, ahead = {}, [os.getpid()]
+    while ahead:
+        for pid in parents.get(ahead.pop(), ()):
+            found[pid] = states[pid]
+            ahead.append(pid)
+    return found
+
+
+def send(pids, number):
+    for pid in pids:
+        try:
+            os.kill(pid, number)
+        except (ProcessLookupError, PermissionError):
+            pass
+
+
+def reap(besides=()):
+    """Takes note of children that have ended, but of those whose status somebody waits for; answers how many run."""
+    found = below()
+    for pid, state in found.items():
+        if state == "Z" and pid not in besides:
+            try:
+                os.waitpid(pid, os.WNOHANG)
+            except ChildProcessError:
+                pass
+    return sum(state != "Z" for state in found.values())
+
+
+def end_all():
+    """Kills all processes below this one; answers how many there were."""
+    count = set()
+    for _ in range(MOST_ROUNDS):
+        alive = {pid for pid, state in below().items() if state != "Z"}
+        if not alive - count:
+            break
+        # (what is stopped starts nothing more)
+        send(alive, signal.SIGSTOP)
+        count |= alive
+    for _ in range(MOST_ROUNDS):
+        alive = {pid for pid, state in below().items() if state != "Z"}
+        if not alive:
+            break
+        count |= alive
+        send(alive, signal.SIGKILL)
+        time.sleep(0.005)
+    return len(count)
+
+
+def processes_of_user():
+    """How many threads the user of this process has, which is what the system's limit of processes counts."""
+    count = 0
+    for name in filter(str.isdigit, os.listdir("/proc")):
+        try:
+            if os.stat(f"/proc/{name}").st_uid == os.getuid():
+                count += len(os.listdir(f"/proc/{name}/task"))
+        except OSError:
+            pass
+    return count
+
+
+def prepare(most):
+    """Limits what a method may write and start, and ends it where this process is killed."""
+    LIBRARY.prctl(DEATH_SIGNAL, signal.SIGKILL, 0, 0, 0)
+    soft, hard = resource.getrlimit(resource.RLIMIT_NPROC)
+    limit = most if hard == resource.RLIM_INFINITY else min(most, hard)
+    resource.setrlimit(resource.RLIMIT_NPROC, (limit, limit))
+    resource.setrlimit(resource.RLIMIT_CORE, (0, 0))
+    resource.setrlimit(resource.RLIMIT_FSIZE, (LARGEST_FILE, LARGEST_FILE))
+
+
+def held(path):
+    """What a plan file holds, and what tells whether it has changed; none where it is no file, or too large."""
+    try:
+        number = os.open(path, os.O_RDONLY | os.O_NOFOLLOW | os.O_NONBLOCK)
+    except OSError:
+        return None, None
+    try:
+        it = os.fstat(number)
+        if not stat.S_ISREG(it.st_mode):
+            return None, None
+        with open(number, "rb", closefd=False) as file:
+            return file.read(LONGEST_PLAN + 1), (it.st_ino, it.st_size, it.st_mtime_ns)
+    finally:
+        os.close(number)
+
+
+def mark_of(path):
+    try:
+        it = os.lstat(path)
+    except OSError:
+        return None
+    return (it.st_ino, it.st_size, it.st_mtime_ns) if stat.S_ISREG(it.st_mode) else None
+
+
+class Watch:
+    """What a method prints and writes, as it comes."""
+
+    def __init__(self, pipe, plan):
+        os.set_blocking(pipe, False)
+        self.pipe, self.plan = pipe, plan
+        self.head, self.tail = b"", b""
+        self.mark, self.seen, self.sum = None, [], None
+
+    def drain(self):
+        """Reads what has been printed so far; answers whether there may be more at once."""
+        for _ in range(64):
+            try:
+                part = os.read(self.pipe, 1 << 16)
+            except BlockingIOError:
+                return False
+            if not part:
+                return False
+            room = LONGEST_SAID - len(self.head)
+            self.head += part[:room]
+            self.tail = (self.tail + part[room:])[-LONGEST_SAID:] if len(part) > room else self.tail
+        return True
+
+    def look(self, seconds):
+        """Keeps the plan, where it has changed."""
+        if mark_of(self.plan) in (None, self.mark):
+            return
+        data, self.mark = held(self.plan)
+        if data:
+            total = hashlib.sha256(data).digest()
+            if total != self.sum:
+                self.sum = total
+                self.seen.append(Seen(seconds, data))
+
+
+def run(words, folder, plan, seconds, processes, is_wanted):
+    """Runs the words, for so many seconds and with so many processes at most. `is_wanted` is asked from time to time
+    whether to go on.
+    """
+    # (threads count as well there, and those of other programs may become more)
+    most = processes_of_user() + 4 * processes + 1024
+    began = time.monotonic()
+    process = subprocess.Popen(words, cwd=folder, stdin=subprocess.DEVNULL, stdout=subprocess.PIPE,
+                               stderr=subprocess.STDOUT, start_new_session=True, preexec_fn=lambda: prepare(most))
+    watch = Watch(process.stdout.fileno(), plan)
+    try:
+        ran = wait(process, watch, began, seconds, processes, is_wanted)
+    finally:
+        left = end_all()
+        process.wait()
+        reap()
+    ran.left = left if ran.ended in ("exit", "signal") else None
+    watch.drain()
+    watch.look(ran.seconds)
+    process.stdout.close()
+    used = resource.getrusage(resource.RUSAGE_CHILDREN)
+    ran.processor, ran.peak = used.ru_utime + used.ru_stime, used.ru_maxrss * 1024 / 1e6
+    ran.said, ran.seen = watch.head + (b"\n..\n" + watch.tail if watch.tail else b""), watch.seen
+    return ran
+
+
+def wait(process, watch, began, seconds, processes, is_wanted):
+    next_look, next_count, next_question = 0.0, COUNT, 1.0
+    while True:
+        status, passed = process.poll(), time.monotonic() - began
+        if status is not None:
+            return Ran("exit" if status >= 0 else "signal", abs(status), passed)
+        if passed >= seconds:
+            return Ran("limit", 0, passed)
+        has_more = watch.drain()
+        if passed >= next_look:
+            watch.look(passed)
+            next_look = passed + max(LOOK, PART * passed)
+        if passed >= next_count:
+            if reap(besides=(process.pid,)) > processes:
+                return Ran("processes", 0, passed)
+            next_count = passed + COUNT
+        if passed >= next_question:
+            if not is_wanted():
+                raise Interrupted
+            next_question = passed + 1
+        if not has_more:
+            # (it ends at once where there is something to read, and where the method ends)
+            time.sleep(min(LOOK / 5, max(0.0, seconds - passed)))
