@@ -108,6 +108,7 @@ _planner() {{
     case ${{COMP_WORDS[1]}} in
 {rows}
     explain) kinds=(file none file file slack=) ;;
+    view) kinds=(file file file other= certificate= progress= slack=) ;;
     esac
     kind=${{kinds[COMP_CWORD - 2]-none}}
     case $kind in

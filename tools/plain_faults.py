@@ -5,6 +5,7 @@ before it takes the first. `tools/damaged_test` compares the program with it. In
 are read as bytes; a fault is the line that the program says, without `refused`, as `instance syntax 4`.
 """
 import re
+from collections import Counter
 from fractions import Fraction
 
 COUNTS, MILLION = 10 ** 12, 10 ** 6
@@ -591,12 +592,12 @@ def fields(form, line):
 class Certificate:
     """The bound (None for none), the price lists and the tree of a text, or the first line with a fault."""
 
-    def __init__(self, inst, text):
+    def __init__(self, inst, text, versions=(1, 2)):
         if len(text) > BYTES["certificate"]:
             raise fault("certificate too long")
         self.inst, self.rest, self.n = inst, text, 0
         version = self.line()
-        if version not in (b"mpcert 1", b"mpcert 2"):
+        if version not in [b"mpcert %d" % number for number in versions]:
             self.bad()
         self.version = int(version[-1:])
         self.bound = self.read_bound(self.line())
@@ -604,15 +605,19 @@ class Certificate:
         self.within(many, 0, 16)
         self.lists = []
         line = self.line()
-        for _ in range(many):
-            if line != b"prices":
-                self.bad()
+        self.expect(line, many)
+        for left in reversed(range(many)):
             line = self.prices()
-        if line != b"tree":
-            self.bad()
+            self.expect(line, left)
+            self.enough(self.lists[-1])
         self.leaves = self.tree([[1, inst.last(i)] for i in range(len(inst.names))])
         if self.rest:
             self.n += 1
+            self.bad()
+
+    def expect(self, line, left):
+        """Takes the line that begins the next price list, or the tree where none is left."""
+        if line != (b"prices" if left else b"tree"):
             self.bad()
 
     def line(self):
@@ -652,8 +657,7 @@ class Certificate:
 
     def prices(self):
         """The entries of one list, and the line behind them."""
-        inst = self.inst
-        taken = {"up": {}, "lo": {}, "tail": {}, "ex": {}}
+        taken = {"up": {}, "lo": {}, "ex": {}, "cap": False, "groups": {}, "off": {}, "clq": []}
         self.lists.append(taken)
         before = ()
         while True:
@@ -661,48 +665,114 @@ class Certificate:
             if line in (b"prices", b"tree"):
                 return line
             entry = self.entry(line)
-            if entry is None:
+            if entry is None or entry[0] <= before:
                 self.bad()
-            order, kind, numbers = entry
-            if order <= before:
-                self.bad()
-            before = order
-            if kind in ("up", "lo"):
-                c, t, v = numbers
-                self.within(c, 1, len(inst.resources))
-                self.within(t, 1, inst.periods)
-                self.within(v, 1, 10 ** 9)
-                taken[kind][c, t] = v
-            elif kind == "ex":
-                e, t, v = numbers
-                self.within(e, 1, len(inst.exclusions))
-                if t not in inst.exclusions[e - 1][3]:
-                    self.bounds()
-                self.within(v, 1, 10 ** 9)
-                taken[kind][e, t] = v
-            else:
-                t, weight, *places = numbers
-                self.within(t, 1, inst.periods)
-                self.within(weight, 1, 1000)
-                n = inst.scenarios[t - 1]
-                for place in places:
-                    self.within(place, 1, n)
-                self.within(len(places), n - inst.rank(t) + 1, n)
-                taken[kind][t] = (weight, places)
+            before, kind, numbers = entry
+            getattr(self, f"take_{kind}")(taken, kind, *numbers)
 
     def entry(self, line):
         """The place of an entry in their order, its kind and its numbers; None where the line is no entry."""
+        numbers_of = lambda: [int(word) for word in line.split(b" ")[1:]]
         for order, kind in enumerate(("up", "lo")):
             numbers = fields(kind.encode() + rb" N N N", line)
             if numbers:
                 return (order, *numbers[:2]), kind, numbers
-        if re.fullmatch(rb"tail N N( N)*".replace(b"N", NUMBER), line):
-            numbers = [int(word) for word in line.split(b" ")[1:]]
-            if all(one < two for one, two in zip(numbers[2:], numbers[3:])):
-                return (2, numbers[0]), "tail", numbers
-            return None
-        numbers = fields(rb"ex N N N", line) if self.version == 2 else None
-        return ((3, *numbers[:2]), "ex", numbers) if numbers else None
+        if self.version < 3 and re.fullmatch(rb"tail N N( N)*".replace(b"N", NUMBER), line):
+            numbers = numbers_of()
+            return ((2, numbers[0]), "tail", numbers) if ascend(numbers[2:]) else None
+        numbers = fields(rb"ex N N N", line) if self.version > 1 else None
+        if numbers:
+            return (3, *numbers[:2]), "ex", numbers
+        return self.further_entry(line, numbers_of) if self.version == 3 else None
+
+    def further_entry(self, line, numbers_of):
+        """The same of the entries of version 3 alone."""
+        if line == b"cap":
+            return (4,), "cap", []
+        if re.fullmatch(rb"tail N( N N)*".replace(b"N", NUMBER), line):
+            t, *members = numbers_of()
+            group = list(zip(members[::2], members[1::2]))
+            return ((5, t, members[0] if members else 0), "group", [t, group]) if ascend(members[::2]) else None
+        numbers = fields(rb"off N N N N", line)
+        if numbers:
+            return (6, *numbers[:3]), "off", numbers
+        if re.fullmatch(rb"clq N N( N)*".replace(b"N", NUMBER), line):
+            t, v, *members = numbers_of()
+            return ((7, t, members), "clq", [t, v, members]) if ascend(members) else None
+        return None
+
+    def take_up(self, taken, kind, c, t, v):
+        self.within(c, 1, len(self.inst.resources))
+        self.within(t, 1, self.inst.periods)
+        self.within(v, 1, 10 ** 9)
+        taken[kind][c, t] = v
+
+    take_lo = take_up
+
+    def take_tail(self, taken, kind, t, weight, *places):
+        self.within(t, 1, self.inst.periods)
+        self.within(weight, 1, 1000)
+        n = self.inst.scenarios[t - 1]
+        for place in places:
+            self.within(place, 1, n)
+        self.within(len(places), n - self.inst.rank(t) + 1, n)
+        taken["groups"][t] = weight, [[(place, weight)] for place in places]
+
+    def take_ex(self, taken, kind, e, t, v):
+        self.within(e, 1, len(self.inst.exclusions))
+        if t not in self.inst.exclusions[e - 1][3]:
+            self.bounds()
+        self.within(v, 1, 10 ** 9)
+        taken[kind][e, t] = v
+
+    def take_cap(self, taken, kind):
+        taken["cap"] = True
+
+    def take_group(self, taken, kind, t, group):
+        self.within(t, 1, self.inst.periods)
+        if t not in taken["groups"]:
+            self.enough(taken)
+        total = sum(weight for _, weight in group)
+        self.within(total, 1, 1000)
+        weight, groups = taken["groups"].setdefault(t, (total, []))
+        others = {k for other in groups for k, _ in other}
+        for k, v in group:
+            self.within(k, 1, self.inst.scenarios[t - 1])
+            self.within(v, 1, 1000)
+            if k in others:
+                self.bounds()
+        if total != weight:
+            self.bounds()
+        groups.append(group)
+
+    def take_off(self, taken, kind, t, i, g, v):
+        self.enough(taken)
+        self.within(t, 1, self.inst.periods)
+        self.within(i, 1, len(self.inst.names))
+        self.within(g, 1, len(taken["groups"].get(t, (0, []))[1]))
+        self.within(v, 1, 10 ** 9)
+        taken[kind][t, i - 1, g - 1] = v
+
+    def take_clq(self, taken, kind, t, v, members):
+        self.enough(taken)
+        inst = self.inst
+        self.within(t, 1, inst.periods)
+        self.within(v, 1, 10 ** 9)
+        self.within(len(members), 2, len(inst.names))
+        self.within(len(taken[kind]), 0, 4095)
+        for i in members:
+            self.within(i, 1, len(inst.names))
+        pairs = {frozenset((one, two)) for _, one, two, season in inst.exclusions if t in season}
+        if any(frozenset((i - 1, j - 1)) not in pairs for j in members for i in members if i < j):
+            self.bounds()
+        taken[kind].append((t, v, [i - 1 for i in members]))
+
+    def enough(self, taken):
+        """Takes a line that ends the groups of the last period that has some, which have to be enough."""
+        if self.version == 3 and taken["groups"]:
+            t = max(taken["groups"])
+            least = self.inst.scenarios[t - 1] - self.inst.rank(t) + 1
+            self.within(len(taken["groups"][t][1]), least, self.inst.scenarios[t - 1])
 
     def tree(self, root):
         """The leaves in their order, each with its kind, its numbers and its box."""
@@ -739,7 +809,11 @@ class Certificate:
         return leaves
 
 
-LIST_0 = {"up": {}, "lo": {}, "tail": {}, "ex": {}}
+def ascend(numbers):
+    return all(one < two for one, two in zip(numbers, numbers[1:]))
+
+
+LIST_0 = {"up": {}, "lo": {}, "ex": {}, "cap": False, "groups": {}, "off": {}, "clq": []}
 
 
 # What the commands say.
@@ -748,7 +822,7 @@ class Judged:
     """Rules, values and leaves of an instance, from scratch."""
 
     def __init__(self, inst):
-        self.inst, self.prices = inst, {}
+        self.inst, self.prices, self.caps = inst, {}, {}
 
     def in_progress(self, starts, t):
         return [(i, s) for i, s in enumerate(starts) if t in self.inst.run(i, s)]
@@ -842,24 +916,44 @@ class Judged:
         total = self.base(prices, i, s)
         for t in inst.run(i, s):
             for c in range(1, len(inst.resources) + 1):
-                total += (prices["up"].get((c, t), 0) - prices["lo"].get((c, t), 0)) * inst.load(i, s, t, c - 1)
+                load = inst.load(i, s, t, c - 1)
+                counted = min(load, self.cap(c, t)) if prices["cap"] else load
+                total += prices["up"].get((c, t), 0) * load - prices["lo"].get((c, t), 0) * counted
         for (e, t), v in prices["ex"].items():
             _, one, two, _ = inst.exclusions[e - 1]
             if t in inst.run(i, s):
                 total += COUNTS * v * ((one == i) + (two == i))
-        return total
+        return total + COUNTS * sum(v for t, v, members in prices["clq"] if i in members and t in inst.run(i, s))
+
+    def cap(self, c, t):
+        """The cap of a lower limit, computed once: the limit, or 0, and all that loads below 0 can take away."""
+        if (c, t) not in self.caps:
+            load = lambda i, s: self.inst.load(i, s, t, c - 1) if t in self.inst.run(i, s) else 0
+            taken = [max([0] + [-load(i, s) for s in self.inst.allowed(i)]) for i in range(len(self.inst.names))]
+            self.caps[c, t] = max(0, self.inst.lower[c - 1][t - 1]) + sum(taken)
+        return self.caps[c, t]
 
     def base(self, prices, i, s):
-        """What a start adds to a plan's value at least, by the tails of a list."""
+        """What a start adds to a plan's value at least, by the groups of a list."""
         inst, total = self.inst, 0
         for t in inst.run(i, s):
             numbers, n = inst.risks[i, s, t], inst.scenarios[t - 1]
-            weight, places = prices["tail"].get(t, (0, [1]))
-            least = min(numbers[k - 1] for k in places)
             whole = 1000 * inst.alpha * sum(numbers)
-            whole += (MILLION - inst.alpha) * weight * (n * least - sum(numbers))
+            if t in prices["groups"]:
+                weight, groups = prices["groups"][t]
+                least = min(sum(v * numbers[k - 1] for k, v in group) + COUNTS * prices["off"].get((t, i, g), 0)
+                            for g, group in enumerate(groups))
+                whole += (MILLION - inst.alpha) * (n * least - weight * sum(numbers))
             total += whole // (1000 * n)
         return total
+
+    def offsets_cost(self, prices):
+        """What the offsets take off: for each period the greatest sum of a group."""
+        sums = Counter()
+        for (t, _, g), v in prices["off"].items():
+            sums[t, g] += v
+        most = {t: max(v for (u, _), v in sums.items() if u == t) for t, _ in sums}
+        return (MILLION - self.inst.alpha) * 10 ** 9 * sum(most.values())
 
     def starts_in(self, box, i):
         return [s for s in self.inst.allowed(i) if box[i][0] <= s <= box[i][1]]
@@ -869,7 +963,8 @@ class Judged:
         worth = sum(min(self.price(prices, i, s) for s in self.starts_in(box, i)) for i in range(len(box)))
         worth += sum(v * inst.lower[c - 1][t - 1] for (c, t), v in prices["lo"].items())
         worth -= sum(v * inst.upper[c - 1][t - 1] for (c, t), v in prices["up"].items())
-        return worth - COUNTS * sum(prices["ex"].values())
+        worth -= COUNTS * (sum(prices["ex"].values()) + sum(v for _, v, _ in prices["clq"]))
+        return worth - self.offsets_cost(prices)
 
     def holds(self, cert, kind, numbers, box):
         inst = self.inst
@@ -953,11 +1048,11 @@ def replay(instance, plan, script, slack=0):
     return answered(body)
 
 
-def check(instance, plan, certificate, slack=0):
+def check(instance, plan, certificate, slack=0, versions=(1, 2)):
     def body():
         inst = Instance(instance, slack)
         starts = read_plan(inst, plan) if plan is not None else None
-        cert, judged = Certificate(inst, certificate), Judged(inst)
+        cert, judged = Certificate(inst, certificate, versions), Judged(inst)
         last = [f"rounded {inst.rounded}"]
         broken = judged.broken(starts) if plan is not None else None
         if broken:

@@ -1,7 +1,7 @@
 """The steps of tools/reading_list: the sentences of README on what is proved, and the clauses that say each of them.
 
-The contract of the top call is the statement: that of `run` for planner_cli, that of `run_repair` for plan_repair. A
-sentence is said by some of its clauses, and these by some cases and fields of what they cite; a step names these, and
+The contract of the top call is the statement: that of `run` for planner_cli, that of `run_repair` for plan_repair, that
+of `run_refine` for plan_refine. A sentence is said by some of its clauses, and these by some cases and fields of what they cite; a step names these, and
 leaves the rest to later steps. `main` makes the top call, over the device of `plan_desk/src/real.rt`, of which no
 contract can say what the system did; that is a step too.
 """
@@ -22,7 +22,7 @@ class Step:
         self.parts = {(path, name): kept for path, names in (parts or {}).items() for name, kept in names.items()}
 
 
-PROGRAMS = ["planner_cli", "plan_repair"]
+PROGRAMS = ["planner_cli", "plan_repair", "plan_refine"]
 
 RUN = ("planner_cli/src/run.rt", ["run"])
 WORDS = "planner_cli/specs/Words.antt"
@@ -176,9 +176,34 @@ STEPS = [
         ],
     ),
     Step(
+        "`check` and `rebound` of all versions",
+        "The records are those of `check` and `rebound` above, `RunsCheckBy` and `RunsReboundBy`, over the kind"
+        " `refined_kind`: what its texts are, which are refused, what a certificate by refined price lists claims, and"
+        " what is written of it.",
+        [("refined_files/specs/RefinedKind.antt", ["refined_kind"])],
+    ),
+    Step(
+        "`bound`",
+        "`RunsBound`: [PROVED](PROVED.md#plan_refine) says what it promises.",
+        [("command_bound/specs/Bounding.antt", ["RunsBound"])],
+    ),
+    Step(
+        "The whole of `run_refine`",
+        "The words of the third program, and what calls `run_refine`.",
+        [
+            ("plan_refine/src/run.rt", ["run_refine"]),
+            ("plan_refine/src/laws.rt", ["commands_go_by_name"]),
+            ("plan_refine/src/main.rt", []),
+        ],
+    ),
+    Step(
         "Completeness",
         "Where the files are read and no fault rose, a run ends with a status of the command's own, or with 11: laws on"
-        " what `run` and `run_repair` promise.",
-        [("planner_cli/src/laws.rt", ["runs_are_complete"]), ("plan_repair/src/laws.rt", ["repairs_are_complete"])],
+        " what `run`, `run_repair` and `run_refine` promise.",
+        [
+            ("planner_cli/src/laws.rt", ["runs_are_complete"]),
+            ("plan_repair/src/laws.rt", ["repairs_are_complete"]),
+            ("plan_refine/src/laws.rt", ["refined_runs_are_complete"]),
+        ],
     ),
 ]

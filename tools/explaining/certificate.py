@@ -8,7 +8,8 @@ from explaining.text import counted, expect, shown
 
 NUMBER = (rb"(?:0(?![0-9])|[1-9][0-9]{0,18})", "a number of 1 to 19 digits without a needless 0")
 BOUND = (rb"(?:none|0(?![0-9])|-?[1-9][0-9]{0,36})", "`none`, or a number of 1 to 37 digits without a needless 0")
-SCENARIOS = (rb"(?: (?:0(?![0-9])|[1-9][0-9]{0,18})(?= |\Z))*", "scenarios")
+ONE_MORE = rb" (?:0(?![0-9])|[1-9][0-9]{0,18})(?= |\Z)"
+MORE, PAIRS = (rb"(?:" + ONE_MORE + rb")*", "numbers"), (rb"(?:" + ONE_MORE + ONE_MORE + rb")*", "pairs of numbers")
 
 
 def form(word, *parts):
@@ -19,16 +20,25 @@ def numbers(count):
     return [BLANK, NUMBER] * count
 
 
+def or_end(what):
+    return rb"\Z", f"{what}, or the end of the line"
+
+
+# The forms by their names on the page, where the second one of a word is that of version 3.
 LINES = {
-    b"mpcert": form(b"mpcert", BLANK, (rb"[12]", "1 or 2")),
+    b"mpcert": form(b"mpcert", BLANK, (rb"[123]", "1, 2 or 3")),
     b"bound": form(b"bound", BLANK, BOUND),
     b"lists": form(b"lists", *numbers(1)),
     b"prices": form(b"prices"),
     b"tree": form(b"tree"),
     b"up": form(b"up", *numbers(3)),
     b"lo": form(b"lo", *numbers(3)),
-    b"tail": form(b"tail", *numbers(2), SCENARIOS, (rb"\Z", "a scenario behind one blank, or the end of the line")),
+    b"tail": form(b"tail", *numbers(2), MORE, or_end("a scenario behind one blank")),
     b"ex": form(b"ex", *numbers(3)),
+    b"cap": form(b"cap"),
+    b"tail 3": form(b"tail", *numbers(1), PAIRS, or_end("a scenario and its weight, each behind one blank")),
+    b"off": form(b"off", *numbers(4)),
+    b"clq": form(b"clq", *numbers(2), MORE, or_end("an intervention behind one blank")),
     b"split": form(b"split", *numbers(2)),
     b"cost": form(b"cost", *numbers(1)),
     b"point": form(b"point"),
@@ -37,7 +47,9 @@ LINES = {
     b"empty": form(b"empty", *numbers(1)),
 }
 FIRST_LINES = [[b"mpcert"], [b"bound"], [b"lists"]]
-ENTRIES = [b"up", b"lo", b"tail", b"ex"]
+# The entries of a price list by the version, in their order.
+ENTRIES = {1: [b"up", b"lo", b"tail"], 2: [b"up", b"lo", b"tail", b"ex"],
+           3: [b"up", b"lo", b"ex", b"cap", b"tail", b"off", b"clq"]}
 NODES = [b"split", b"cost", b"point", b"band", b"excl", b"empty"]
 NODE = re.compile(rb"(?:split ([0-9]{1,19}) ([0-9]{1,19})|[^\n]*)\n")
 SHOWN_SPLITS = 8
@@ -48,7 +60,7 @@ class Walk:
 
     def __init__(self, case):
         self.case, self.number, self.at = case, 0, 0
-        self.version, self.lists, self.begun, self.last = None, None, 0, None
+        self.version, self.lists, self.begun, self.last, self.groups = None, None, 0, None, (None, 0)
         self.splits, self.leaves, self.in_tree, self.has_ended = [], 0, False, False
 
     def awaited(self):
@@ -57,25 +69,39 @@ class Walk:
             return FIRST_LINES[self.number]
         if self.in_tree:
             return [] if self.has_ended else NODES
-        entries = ENTRIES[:3 + (self.version == 2)] if self.begun else []
+        entries = ENTRIES[self.version] if self.begun else []
         return entries + ([b"prices"] if self.begun < self.lists else [b"tree"])
+
+    def name(self, line):
+        """The name of the form that a line has to have, by its word."""
+        word = line.words()[0]
+        return word + b" 3" if self.version == 3 and word + b" 3" in LINES else word
+
+    def is_entry(self, line):
+        return self.begun > 0 and not self.in_tree and line.words()[0] in ENTRIES[self.version]
 
     def fault(self, line):
         """Where a line leaves the forms that may stand there, and what is due at that place; None if it may stand."""
         word = line.words()[0]
         if word not in self.awaited():
             return line.at, words_text(self.awaited()) or "the end of the file"
-        return line.off_form(LINES[word]) or (self.order_fault(line) if word in ENTRIES else None)
+        return line.off_form(LINES[self.name(line)]) or (self.order_fault(line) if self.is_entry(line) else None)
 
     def order_fault(self, line):
-        """Where an entry isn't above the last one, or a scenario isn't above the one before it."""
-        if self.last is not None and entry_key(line) <= self.last:
+        """Where an entry isn't above the last one, or a place that it names isn't above the one before it."""
+        if self.last is not None and self.key(line) <= self.last:
             return line.word_at(1), "an entry above the one before"
-        places = [int(word) for word in line.words()[3:]] if line.words()[0] == b"tail" else []
+        first, step, what = LISTED.get(self.name(line), (0, 1, None))
+        places = [int(word) for word in line.words()[first::step]] if what else []
         for number in range(1, len(places)):
             if places[number] <= places[number - 1]:
-                return line.word_at(3 + number), f"a scenario above {places[number - 1]}"
+                return line.word_at(first + step * number), f"{what} above {places[number - 1]}"
         return None
+
+    def key(self, line):
+        """What entries are sorted by: their kind, and the numbers of their place."""
+        name, numbers = self.name(line), [int(word) for word in line.words()[1:]]
+        return (ENTRIES[self.version].index(line.words()[0]), *PLACES[name](numbers))
 
     def next_line(self):
         """The line that comes next; None where the text ends before its line feed."""
@@ -95,8 +121,16 @@ class Walk:
             self.begun, self.last = self.begun + 1, None
         elif words[0] == b"tree":
             self.in_tree = True
-        elif words[0] in ENTRIES:
-            self.last = entry_key(line)
+        elif self.is_entry(line):
+            self.last = self.key(line)
+        self.groups = self.groups_to(line)
+
+    def groups_to(self, line):
+        """The period of a line that is a group of scenarios, and how many of its lines there are in a row up to it."""
+        if self.name(line) != b"tail 3":
+            return None, 0
+        period, count = self.groups
+        return line.words()[1], 1 + (count if period == line.words()[1] else 0)
 
     def take_nodes(self, number, leaf):
         """Goes past nodes up to a line or a leaf. Each is a split, or taken for a leaf: there may be millions."""
@@ -156,10 +190,12 @@ class Walk:
         return ", ".join(more + parts) or "none"
 
 
-def entry_key(line):
-    """What entries are sorted by."""
-    words = line.words()
-    return (ENTRIES.index(words[0]), *(int(word) for word in words[1:2 if words[0] == b"tail" else 3]))
+# The numbers of an entry that are its place; and what it lists, which has to ascend: from which word on, in steps of
+# how many, and what each one is.
+PLACES = {b"up": lambda it: it[:2], b"lo": lambda it: it[:2], b"ex": lambda it: it[:2], b"tail": lambda it: it[:1],
+          b"cap": lambda it: [], b"tail 3": lambda it: it[:2], b"off": lambda it: it[:3],
+          b"clq": lambda it: [it[0], *it[2:]]}
+LISTED = {b"tail": (3, 1, "a scenario"), b"tail 3": (2, 2, "a scenario"), b"clq": (3, 1, "an intervention")}
 
 
 def interval_text(first, last):
@@ -176,9 +212,9 @@ def walk_to_line(case):
     return walk, walk.walk_to(number=case.values["N"])
 
 
-def form_text(case, line):
+def form_text(case, walk, line):
     """The form of a line, and what it says."""
-    known = case.page.forms[line.words()[0].decode()]
+    known = case.page.forms[walk.name(line).decode()]
     return f"{known.spelled}: {known.meaning}"
 
 
@@ -202,9 +238,11 @@ def bad_line(case):
         line = line_given(case)
         expect(walk.has_ended and walk.number == number - 1, f"line {number} of {case.text.name} has no line feed")
     fault = walk.fault(line)
+    if fault is None and line.bytes == b"mpcert 3":
+        fault = line.word_at(1), "1 or 2, where `planner_cli` reads it: 3 is for `plan_refine`, as `planner` starts it"
     expect(fault is not None, f"{line}, may stand there")
     finding = Finding(fault[0]).say("due here", fault[1])
-    return finding.say("the line", form_text(case, line)) if line.words()[0] in LINES else finding
+    return finding.say("the line", form_text(case, walk, line)) if line.words()[0] in LINES else finding
 
 
 def bounds(case):
@@ -213,7 +251,10 @@ def bounds(case):
     expect(walk.fault(line) is None, f"{line}, can't stand there, which is another refusal")
     words = line.words()
     finding = Finding(line.word_at(1))
-    finding.say("the line", form_text(case, line)).say("ranges", case.page.forms[words[0].decode()].ranges)
+    finding.say("the line", form_text(case, walk, line)).say("ranges", case.page.forms[walk.name(line).decode()].ranges)
+    period, count = walk.groups
+    if count and walk.groups_to(line)[0] != period:
+        finding.say("before it", f"{counted(count, 'group')} of period {shown(period)}, all that it has: too few?")
     if words[0] == b"split":
         finding.say("found", f"S is {shown(words[2])}, and the interval of I is {walk.interval(int(words[1]))}")
     if words[0] == b"cost":
@@ -227,7 +268,8 @@ def leaf(case):
     leaves = counted(walk.leaves, "leaf", "leaves")
     expect(line is not None and not walk.has_ended, f"{case.text.name} has {leaves}: leaf {number} is past its end")
     expect(walk.fault(line) is None, f"{line}, can't stand there, which is another refusal")
-    finding = Finding(line.at).say("the leaf", form_text(case, line)).say("the claim", shown(line_at(case, 2).bytes))
+    finding = Finding(line.at).say("the leaf", form_text(case, walk, line))
+    finding.say("the claim", shown(line_at(case, 2).bytes))
     if case.instance is None:
         return finding.say("its box", walk.box_text()).say("splits above", walk.splits_text())
     inst = judging.Instance(case.instance, case.slack)
@@ -239,7 +281,7 @@ def why_not(case, walk, line, inst):
     """Why a leaf doesn't hold for an instance, with the plan that changes are counted from, if one is given."""
     bound, before = line_at(case, 2).words()[1], case.data[:].partition(b"\ntree\n")[0]
     claim = None if bound == b"none" else int(bound)
-    lists, box = judging.entries(before.split(b"\n")), judging.box_of(inst, walk.box())
+    lists, box = judging.lists_of(inst, before), judging.box_of(inst, walk.box())
     why = judging.Leaf(inst, judging.judged_of(inst, case.plan), line.words(), box, claim, lists).why()
     about = "scores" if case.plan is None else "changes from this plan"
     expect(why is not None, f"the leaf holds for {case.instance} and {about}: is it the instance of that call?")

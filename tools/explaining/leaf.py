@@ -1,12 +1,10 @@
 """Says by how much a leaf of a certificate fails for an instance: read and computed anew, without the program."""
 import json
-import re
 
 import plain_faults
 from explaining.text import Unfit, expect, shown
 
 MILLION, CHANGE = plain_faults.MILLION, 10 ** 18
-ENTRY = re.compile(rb"(up|lo|tail|ex) ([0-9 ]+)")
 
 
 class Instance(plain_faults.Instance):
@@ -124,20 +122,12 @@ class Leaf:
         return f"{self.inst.name(number - 1)} may start in {starts[0]} there" if starts else None
 
 
-def entries(lines):
-    """The price lists of the lines before a tree, which have no fault."""
-    lists = []
-    for line in lines:
-        entry = ENTRY.fullmatch(line)
-        if line == b"prices":
-            lists.append({"up": {}, "lo": {}, "tail": {}, "ex": {}})
-        elif entry is not None:
-            kind, numbers = entry[1].decode(), [int(word) for word in entry[2].split()]
-            if kind == "tail":
-                lists[-1][kind][numbers[0]] = numbers[1], numbers[2:]
-            else:
-                lists[-1][kind][numbers[0], numbers[1]] = numbers[2]
-    return lists
+def lists_of(inst, before):
+    """The price lists of the text before a tree."""
+    try:
+        return plain_faults.Certificate(inst, before + b"\ntree\nempty 1\n", versions=(1, 2, 3)).lists
+    except plain_faults.Fault as fault:
+        raise Unfit(f"the price lists aren't those of such an instance: {fault} would be refused") from None
 
 
 def judged_of(inst, plan):

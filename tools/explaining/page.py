@@ -71,8 +71,7 @@ class Page:
         if item is not None and CHANGE in item[2]:
             self.take_saying(SPAN.findall(item[1]), *parted(item[2], CHANGE))
         elif item is not None and RANGES in item[2]:
-            spans = SPAN.findall(item[1])
-            self.forms[spans[0].split(" ")[0]] = Form(spans, *parted(item[2], RANGES))
+            self.take_form(SPAN.findall(item[1]), *parted(item[2], RANGES))
         elif SAID.match(block[3:]):
             raise PageFault(f"a line of the program without a part {CHANGE}")
 
@@ -81,6 +80,14 @@ class Page:
         if len(spans) > 1 or not SAID.match(spans[0]) or saying.name in self.sayings:
             raise PageFault(f"`{spans[0]}` is no line of the program, or stands twice")
         self.sayings[saying.name] = saying
+
+    def take_form(self, spans, meaning, ranges):
+        """Takes the form of a line. The second one of a word is that of version 3."""
+        name = spans[0].split(" ")[0]
+        name = f"{name} 3" if name in self.forms else name
+        if name in self.forms:
+            raise PageFault(f"`{spans[0]}` is a third form of its word")
+        self.forms[name] = Form(spans, meaning, ranges)
 
     def take_table(self, rows):
         table = {"place": self.places, "word": self.limits}.get(rows[0][0])

@@ -59,6 +59,23 @@ take_words() {
     fit_together
 }
 
+# Takes the program that the certificate of a call is for, where its command has more than one. What can be read only
+# once, as a pipe, is not looked into.
+choose_program() {
+    local at
+    [[ ${refining[${given[1]}]-} ]] || return 0
+    for at in "${reads[@]}"; do
+        [[ ${names[at]} != CERTIFICATE ]] || ! begins_with "$refined" "${given[at]}" || program=${refining[${given[1]}]}
+    done
+}
+
+# Whether a file can be read, and begins with a text of one line.
+begins_with() {
+    local head=
+    [[ -f $2 && -r $2 ]] && IFS= read -r -d '' -n "${#1}" head <"$2"
+    [[ $head == "$1" ]]
+} 2>/dev/null
+
 # Whether a word has the form of an option in brackets.
 is_option() {
     local row

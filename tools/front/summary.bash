@@ -63,6 +63,7 @@ sum_up() {
     repair) sum_up_changes ;;
     solve) sum_up_costs "$(periods_of "${value[score]}" "${value[cost]%% *}")" ;;
     check) sum_up_costs "$(periods_of "${value[bound]}" "${value[bound-cost]-}")" ;;
+    bound) sum_up_scores ;;
     esac
 }
 
@@ -84,6 +85,19 @@ sum_up_costs() {
             "$(as_cost "${value[score]}" "$periods")" "$(as_cost "${value[bound]}" "$periods")" "$gap"
     elif [[ $periods && ! ${value[score]-} ]]; then
         printf 'planner: no plan that keeps the rules costs less than %s\n' "$(as_cost "${value[bound]}" "$periods")"
+    fi
+}
+
+# The same where no line tells a cost, from which the number of periods would be known.
+sum_up_scores() {
+    local gap bound
+    [[ ${value[bound]}${value[score]-} != *-* ]] || return
+    bound=$(as_cost "${value[bound]}" 1)
+    if [[ ${value[score]-} ]] && gap=$(in_percent "${value[gap]}" "${value[score]}"); then
+        printf 'planner: score %s * 10^18; no plan that keeps the rules scores less than %s * 10^18: a gap of %s\n' \
+            "$(as_cost "${value[score]}" 1)" "$bound" "$gap"
+    elif [[ ! ${value[score]-} ]]; then
+        printf 'planner: no plan that keeps the rules scores less than %s * 10^18\n' "$bound"
     fi
 }
 

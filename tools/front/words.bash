@@ -1,7 +1,7 @@
 # The words that `planner` takes, and how its runs end: the one table from which words are checked and help is printed.
 
 # The programs, first the one that is meant where none is named.
-programs=(planner_cli plan_repair)
+programs=(planner_cli plan_repair plan_refine)
 # A row for each command: the program that takes it, its words, what it does. A word in brackets may be left out. A word
 # behind > names a file that is written, and the names of files of such a command must all differ.
 commands=(
@@ -25,14 +25,28 @@ commands=(
     'changes few starts of a plan so that it keeps the rules'
     plan_repair 'audit INSTANCE PLAN CERTIFICATE [slack=D]'
     'checks how many starts of the plan have to change'
+    plan_refine 'bound INSTANCE PLAN|- CERTIFICATE|- >OUT TURNS [slack=D]'
+    'makes a certificate, or goes on with one; - for none'
+)
+# The commands that another program takes where their certificate begins with this text, and that program.
+refined='mpcert 3'
+declare -gA refining=(
+    [check]=plan_refine
+    [rebound]=plan_refine
 )
 # The commands behind which a line for people is said where standard error is a terminal, by summary.bash.
-summed_up=(check solve repair)
+summed_up=(check solve repair bound)
 # What those in brackets are: the word, its form, what it does.
 options=(
     'slack=D'
     'slack=0(\.(0{1,3}|000[0-9]{1,9}|0010{0,9}))?'
     'widens every band by D, from 0 to 0.001, with at most 12 decimals'
+    '--json'
+    '--json'
+    'as the last word of evaluate, check, solve, repair or table: the report as one object of JSON'
+    '--csv[=RUNS]'
+    '--csv(=.+)?'
+    'as the last word of table: a row for each period and resource; in RUNS one for each run and period'
 )
 # The words that are numbers: their forms, and what each one has to be.
 period='[1-9][0-9]?|[1-4][0-9]{2}|50[0-9]|51[0-2]'
@@ -56,6 +70,8 @@ declare -gA ranges=(
 own=(
     'explain FILE REFUSAL [INSTANCE [PLAN] [slack=D]]'
     'says what a refusal of the file means, and what to change'
+    'view INSTANCE PLAN PAGE [other=PLAN] [certificate=FILE] [progress=FILE] [slack=D]'
+    'writes a page to look at the plan'
     '--unproved COMMAND ..'
     'runs a command without any proof: slow, and needs no build'
     '--build [PROGRAM]'
@@ -77,13 +93,13 @@ statuses=(
     7 'a file could not be opened or read'
     8 'what was due could not be written or said'
     9 'solve, repair: no plan was found in so many turns'
-    10 'solve, repair: no plan keeps every rule'
+    10 'solve, repair, bound: no plan keeps every rule'
     11 'memory ran out'
-    12 'roll, rebound: the text to be written is too long'
+    12 'roll, rebound, bound: the text to be written is too long'
     13 'the system refused to give the words'
     64 'words of this script itself are wrong'
-    65 'explain: the line is none that it knows, or the file has not what the line says'
-    66 'a file of the repository, or of the package, is missing; explain: a file cannot be read'
+    65 'explain: no such line, or the file has not what it says; view, --json, --csv: no report as it should be'
+    66 'a file of the repository, or of the package, is missing; explain, view: a file cannot be read'
     67 'an output is another file of the call, under another name'
     69 'a tool is missing: rt, python3 or readlink'
     70 'the build failed; --unproved: rt gave no answer; explain: docs/FORMATS.md is missing, or not as it reads it'
