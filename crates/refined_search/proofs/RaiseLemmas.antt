@@ -260,7 +260,7 @@ pub record IsEnded (inst : Tables) (incumbent : Option (List ℕ)) (cert : Optio
   pub no_plan : IsProved risk_value inst (claim_by NoPlan tables begun.nodes) → ended.bound ≡ NoPlan
   pub enough : count_product (length inst.names) (tmax inst) ≤ split_count begun.nodes + turns + 1
       → ended.unfinished ≡ false
-  pub splits_is : split_count ended.nodes ≡ split_count begun.nodes + splits
+  pub splits_is : splits ≡ split_count ended.nodes - split_count begun.nodes
 
 -- the laws that they rest on
 pub record Laws (inst : Tables) : Type 0 where

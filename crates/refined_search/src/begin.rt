@@ -1,5 +1,5 @@
 //! The tree that a search begins with.
-ghost use Rattle.std.specs.Prelude.{◌≡◌, ℕ, ◌+◌, ◌-◌, ◌*◌, ◌<◌, ◌≤◌, length, All, IfOk, IfSome, IfNone, None, option_map};
+ghost use Rattle.std.specs.Prelude.{◌≡◌, ℕ, ◌+◌, ◌-◌, ◌*◌, ◌<◌, ◌≤◌, length, All, IfOk, IfSome, None, option_map};
 ghost use Rattle.lagrange_bound.specs.Goals.{risk_value};
 ghost use Rattle.lagrange_bound.specs.PricedTables.{IsPricedTable};
 ghost use Rattle.certificate_lines.specs.declared.line.Bound.TheVariants.{NoPlan};
@@ -60,16 +60,15 @@ pub(crate) fn begin(
     }
 }
 
-/// How many splits a tree has more than another one, if it hasn't fewer: each adds two nodes.
-pub(crate) fn new_splits(old: &[Node], new: &[Node], turns: u32) -> Option<u32>
+/// How many splits a tree has more than another one, and 0 where it hasn't more: each adds two nodes.
+pub(crate) fn new_splits(old: &[Node], new: &[Node], turns: u32) -> u32
     requires old { length old.now ≡ 2 * split_count old.now + 1 }
     requires new { length new.now ≡ 2 * split_count new.now + 1 }
     requires few { split_count new.now ≤ split_count old.now + turns }
-    ensures some { IfSome result (λ more. split_count new.now ≡ split_count old.now + more) }
-    ensures none { IfNone result (split_count new.now < split_count old.now) }
+    ensures { result ≡ split_count new.now - split_count old.now }
 {
-    if new.len() < old.len() {
-        return None;
+    if new.len() <= old.len() {
+        return 0;
     }
-    Some(((new.len() - old.len()) / 2) as u32)
+    ((new.len() - old.len()) / 2) as u32
 }

@@ -59,10 +59,7 @@ pub fn raise_bound(
     let begun = begin(alloc, inst, cert, rows)?;
     let nodes = begun.nodes.as_slice();
     let end = go_on(alloc, &RiskGoal, inst, rows, nodes, incumbent, turns)?;
-    // A search loses none of the splits that it goes on from, but its contract doesn't say so.
-    let Some(splits) = new_splits(nodes, end.nodes.as_slice(), turns) else {
-        return Err(AllocError);
-    };
+    let splits = new_splits(nodes, end.nodes.as_slice(), turns);
     Ok(Raised {
         cert: RefinedCertificate {
             bound: within_range(end.bound),

@@ -59,8 +59,8 @@ go_on-requires c =
       incumbent = c.requires.incumbent;
     }
 
-pub new_splits-requires : goal.new_splits-requires
-new_splits-requires c =
+pub new_splits-splits-requires : goal.new_splits-splits-requires
+new_splits-splits-requires c =
     let ends = rw c.as_slice-nodes.ensures at c.in_ok-end.ensures in
     let grows = grows_by c.args.inst.now (option_map (λ given. given.now) c.args.incumbent) (seen c.args.cert)
     c.args.turns c.as_slice-rows.result.now c.in_ok-begun.begun c.in_ok-end.end c.in_ok-begun.ensures ends.searched in
@@ -87,7 +87,7 @@ returns c =
       values = c.worths_are_small.ensures.values;
     } in
     let is : IsEnded inst (option_map (λ given. given.now) c.args.incumbent) (seen c.args.cert) c.args.turns lists rows
-    begun end c.in-Some.splits = record {
+    begun end c.new_splits-splits.result = record {
       old_ok = lent_ok inst c.args.cert c.requires.cert;
       lists_are = c.in_ok-lists.ensures;
       tables_are = subst (AreRefinedTables inst lists) (sym c.as_slice-rows.ensures.value) made;
@@ -98,10 +98,10 @@ returns c =
       no_lower = ends.no_lower;
       no_plan = ends.no_plan;
       enough = ends.enough;
-      splits_is = rw (c.as_slice-nodes.ensures, c.as_slice-2.ensures) at c.in-Some.ensures.some;
+      splits_is = rw (c.as_slice-nodes.ensures, c.as_slice-2.ensures) at c.new_splits-splits.ensures;
     } in
     record {
       raised = is_raised_as inst (option_map (λ given. given.now) c.args.incumbent) (seen c.args.cert) c.args.turns
-          lists rows begun end c.in-Some.splits laws is c.within_range.result c.from_vec.result
+          lists rows begun end c.new_splits-splits.result laws is c.within_range.result c.from_vec.result
           c.within_range.ensures c.from_vec.ensures;
     }
