@@ -128,28 +128,6 @@ class Solved:
 
 
 @dataclass(frozen=True)
-class Improved:
-    """What `improve` found: a plan that keeps every rule and is no worse than the first one, or none.
-
-    `before` is the score of the first plan, None where that breaks a rule; `changed` how many starts aren't those of
-    the first plan. `violation` says, where nothing was found, the least by which a plan that was met is outside the
-    rules.
-    """
-
-    outcome: Outcome
-    plan: Optional[Plan]
-    score: Optional[int]
-    before: Optional[int]
-    changed: Optional[int]
-    cost: Optional[Range]
-    mean: Optional[Range]
-    excess: Optional[Range]
-    violation: Optional[Fraction]
-    rounded: int
-    called: Called = field(repr=False)
-
-
-@dataclass(frozen=True)
 class Bounded:
     """What `bound` shows: no plan that keeps the rules scores below the bound; None where no plan keeps them.
 

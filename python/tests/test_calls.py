@@ -138,13 +138,6 @@ def test_rows_go_into_a_data_frame():
     assert frame.groupby("resource")["load"].max()["crew"] == 4.0
 
 
-def has_improve(folder):
-    """Whether plan_refine has a command `improve`: one that has none says nothing of its words."""
-    import subprocess
-    words = [os.path.join(folder, "plan_refine"), "improve", SUMMER, "-", os.devnull, "0", "0"]
-    return b"refused words" not in subprocess.run(words, stdout=subprocess.PIPE).stdout
-
-
 def test_bound_goes_on_with_a_certificate(folder):
     bounded = gadvresa.bound(SUMMER, GOOD, turns=10)
     assert bounded.outcome is Outcome.FOUND and bounded.score == 3 * 10 ** 18
@@ -156,16 +149,6 @@ def test_bound_goes_on_with_a_certificate(folder):
     assert gadvresa.bound(SUMMER, {"north-line": 1, "south-line": 1}, turns=1).score is None
     assert gadvresa.bound(NONE, turns=10).outcome is Outcome.NO_PLAN_EXISTS
     assert gadvresa.rebound(SHORT, bounded.certificate).called.program.endswith("plan_refine")
-
-
-def test_improve(folder):
-    if not has_improve(folder):
-        pytest.skip("plan_refine has no `improve` yet")
-    improved = gadvresa.improve(SUMMER, GOOD, 10, 7)
-    assert improved.outcome is Outcome.FOUND and improved.score <= improved.before
-    assert improved.changed == len(improved.plan.changes(GOOD))
-    assert gadvresa.improve(SUMMER, None, 10).before is None
-    assert gadvresa.improve(NONE, None, 10).plan is None
 
 
 @pytest.mark.parametrize("words, error, kind, line", [
