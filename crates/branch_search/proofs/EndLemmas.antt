@@ -301,6 +301,7 @@ module _ (task : Task) (growth : Growth) (g : IsGrowth task growth) (left : Opti
           (λ leaf. LeafHolds task.value task.inst (bound_with left growth.best) task.worths leaf.box leaf.node)
           (λ k l leaf. holds_at task growth g left some none k (node_at growth.cells.items k) l refl leaf
           (g.state.settled k l));
+      stay = omega (arith, few_of task growth g left some none);
       few = omega (arith, few, few_of task growth g left some none);
       splits = λ first. subst
           (λ (b : List Span). All (IsSplitBox task.value task.inst task.lists task.worths task.incumbent

@@ -125,6 +125,7 @@ searched_same value inst lists worths others incumbent before turns answer fits 
       (λ (t : Tree). All (ClaimLeafHolds value inst (claim_in lists others answer)) (leaves (root_box inst) t))
       (nodes_are_one_tree inst lists (root_box inst) answer.nodes proved.tree h.tree proved.of_nodes h.of_nodes)
       proved.holds;
+  stay = h.stay;
   few = h.few;
   splits = λ none k d l. same_split value inst lists worths others incumbent answer.bound
       (get_or (split_boxes (root_box inst) h.tree) k d) same

@@ -99,7 +99,9 @@ pub record IsSearchedBy (value : PlanValue) (inst : Tables) (lists : ℕ) (worth
   pub tree : Tree
   pub of_nodes : IsTreeOfClaim inst (claim_in lists worths answer) tree
   pub holds : All (ClaimLeafHolds value inst (claim_in lists worths answer)) (leaves (root_box inst) tree)
-  -- its splits, of which something is said where there was none before
+  -- its splits: all that were given and at most so many more as there are turns; more is said of them where none was
+  -- given
+  pub stay : before ≤ length (split_boxes (root_box inst) tree)
   pub few : length (split_boxes (root_box inst) tree) ≤ before + turns
   pub splits : before ≡ 0
       → All (IsSplitBox value inst lists worths incumbent answer.bound) (split_boxes (root_box inst) tree)

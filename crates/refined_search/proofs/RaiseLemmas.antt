@@ -260,7 +260,7 @@ pub record IsEnded (inst : Tables) (incumbent : Option (List ℕ)) (cert : Optio
   pub no_plan : IsProved risk_value inst (claim_by NoPlan tables begun.nodes) → ended.bound ≡ NoPlan
   pub enough : count_product (length inst.names) (tmax inst) ≤ split_count begun.nodes + turns + 1
       → ended.unfinished ≡ false
-  pub splits_is : splits ≡ split_count ended.nodes - split_count begun.nodes
+  pub splits_is : split_count ended.nodes ≡ split_count begun.nodes + splits
 
 -- the laws that they rest on
 pub record Laws (inst : Tables) : Type 0 where
@@ -414,6 +414,7 @@ module _ (inst : Tables) (incumbent : Option (List ℕ)) (cert : Option RefinedC
 pub record GrowsBy (old new : List Node) (turns : ℕ) : Type 0 where
   pub odd_old : length old ≡ 2 * split_count old + 1
   pub odd_new : length new ≡ 2 * split_count new + 1
+  pub more : split_count old ≤ split_count new
   pub few : split_count new ≤ split_count old + turns
 
 pub grows_by : (inst : Tables) (incumbent : Option (List ℕ)) (cert : Option RefinedCertificate) (turns : ℕ)
@@ -425,9 +426,11 @@ grows_by inst incumbent cert turns tables begun ended start is =
     let root = root_box inst in
     let boxes = tree_splits inst lists root is.tree is.of_nodes.in_range in
     let count : split_count (pre_order is.tree) ≡ split_count ended.nodes = ap split_count is.of_nodes.order in
+    let stay = is.stay in
     let few = is.few in
     record {
       odd_old = given_nodes inst lists root start.tree.0 begun.nodes start.tree.1;
       odd_new = given_nodes inst lists root is.tree ended.nodes is.of_nodes;
+      more = omega (arith, boxes, count, stay);
       few = omega (arith, boxes, count, few);
     }

@@ -1,7 +1,7 @@
 -- A certificate by refined price lists that is made, or gone on with: this is the statement.
 --
 -- Worths, values and bounds are in parts of 10^-18.
-use Rattle.std.specs.Prelude.{◌≡◌, ◌^◌, ℕ, ◌+◌, ◌-◌, ◌≤◌, ℤ, pos, List, [], ◌∷◌, length, Option, Some, None, IsTrue}
+use Rattle.std.specs.Prelude.{◌≡◌, ◌^◌, ℕ, ◌+◌, ◌≤◌, ℤ, pos, List, [], ◌∷◌, length, Option, Some, None, IsTrue}
 use Rattle.std.specs.Prelude.{false}
 use Rattle.std.specs.Int.{int_min}
 use Rattle.std.specs.Bool.{OnFalse}
@@ -67,7 +67,7 @@ pub record IsRaised (inst : Tables) (incumbent : Option (List ℕ)) (cert : Opti
   pub bound : answer.cert.bound ≡ within_range ended.bound
   -- how many splits it has more than the tree that the search went on from, and how many leaves of the old tree stayed
   -- or became others
-  pub splits : answer.splits ≡ split_count answer.cert.nodes - split_count begun.nodes
+  pub splits : split_count answer.cert.nodes ≡ split_count begun.nodes + answer.splits
   pub kept : answer.kept ≡ begun.kept
   pub changed : answer.changed ≡ begun.changed
   pub leaves : (old : RefinedCertificate) → cert ≡ Some old

@@ -60,15 +60,13 @@ pub(crate) fn begin(
     }
 }
 
-/// How many splits a tree has more than another one, and 0 where it hasn't more: each adds two nodes.
+/// How many splits a tree has more than another one: each adds two nodes.
 pub(crate) fn new_splits(old: &[Node], new: &[Node], turns: u32) -> u32
     requires old { length old.now ≡ 2 * split_count old.now + 1 }
     requires new { length new.now ≡ 2 * split_count new.now + 1 }
+    requires more { split_count old.now ≤ split_count new.now }
     requires few { split_count new.now ≤ split_count old.now + turns }
-    ensures { result ≡ split_count new.now - split_count old.now }
+    ensures { split_count new.now ≡ split_count old.now + result }
 {
-    if new.len() <= old.len() {
-        return 0;
-    }
     ((new.len() - old.len()) / 2) as u32
 }

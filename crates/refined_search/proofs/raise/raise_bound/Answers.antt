@@ -65,7 +65,7 @@ new_splits-splits-requires c =
     let grows = grows_by c.args.inst.now (option_map (λ given. given.now) c.args.incumbent) (seen c.args.cert)
     c.args.turns c.as_slice-rows.result.now c.in_ok-begun.begun c.in_ok-end.end c.in_ok-begun.ensures ends.searched in
     rw (c.as_slice-nodes.ensures, c.as_slice-2.ensures)
-    (record { old = grows.odd_old; new = grows.odd_new; few = grows.few })
+    (record { old = grows.odd_old; new = grows.odd_new; more = grows.more; few = grows.few })
 
 pub returns : goal.returns
 returns c =
