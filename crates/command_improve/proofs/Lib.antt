@@ -1,0 +1,5 @@
+pub mod GivenLemmas
+pub mod ReadingLemmas
+pub mod SolutionLemmas
+pub mod ImproveRun
+pub mod ImproveComplete

@@ -1,0 +1,4 @@
+pub mod FallLemmas
+pub mod OpeningLemmas
+pub mod ScoreLemmas
+pub mod StepLemmas

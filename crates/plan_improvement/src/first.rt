@@ -1,0 +1,81 @@
+//! The first plan that keeps every rule.
+ghost use Rattle.std.specs.Prelude.{◌≡◌, map, Some, IfOk};
+ghost use Rattle.instance_model.specs.Plans.{AreAllowedStarts};
+ghost use Rattle.instance_model.specs.Keys.{violation_of};
+ghost use Rattle.plan_improvement.specs.Improving.{looking_turns};
+ghost use Rattle.plan_improvement.specs.Steps.{IsFirst, IsLookedFor};
+
+use crate::judging::{Judged, kept_values};
+use descent_ends::descend_from;
+use instance_model::{Instance, Starts};
+use plan_moves::Kept;
+use quantile_index::Row;
+use std::alloc::{AllocError, Global};
+
+/// A plan that keeps every rule, or how far the last plan that was met is from that.
+#[derive(Drop)]
+pub(crate) enum First {
+    Kept(Judged),
+    Broken { violation: i128 },
+}
+
+/// The opening, where it keeps every rule; else the end of a descent from it.
+pub(crate) fn first_of<R: Row>(
+    alloc: Global,
+    inst: &Instance,
+    opening: Starts,
+    turns: u32,
+) -> Result<First, AllocError>
+    requires { AreAllowedStarts inst.now opening }
+    ensures { IfOk result (IsFirst inst.now turns opening) }
+{
+    match kept_values(alloc, inst, opening.as_slice())? {
+        Some(values) => Ok(First::Kept(Judged {
+            starts: opening,
+            values,
+        })),
+        None => looked_for::<R>(alloc, inst, opening.as_slice(), turns),
+    }
+}
+
+/// The end of a descent from a plan, which looks for one that keeps every rule.
+fn looked_for<R: Row>(
+    alloc: Global,
+    inst: &Instance,
+    opening: &[u32],
+    turns: u32,
+) -> Result<First, AllocError>
+    requires { AreAllowedStarts inst.now opening.now }
+    ensures { IfOk result (IsLookedFor inst.now turns opening.now) }
+{
+    let descended = descend_from::<R>(alloc, inst, opening, looking_turns(turns))?;
+    match kept_values(alloc, inst, descended.starts.as_slice())? {
+        Some(values) => Ok(First::Kept(Judged {
+            starts: descended.starts,
+            values,
+        })),
+        None => Ok(First::Broken {
+            violation: violation_at::<R>(alloc, inst, descended.starts.as_slice())?,
+        }),
+    }
+}
+
+/// How many changes a descent has at most that looks for a plan which keeps every rule.
+fn looking_turns(turns: u32) -> u32
+    ensures { result ≡ looking_turns turns }
+{
+    if turns == 0 {
+        0
+    } else {
+        turns.max(2_000).min(20_000)
+    }
+}
+
+/// How far a plan is from the rules.
+fn violation_at<R: Row>(alloc: Global, inst: &Instance, starts: &[u32]) -> Result<i128, AllocError>
+    requires { AreAllowedStarts inst.now starts.now }
+    ensures { IfOk result (λ violation. violation ≡ violation_of inst.now (map Some starts.now)) }
+{
+    let kept = Kept::<R>::make(alloc, inst, starts)?;
+    Ok(kept.key().violation)
+}
