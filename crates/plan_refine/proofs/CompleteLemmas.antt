@@ -6,6 +6,7 @@ use Rattle.refined_files.specs.RefinedKind.{refined_kind}
 use Rattle.command_frame.specs.Ending.{NoFault}
 use Rattle.command_check.proofs.CheckComplete.{check_completes}
 use Rattle.command_rebound.proofs.ReboundComplete.{rebound_completes}
+use Rattle.command_improve.proofs.ImproveComplete.{improve_completes}
 use Rattle.plan_refine.specs.Outcome.{Outcome}
 use Rattle.plan_refine.specs.Complete.{IsComplete}
 use Rattle.plan_refine.proofs.BoundComplete.{bound_completes}
@@ -23,4 +24,7 @@ runs_complete words old new status run calm =
       bounds = λ source name cert_name out turns files asks tells.
           bound_completes source name cert_name out turns files old new status
           (run.bounds source name cert_name out turns asks) tells calm;
+      improves = λ source name out turns seed inst plan asks tells.
+          improve_completes standard_limits source name out turns seed inst plan old new status
+          (run.improves source name out turns seed asks) tells calm;
     }

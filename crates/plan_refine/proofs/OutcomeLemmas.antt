@@ -8,7 +8,7 @@ use Rattle.command_frame.specs.Ending.CountsRead.{none as counts_none}
 use Rattle.command_frame.specs.Ending.Ends.{done, unsaid, unwritten}
 use Rattle.command_frame.specs.Refusals.{SaysOrFails}
 use Rattle.command_frame.proofs.EndLemmas.{reads_none, said_ends, ends_quiet, nothing_unwritten}
-use Rattle.plan_refine.specs.Words.{Command, check, rebound, bound, command_of}
+use Rattle.plan_refine.specs.Words.{Command, check, rebound, bound, improve, command_of}
 use Rattle.plan_refine.specs.Outcome.{Asks, DueRefusal, BehindRefusal, RefusesWords, Outcome}
 use Rattle.plan_refine.specs.Outcome.BehindRefusal.{refused as behind_refused, unsaid as behind_unsaid}
 
@@ -57,5 +57,7 @@ outcome_refused words old new status none keeps says =
       checks = λ source plan cert asks. absurd (apart words (check source plan cert) none asks);
       rebounds = λ source cert out asks. absurd (apart words (rebound source cert out) none asks);
       bounds = λ source plan cert out turns asks. absurd (apart words (bound source plan cert out turns) none asks);
+      improves = λ source plan out turns seed asks.
+          absurd (apart words (improve source plan out turns seed) none asks);
       quiet = run.quiet;
     }

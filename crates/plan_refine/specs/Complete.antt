@@ -17,7 +17,8 @@ use Rattle.command_answers.specs.Check.{ChecksBy}
 use Rattle.command_check.specs.Checking.{CheckedFiles, TellsCheckedBy}
 use Rattle.command_rebound.specs.Rebinding.{RebindsBy}
 use Rattle.command_bound.specs.Bounding.{BoundFiles, TellsBoundFiles, RaisesBound}
-use Rattle.plan_refine.specs.Words.{check, rebound, bound}
+use Rattle.command_improve.specs.Improving.{TellsImprove, Improves}
+use Rattle.plan_refine.specs.Words.{check, rebound, bound, improve}
 use Rattle.plan_refine.specs.Outcome.{Asks}
 
 -- after a run in which no fault rose: for each command, which statuses come, 11 aside
@@ -40,3 +41,9 @@ pub record IsComplete (words : List (List ℕ)) (old new : Shown) (status : ℕ)
       → TellsBoundFiles standard_limits old source name cert_name files
       → Completes (0 ∷ 10 ∷ 12 ∷ []) (RaisesBound standard_limits files.inst files.plan out turns files.cert)
       old new status
+  -- 0: a plan is written that keeps every rule. 9: none was found, and nothing is written. 10: an intervention has no
+  -- allowed start, and nothing is written.
+  pub improves : (source : Source) (name : Option (List ℕ)) (out : List ℕ) (turns seed : ℕ) (inst : Tables)
+      (plan : Option (List (Option ℕ))) → Asks words (improve source name out turns seed)
+      → TellsImprove standard_limits old source name inst plan
+      → Completes (0 ∷ 9 ∷ 10 ∷ []) (Improves standard_limits inst plan out turns) old new status

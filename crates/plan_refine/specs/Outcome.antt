@@ -12,7 +12,8 @@ use Rattle.refined_files.specs.RefinedKind.{refined_kind}
 use Rattle.command_check.specs.Checking.{RunsCheckBy}
 use Rattle.command_rebound.specs.Rebinding.{RunsReboundBy}
 use Rattle.command_bound.specs.Bounding.{RunsBound}
-use Rattle.plan_refine.specs.Words.{Command, check, rebound, bound, command_of}
+use Rattle.command_improve.specs.Improving.{RunsImprove}
+use Rattle.plan_refine.specs.Words.{Command, check, rebound, bound, improve, command_of}
 
 -- the words ask for this command
 abbrev pub Asks : List (List ℕ) → Command → Type 0
@@ -46,5 +47,8 @@ pub record Outcome (words : List (List ℕ)) (old new : Shown) (status : ℕ) : 
   pub bounds : (source : Source) (plan cert : Option (List ℕ)) (out : List ℕ) (turns : ℕ)
       → Asks words (bound source plan cert out turns)
       → RunsBound standard_limits source plan cert out turns old new status
+  pub improves : (source : Source) (plan : Option (List ℕ)) (out : List ℕ) (turns seed : ℕ)
+      → Asks words (improve source plan out turns seed)
+      → RunsImprove standard_limits source plan out turns seed old new status
   -- no call failed, but at 7 and 8
   pub quiet : IsQuiet status old new

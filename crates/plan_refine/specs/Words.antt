@@ -2,18 +2,20 @@
 use Rattle.std.specs.Prelude.{◌≡◌, ℕ, List, [], ◌∷◌, codes, bytes_eq, ◌&&◌, Option, Some, None, option_map}
 use Rattle.std.specs.Prelude.{if◌then◌else◌}
 use Rattle.command_words.specs.Files.{is_file_word, are_file_words, given_of, are_apart}
-use Rattle.command_words.specs.Numbers.{turns_of}
+use Rattle.command_words.specs.Numbers.{turns_of, seed_of}
 use Rattle.command_words.specs.Ends.{source_of}
 use Rattle.command_words.specs.Parsing.{of_both}
 use Rattle.command_frame.specs.Sources.{Source}
 
 -- What a command line asks for, with the names of its files. A check has its plan as word 3, if it has one, and its
 -- certificate as word 4. What is rebound has its certificate as word 3, and is written to word 4. A bound has a plan as
--- word 3 and a certificate that it goes on with as word 4, each if it has one, and is written to word 5.
+-- word 3 and a certificate that it goes on with as word 4, each if it has one, and is written to word 5. An improvement
+-- has its plan as word 3, if it has one, and is written to word 4.
 pub data Command : Type 0 where
   check : (source : Source) (plan : Option (List ℕ)) (certificate : List ℕ) → Command
   rebound : (source : Source) (certificate out : List ℕ) → Command
   bound : (source : Source) (plan certificate : Option (List ℕ)) (out : List ℕ) (turns : ℕ) → Command
+  improve : (source : Source) (plan : Option (List ℕ)) (out : List ℕ) (turns seed : ℕ) → Command
 
 -- ---- the words of each command behind its name; `end` is one word `slack=D`, or none
 
@@ -53,6 +55,23 @@ bound_of (instance ∷ plan ∷ cert ∷ out ∷ turns ∷ end) =
     else None
 bound_of words = None
 
+-- the names of the files of an improvement that are given
+abbrev pub improve_names : (instance : List ℕ) → (plan : Option (List ℕ)) → (out : List ℕ) → List (List ℕ)
+improve_names instance plan out = instance ∷ with_given plan (out ∷ [])
+
+-- turns and a seed
+abbrev pub numbers_of : (turns seed : List ℕ) → Option (ℕ × ℕ)
+numbers_of turns seed = of_both (λ count number. (count, number)) (turns_of turns) (seed_of seed)
+
+-- `improve INSTANCE PLAN OUT TURNS SEED`, where PLAN may be `-`, for none; the names of the files that are given differ
+abbrev pub improve_of : List (List ℕ) → Option Command
+improve_of (instance ∷ plan ∷ out ∷ turns ∷ seed ∷ end) =
+    if are_file_words (plan ∷ out ∷ []) && are_apart (improve_names instance (given_of plan) out)
+    then of_both (λ source numbers. improve source (given_of plan) out numbers.0 numbers.1) (source_of instance end)
+    (numbers_of turns seed)
+    else None
+improve_of words = None
+
 -- ---- the table of commands
 
 -- the command of this name, of the words behind it
@@ -61,6 +80,7 @@ command_named name words =
     if bytes_eq name (codes "check") then check_of words
     else if bytes_eq name (codes "rebound") then rebound_of words
     else if bytes_eq name (codes "bound") then bound_of words
+    else if bytes_eq name (codes "improve") then improve_of words
     else None
 
 -- the command of these words; none where they are not in the grammar
@@ -73,3 +93,4 @@ pub record GoesByName : Type 0 where
   pub checks : (words : List (List ℕ)) → command_of (codes "check" ∷ words) ≡ check_of words
   pub rebounds : (words : List (List ℕ)) → command_of (codes "rebound" ∷ words) ≡ rebound_of words
   pub bounds : (words : List (List ℕ)) → command_of (codes "bound" ∷ words) ≡ bound_of words
+  pub improves : (words : List (List ℕ)) → command_of (codes "improve" ∷ words) ≡ improve_of words

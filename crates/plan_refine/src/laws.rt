@@ -12,7 +12,7 @@ pub fn commands_go_by_name()
 {}
 
 /// Where the files of the command are read and no fault rose, what `run_refine` promises leaves the statuses of that
-/// command alone, and 11: 0, 1, 5 for a leaf, 10 or 12.
+/// command alone, and 11: 0, 1, 5 for a leaf, 9, 10 or 12.
 pub fn refined_runs_are_complete()
     ensures { (words : List (List ℕ)) (old new : Shown) (status : ℕ) → Outcome words old new status
         → NoFault old new → IsComplete words old new status }

@@ -1,4 +1,5 @@
-//! The third program: checks certificates of any version, makes them fit changed limits, and makes better ones.
+//! The third program: checks certificates of any version, makes them fit changed limits, and makes better ones, and
+//! better plans.
 //!
 //! `run_refine` is the whole program over any device; `main` runs it over real files and standard output.
 #![tactic(auto)]

@@ -11,19 +11,22 @@ use crate::words::{Command, command_of};
 use command_bound::bound_files;
 use command_check::check_files_by;
 use command_frame::{Source, WORDS_LINE, say};
+use command_improve::improve_files;
 use command_rebound::rebound_files_by;
 use instance_model::Limits;
 use plan_desk::Desk;
+use quantile_index::TreeRow;
 use refined_files::VersionedCertificate;
 use std::alloc::Global;
 
 /// Runs the command of these words, which are those after the program's name, and answers the status.
 ///
-/// 0: done; of `check`, the certificate is valid; of `bound`, the bound is a number. 1: of `check`, the plan breaks a
-/// rule. 2: the words are not in the grammar. 3: the instance is refused. 4: the plan's text is refused. 5: the
-/// certificate is refused. 7: a file could not be read. 8: a file could not be written, or what was due could not be
-/// said. 10: of `bound`, there is no plan; the certificate that says so was written. 11: memory ran out, and nothing was
-/// written or said before. 12: of `rebound` and `bound`, the text to be written is too long.
+/// 0: done; of `check`, the certificate is valid; of `bound`, the bound is a number; of `improve`, a plan was written.
+/// 1: of `check`, the plan breaks a rule. 2: the words are not in the grammar. 3: the instance is refused. 4: the
+/// plan's text is refused. 5: the certificate is refused. 7: a file could not be read. 8: a file could not be written,
+/// or what was due could not be said. 9: of `improve`, no plan was found, and there may be one. 10: there is no plan;
+/// of `bound`, the certificate that says so was written. 11: memory ran out, and nothing was written or said before.
+/// 12: of `rebound` and `bound`, the text to be written is too long.
 pub fn run_refine<D: Desk>(alloc: Global, words: &[String], desk: &mut D) -> u8
     ensures { Outcome (map string_bytes words.now) (D.shows desk.old) (D.shows desk.new) result }
 {
@@ -52,6 +55,15 @@ pub fn run_refine<D: Desk>(alloc: Global, words: &[String], desk: &mut D) -> u8
                 turns,
             },
         ) => bound_standard(alloc, &source, plan, certificate, out, turns, desk),
+        Some(
+            Command::Improve {
+                source,
+                plan,
+                out,
+                turns,
+                seed,
+            },
+        ) => improve_files::<TreeRow, D>(alloc, &source, plan, out, turns, seed, desk),
     }
 }
 

@@ -48,8 +48,23 @@ const STARTLESS: &str = r#"{"Resources":{},"Seasons":{},
 "Exclusions":{},"T":2,"Scenarios_number":[1,1],
 "Quantile":1,"Alpha":1}"#;
 
+/// The same two where each is too much for its period.
+const NARROW: &str = r#"{"Resources":{"c":{"max":[5,5],"min":[0,0]}},"Seasons":{},
+"Interventions":{
+"I1":{"tmax":2,"Delta":[1,1],
+"workload":{"c":{"1":{"1":6},"2":{"2":6}}},
+"risk":{"1":{"1":[0]},"2":{"2":[4]}}},
+"I2":{"tmax":2,"Delta":[1,1],
+"workload":{"c":{"1":{"1":6},"2":{"2":6}}},
+"risk":{"1":{"1":[0]},"2":{"2":[2]}}}},
+"Exclusions":{},"T":2,"Scenarios_number":[1,1],
+"Quantile":1,"Alpha":1}"#;
+
 /// One after the other.
 const APART: &str = "I1 1\nI2 2\n";
+
+/// One after the other, where that is dearer.
+const TURNED: &str = "I1 2\nI2 1\n";
 
 /// Both at once, which is too much.
 const TOGETHER: &str = "I1 1\nI2 1\n";
@@ -84,6 +99,10 @@ const LEAST: &str = "bound 2000000000000000000\nlists ";
 
 /// The same with the plan of the least score.
 const LEAST_PLAN: &str = "bound 2000000000000000000\nscore 2000000000000000000\ngap 0\nlists ";
+
+/// What is said of a plan of the least score, behind what it was before and how much changed.
+const LEAST_VALUES: &str =
+    "cost 1.000000000000 1.000000000000\nmean 1.000000000000 1.000000000000\nexcess 0.000000000000 0.000000000000\nrounded 0\n";
 
 /// A desk with the files I, P and C.
 fn desk(
@@ -323,14 +342,129 @@ fn files_of_bound_are_refused_in_order(rt: HostRuntime) -> Result<(), Fail> {
     Ok(())
 }
 
+/// The plan of the least score is found from every plan. A start that the plan has not is changed, and one that it
+/// leaves out.
+#[test]
+fn plans_are_improved(rt: HostRuntime) -> Result<(), Fail> {
+    let alloc = rt.alloc();
+    for (name, plan, before, changed) in [
+        ("P", APART, "2000000000000000000", 0),
+        ("P", TURNED, "4000000000000000000", 2),
+        ("P", TOGETHER, "none", 1),
+        ("P", "I1 1\n", "none", 1),
+        ("P", "I2 2\n", "none", 1),
+        ("P", "I1 9\nI2 2\n", "none", 1),
+        ("P", "", "none", 2),
+        ("-", "", "none", 2),
+    ] {
+        let mut desk = desk(alloc, BANDED, plan, "")?;
+        let (status, said) = ran(alloc, &["improve", "I", name, "O", "1", "7"], &mut desk)?;
+        assert_eq!(rt; status, 0, "{plan}");
+        let told = format!(in alloc;
+            "plan improved\nscore 2000000000000000000\nbefore {before}\nchanged {changed}\n{LEAST_VALUES}"
+        )?;
+        assert_eq!(rt; said.as_slice(), told.as_bytes(), "{plan}");
+        assert_eq!(rt; desk.file("O"), Some(APART.as_bytes()), "{plan}");
+    }
+    Ok(())
+}
+
+/// Without turns a plan that keeps every rule is written as it is, and no other one is looked for.
+#[test]
+fn nothing_is_improved_without_turns(rt: HostRuntime) -> Result<(), Fail> {
+    let alloc = rt.alloc();
+    let mut desk = desk(alloc, BANDED, TURNED, "")?;
+    let (status, said) = ran(alloc, &["improve", "I", "P", "O", "0", "7"], &mut desk)?;
+    assert_eq!(rt; status, 0);
+    assert!(rt; said.as_slice().starts_with(
+        b"plan improved\nscore 4000000000000000000\nbefore 4000000000000000000\nchanged 0\ncost 2.0"
+    ));
+    assert_eq!(rt; desk.file("O"), Some(TURNED.as_bytes()));
+    Ok(())
+}
+
+/// The least overload that was met is said: 2 where both are together, and without limits that leave room for a plan
+/// 1 in each period, where they are apart.
+#[test]
+fn a_plan_may_not_be_found(rt: HostRuntime) -> Result<(), Fail> {
+    let alloc = rt.alloc();
+    for (instance, name, turns) in [
+        (BANDED, "P", "0"),
+        (BANDED, "-", "0"),
+        (NARROW, "P", "1"),
+        (NARROW, "-", "1"),
+    ] {
+        let mut desk = desk(alloc, instance, TOGETHER, "")?;
+        let (status, said) = ran(alloc, &["improve", "I", name, "O", turns, "7"], &mut desk)?;
+        assert_eq!(rt; status, 9, "{name} {turns}");
+        assert_eq!(rt;
+            said.as_slice(),
+            b"nothing found\nviolation 2000000000000\nrounded 0\n".as_slice(),
+            "{name} {turns}"
+        );
+        assert!(rt; desk.file("O").is_none(), "{name} {turns}");
+    }
+    Ok(())
+}
+
+#[test]
+fn no_plan_is_improved_without_a_start(rt: HostRuntime) -> Result<(), Fail> {
+    let alloc = rt.alloc();
+    for name in ["P", "-"] {
+        let mut desk = desk(alloc, STARTLESS, "I1 1\n", "")?;
+        let (status, said) = ran(alloc, &["improve", "I", name, "O", "5", "7"], &mut desk)?;
+        assert_eq!(rt; status, 10, "{name}");
+        assert_eq!(rt; said.as_slice(), b"no plan exists\nrounded 0\n".as_slice(), "{name}");
+        assert!(rt; desk.file("O").is_none(), "{name}");
+    }
+    Ok(())
+}
+
+/// The same words over the same files write and say the same.
+#[test]
+fn a_seed_repeats_itself(rt: HostRuntime) -> Result<(), Fail> {
+    let alloc = rt.alloc();
+    let words = ["improve", "I", "-", "O", "2", "18446744073709551615"];
+    let mut first = desk(alloc, EXCLUDED, "", "")?;
+    let mut second = desk(alloc, EXCLUDED, "", "")?;
+    let (status, said) = ran(alloc, &words, &mut first)?;
+    let (again, also) = ran(alloc, &words, &mut second)?;
+    assert_eq!(rt; status, 0);
+    assert_eq!(rt; again, 0);
+    assert_eq!(rt; said.as_slice(), also.as_slice());
+    assert_eq!(rt; first.file("O"), second.file("O"));
+    Ok(())
+}
+
+#[test]
+fn files_of_improve_are_refused_in_order(rt: HostRuntime) -> Result<(), Fail> {
+    let alloc = rt.alloc();
+    for (instance, names, status, line) in [
+        (BANDED, ["none", "none"], 7, "refused read 2\n"),
+        ("[]", ["I", "none"], 3, "refused instance shape 0\n"),
+        (BANDED, ["I", "none"], 7, "refused read 3\n"),
+        (BANDED, ["I", "P"], 4, "refused plan bad line 1\n"),
+    ] {
+        let mut desk = desk(alloc, instance, "x", "")?;
+        let words = ["improve", names[0], names[1], "O", "1", "7"];
+        let (answer, said) = ran(alloc, &words, &mut desk)?;
+        assert_eq!(rt; answer, status, "{line}");
+        assert_eq!(rt; said.as_slice(), line.as_bytes(), "{line}");
+        assert!(rt; desk.file("O").is_none(), "{line}");
+    }
+    Ok(())
+}
+
 #[test]
 fn a_write_that_fails_is_told(rt: HostRuntime) -> Result<(), Fail> {
     let alloc = rt.alloc();
     let bound = ["bound", "I", "P", "C", "O", "1"];
     let rebound = ["rebound", "I", "C", "O"];
+    let improve = ["improve", "I", "P", "O", "0", "7"];
     for (words, told) in [
         (bound.as_slice(), "refused write 5\n"),
         (rebound.as_slice(), "refused write 4\n"),
+        (improve.as_slice(), "refused write 4\n"),
     ] {
         let mut desk = desk(alloc, BANDED, APART, OLD)?;
         desk.fail_at(DeskCall::PutOut, 1)?;
@@ -412,6 +546,22 @@ fn memory_may_run_out(rt: HostRuntime) -> Result<(), Fail> {
     Ok(())
 }
 
+/// The same of an improvement.
+#[test]
+fn memory_may_run_out_for_an_improvement(rt: HostRuntime) -> Result<(), Fail> {
+    let alloc = rt.alloc();
+    let mut desk = desk(alloc, BANDED, TURNED, "")?;
+    let (status, said) = ran(alloc, &["improve", "I", "P", "O", "1", "7"], &mut desk)?;
+    let told = match status {
+        0 => "plan improved\nscore 2000000000000000000\nbefore 4000000000000000000\n",
+        8 => "",
+        11 => MEMORY,
+        _ => "another answer",
+    };
+    assert!(rt; said.as_slice().starts_with(told.as_bytes()), "{status}");
+    Ok(())
+}
+
 #[test]
 fn words_are_refused(rt: HostRuntime) -> Result<(), Fail> {
     let alloc = rt.alloc();
@@ -439,6 +589,17 @@ fn words_are_refused(rt: HostRuntime) -> Result<(), Fail> {
         &["bound", "I", "P", "C", "C", "1"],
         &["bound", "I", "-", "C", "C", "1"],
         &["bound", "I", "P", "-", "P", "1"],
+        &["improve", "I", "-", "O", "1"],
+        &["improve", "I", "-", "O", "1", "01"],
+        &["improve", "I", "-", "O", "1", "18446744073709551616"],
+        &["improve", "I", "-", "O", "1000001", "1"],
+        &["improve", "I", "-", "O", "1", "1", "slack=1"],
+        &["improve", "I", "-", "O", "1", "1", "1"],
+        &["improve", "I", "", "O", "1", "1"],
+        &["improve", "I", "-", "", "1", "1"],
+        &["improve", "I", "-", "I", "1", "1"],
+        &["improve", "I", "P", "P", "1", "1"],
+        &["improve", "I", "I", "O", "1", "1"],
         &["evaluate", "I", "P"],
         &[],
     ] {

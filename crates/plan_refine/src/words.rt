@@ -4,10 +4,12 @@ ghost use Rattle.plan_refine.specs.Words.{command_of, command_named, check_of, r
 ghost use Rattle.plan_refine.specs.Asked.{IsAsked};
 
 mod bound;
+mod improve;
 
 use bound::bound_of;
 use command_frame::Source;
 use command_words::{are_apart, are_file_words, given_of, source_of};
+use improve::improve_of;
 
 /// What the words ask for, with the names of its files.
 #[derive(Clone, Copy)]
@@ -33,6 +35,15 @@ pub enum Command<'a> {
         out: &'a str,
         turns: u32,
     },
+    /// An improvement has a plan, word 3, if it has one; it is written to word 4, and has turns, word 5, and a seed,
+    /// word 6.
+    Improve {
+        source: Source<'a>,
+        plan: Option<&'a str>,
+        out: &'a str,
+        turns: u32,
+        seed: u64,
+    },
 }
 
 /// The command of the words, if they are in the grammar.
@@ -53,6 +64,7 @@ fn command_named<'a>(name: &str, words: &'a [String]) -> Option<Command<'a>>
         _ if name == "check" => check_of(words),
         _ if name == "rebound" => rebound_of(words),
         _ if name == "bound" => bound_of(words),
+        _ if name == "improve" => improve_of(words),
         _ => None,
     }
 }
