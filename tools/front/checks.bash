@@ -87,10 +87,13 @@ is_option() {
 
 # Whether words that have their forms each fit together too.
 fit_together() {
-    case ${given[1]} in
-    table) ((given[4] <= given[5])) || wrong="FROM, ${given[4]}, is above TO, ${given[5]}" ;;
-    rehearse) is_below_2_64 "${given[2]}" || wrong="SEED is '${given[2]}', and not ${ranges[SEED]}" ;;
-    esac
+    local at
+    for at in "${!names[@]}"; do
+        case ${names[at]} in
+        TO) ((given[at - 1] <= given[at])) || wrong="FROM, ${given[at - 1]}, is above TO, ${given[at]}" ;;
+        SEED) is_below_2_64 "${given[at]}" || wrong="SEED is '${given[at]}', and not ${ranges[SEED]}" ;;
+        esac
+    done
     ((${#writes[@]} == 0)) || differ "${reads[@]}" "${writes[@]}"
     [[ -z $wrong ]]
 }

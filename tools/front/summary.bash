@@ -64,6 +64,7 @@ sum_up() {
     solve) sum_up_costs "$(periods_of "${value[score]}" "${value[cost]%% *}")" ;;
     check) sum_up_costs "$(periods_of "${value[bound]}" "${value[bound-cost]-}")" ;;
     bound) sum_up_scores ;;
+    improve) sum_up_improvement "$(periods_of "${value[score]}" "${value[cost]%% *}")" ;;
     esac
 }
 
@@ -98,6 +99,19 @@ sum_up_scores() {
             "$(as_cost "${value[score]}" 1)" "$bound" "$gap"
     elif [[ ! ${value[score]-} ]]; then
         printf 'planner: no plan that keeps the rules scores less than %s * 10^18\n' "$bound"
+    fi
+}
+
+# The cost of a plan that was made better, and what it was before, by the number of periods, if it is known; nothing is
+# said where one of them is below 0.
+sum_up_improvement() {
+    local periods=$1
+    [[ $periods && ${value[score]}${value[before]} != *-* ]] || return
+    if [[ ${value[before]} == none ]]; then
+        printf 'planner: cost %s\n' "$(as_cost "${value[score]}" "$periods")"
+    else
+        printf 'planner: cost %s; before it was %s\n' "$(as_cost "${value[score]}" "$periods")" \
+            "$(as_cost "${value[before]}" "$periods")"
     fi
 }
 

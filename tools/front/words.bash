@@ -27,6 +27,8 @@ commands=(
     'checks how many starts of the plan have to change'
     plan_refine 'bound INSTANCE PLAN|- CERTIFICATE|- >OUT TURNS [slack=D]'
     'makes a certificate, or goes on with one; - for none'
+    plan_refine 'improve INSTANCE PLAN|- >OUT TURNS SEED [slack=D]'
+    'makes a better plan from the plan, or from none (-)'
 )
 # The commands that another program takes where their certificate begins with this text, and that program.
 refined='mpcert 3'
@@ -35,7 +37,7 @@ declare -gA refining=(
     [rebound]=plan_refine
 )
 # The commands behind which a line for people is said where standard error is a terminal, by summary.bash.
-summed_up=(check solve repair bound)
+summed_up=(check solve repair bound improve)
 # What those in brackets are: the word, its form, what it does.
 options=(
     'slack=D'
@@ -83,7 +85,7 @@ own=(
 )
 # How a run ends: up to 13 with a status of the program, above 63 with one of this script.
 statuses=(
-    0 'done; evaluate, check: every rule is kept; check, audit: valid; replay: no line fails; solve, repair: a plan'
+    0 'done; evaluate, check: rules are kept; check, audit: valid; replay: no fault; solve, repair, improve: a plan'
     1 'the plan breaks a rule; replay, table: one on starts; roll: one on starts that are kept'
     2 'the words are not in the grammar'
     3 'the instance is refused'
@@ -92,8 +94,8 @@ statuses=(
     6 'the script is refused, or a line of it fails'
     7 'a file could not be opened or read'
     8 'what was due could not be written or said'
-    9 'solve, repair: no plan was found in so many turns'
-    10 'solve, repair, bound: no plan keeps every rule'
+    9 'solve, repair, improve: no plan was found in so many turns'
+    10 'solve, repair, bound, improve: no plan keeps every rule'
     11 'memory ran out'
     12 'roll, rebound, bound: the text to be written is too long'
     13 'the system refused to give the words'
