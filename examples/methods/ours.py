@@ -1,27 +1,31 @@
-"""Runs `solve` with more and more turns until its time is over, and keeps the best plan.
+"""Runs `solve` or `improve` with more and more turns until its time is over, and keeps the best plan.
 
-    python3 ours.py INSTANCE PLAN SECONDS SEED
-
-SEED is not used: the same words give the same plan.
+    python3 ours.py solve|improve INSTANCE PLAN SECONDS SEED
 """
 import sys
 import time
 
 import gadvresa
 
-path, out, seconds, _ = sys.argv[1:]
+command, path, out, seconds, seed = sys.argv[1:]
 # What is left for the end of this script.
 end = time.monotonic() + float(seconds) * 0.97 - 0.2
-best = None
-turns = 100
-while (left := end - time.monotonic()) > 0 and turns <= 1_000_000:
+best = plan = None
+turns = 10 if command == "improve" else 100
+for number in range(1000):
+    left = end - time.monotonic()
+    if left <= 0 or turns > 1_000_000:
+        break
     try:
-        found = gadvresa.solve(path, turns, timeout=left)
+        if command == "solve":
+            found = gadvresa.solve(path, turns, timeout=left)
+        else:
+            found = gadvresa.improve(path, plan, turns, int(seed) * 1000 + number, timeout=left)
     except gadvresa.TimedOut:
         break
     if found.plan is not None and (best is None or found.score < best):
-        best = found.score
-        found.plan.write(out)
-    if found.gap == 0:
+        best, plan = found.score, found.plan
+        plan.write(out)
+    if best is not None and command == "solve" and found.gap == 0:
         break
-    turns *= 4
+    turns *= 4 if command == "solve" else 2

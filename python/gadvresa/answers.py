@@ -128,6 +128,28 @@ class Solved:
 
 
 @dataclass(frozen=True)
+class Improved:
+    """What `improve` found: a plan that keeps every rule and is no worse than the one that was given, or none.
+
+    `before` is the score of the plan that was given, None where that breaks a rule, or none was given; `changed` how
+    many starts aren't its. `violation` says, where nothing was found, how far outside the rules the plan is at which
+    the search ended.
+    """
+
+    outcome: Outcome
+    plan: Optional[Plan]
+    score: Optional[int]
+    before: Optional[int]
+    changed: Optional[int]
+    cost: Optional[Range]
+    mean: Optional[Range]
+    excess: Optional[Range]
+    violation: Optional[Fraction]
+    rounded: int
+    called: Called = field(repr=False)
+
+
+@dataclass(frozen=True)
 class Bounded:
     """What `bound` shows: no plan that keeps the rules scores below the bound; None where no plan keeps them.
 

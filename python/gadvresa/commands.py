@@ -25,7 +25,7 @@ from dataclasses import dataclass, field
 from typing import Any, Callable, Dict, Iterable, List, Mapping, NoReturn, Optional, Tuple, Type, TypeVar, Union
 
 from . import errors
-from .answers import (Audited, Bounded, Checked, Judged, Outcome, Rebound, Repaired, Replayed, Rolled, Solved,
+from .answers import (Audited, Bounded, Checked, Improved, Judged, Outcome, Rebound, Repaired, Replayed, Rolled, Solved,
                       Table)
 from .exact import Slack, decimal_of, slack_word, whole_of
 from .explaining import Source
@@ -354,6 +354,45 @@ def solve(instance: AnyInstance, turns: int = 1000, *, slack: Slack = None, time
                           certificate=Certificate(bytes_of(certificate)),
                           trail=tuple(bytes_of(trail).decode("utf-8", "surrogateescape").split("\n")[:-1]),
                           called=called)
+
+        return call.read(called, reading)
+
+
+def improve(instance: AnyInstance, plan: Optional[AnyPlan] = None, turns: int = 1000, seed: int = 1, *,
+            slack: Slack = None, timeout: Optional[float] = None,
+            cancel: Optional[threading.Event] = None) -> Improved:
+    """Makes a better plan of one, or of none, and never a worse one. TURNS, up to 1,000,000, counts thousands of tries.
+
+    SEED is from 0 to 2^64 - 1; the same words and files give the same plan. Where the first plan breaks a rule, one
+    that keeps them all is looked for first.
+
+    >>> improved = improve("examples/summer/instance.json", "examples/summer/plan.txt", 10)
+    >>> improved.before, improved.score, improved.changed
+    (3000000000000000000, 1500000000000000000, 1)
+    """
+    with room() as folder:
+        call = Call("improve", "plan_refine", folder)
+        call.instance(instance)
+        call.plan(plan)
+        out = call.out("plan")
+        call.number("turns", turns)
+        call.number("seed", seed)
+        call.widen(slack)
+        called = call.run((0, 9, 10), timeout, cancel)
+
+        def reading() -> Improved:
+            report, outcome = Report(called.said), OUTCOMES[called.status]
+            report.take("plan improved" if called.status == 0 else outcome.value)
+            is_found = outcome is Outcome.FOUND
+            score = report.one("score") if is_found else None
+            before = report.one("before", or_none(whole_of)) if is_found else None
+            changed = report.one("changed") if is_found else None
+            values: Mapping[str, Any] = costs(report) if is_found else NO_COSTS
+            violation = report.may("violation", count_of)
+            rounded = report.one("rounded")
+            report.end()
+            return Improved(outcome, plan_in(out) if is_found else None, score, before, changed, **values,
+                            violation=violation, rounded=rounded, called=called)
 
         return call.read(called, reading)
 

@@ -16,9 +16,9 @@ from plain import COUNTS, Plain, read_instance
 
 ONE = 10 ** 18
 FILES = {"evaluate": "ip", "table": "ip12", "replay": "ips", "check": "ip-c", "solve": "ioooT", "rebound": "ico",
-         "roll": "ip1o", "repair": "ipooT", "audit": "ipc", "bound": "ip-c-oT"}
+         "roll": "ip1o", "repair": "ipooT", "audit": "ipc", "bound": "ip-c-oT", "improve": "ip-oTS"}
 PROGRAMS = {"planner_cli": "evaluate table replay check solve rebound roll", "plan_repair": "repair audit",
-            "plan_refine": "check rebound bound"}
+            "plan_refine": "check rebound bound improve"}
 
 
 class Ended(Exception):
@@ -264,7 +264,19 @@ def bound(run, plain):
     end(10 if least is None else 0, f"{said}lists 1\nsplits 0\nkept {kept}\nchanged 0\nrounded 0\n")
 
 
-COMMANDS = {it.__name__: it for it in (evaluate, table, replay, check, solve, rebound, roll, repair, audit, bound)}
+def improve(run, plain):
+    least, plan = best(plain)
+    given = [None] * plain.inst.interventions if run.rest[1] == "-" else run.plan(plain)
+    if plan is None:
+        end(9, "nothing found\nviolation 1000000000000\nrounded 0\n")
+    run.write(2, text_of(plain, plan))
+    before = "none" if plain.broken_rules(given) else plain.score(given)
+    changed = sum(a != b for a, b in zip(given, plan))
+    end(0, f"plan improved\nscore {least}\nbefore {before}\nchanged {changed}\n{costs(plain, plan)}rounded 0\n")
+
+
+COMMANDS = {it.__name__: it for it in (evaluate, table, replay, check, solve, rebound, roll, repair, audit, bound,
+                                       improve)}
 
 
 def run_as(program):

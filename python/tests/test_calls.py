@@ -151,6 +151,14 @@ def test_bound_goes_on_with_a_certificate(folder):
     assert gadvresa.rebound(SHORT, bounded.certificate).called.program.endswith("plan_refine")
 
 
+def test_improve(folder):
+    improved = gadvresa.improve(SUMMER, GOOD, 10, 7)
+    assert improved.outcome is Outcome.FOUND and improved.score <= improved.before
+    assert improved.changed == len(improved.plan.changes(GOOD))
+    assert gadvresa.improve(SUMMER, None, 10).before is None
+    assert gadvresa.improve(NONE, None, 10).plan is None
+
+
 @pytest.mark.parametrize("words, error, kind, line", [
     (("examples/two_lines/cut.json", "examples/two_lines/plan.txt"), gadvresa.InstanceRefused, "instance syntax", 10),
     (("examples/two_lines/instance.json", "examples/two_lines/twice.txt"), gadvresa.PlanRefused, "plan twice", 2),
