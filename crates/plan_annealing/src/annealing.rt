@@ -36,10 +36,11 @@ pub fn anneal(
     ensures starts { IfOk result (AreAllowedStarts inst.now) }
 {
     let mut starts = plan.to_vec(alloc)?;
-    if tries > 0 && inst.interventions() > 0 {
-        let mut state = State::make(alloc, inst, plan)?;
-        run_levels(&mut state, tries, seed);
-        take_starts(inst, &mut starts, state.best.as_slice());
+    if tries == 0 || inst.interventions() == 0 {
+        return Ok(Starts::from_vec(starts));
     }
+    let mut state = State::make(alloc, inst, plan)?;
+    run_levels(&mut state, tries, seed);
+    take_starts(inst, &mut starts, state.best.as_slice());
     Ok(Starts::from_vec(starts))
 }
