@@ -184,8 +184,13 @@ STEPS = [
     ),
     Step(
         "`bound`",
-        "`RunsBound`: [PROVED](PROVED.md#plan_refine) says what it promises.",
+        "`RunsBound`: [PROVED](PROVED.md#command_bound) says what it promises.",
         [("command_bound/specs/Bounding.antt", ["RunsBound"])],
+    ),
+    Step(
+        "`improve`",
+        "`RunsImprove`: [PROVED](PROVED.md#command_improve) says what it promises.",
+        [("command_improve/specs/Improving.antt", ["RunsImprove"])],
     ),
     Step(
         "The whole of `run_refine`",
