@@ -1,11 +1,12 @@
 #!/usr/bin/env python3
 """Runs each command on small files once for each allocation of the run, with that one refused, and prints the answers.
 
-    bench/refused_memory.py --planner PROGRAM [--repair PROGRAM] [--only "solve roll"]
+    bench/refused_memory.py [--planner PROGRAM] [--repair PROGRAM] [--refine PROGRAM] [--only "solve roll"]
 
-PROGRAM is built `planner_cli`, as `./planner --build` prints it, and `plan_repair`; both have to call the allocator of
-the C library by its shared library. A small library that is preloaded, and made by `cc` in a temporary folder, counts
-the calls of malloc, calloc and realloc and refuses the Nth one (`one`), or the Nth and all later ones (`all`).
+PROGRAM is built `planner_cli`, as `./planner --build` prints it, `plan_repair` and `plan_refine`; they have to call the
+allocator of the C library by its shared library. A small library that is preloaded, and made by `cc` in a temporary
+folder, counts the calls of malloc, calloc and realloc and refuses the Nth one (`one`), or the Nth and all later ones
+(`all`).
 
 A run without a refusal tells how many there are and what the whole answer is: status, standard output and the files
 that are written. Then each N is tried, and each run must end in one of three ways, of which the table has the numbers:
@@ -113,13 +114,15 @@ PLAN = "I1 2\nI2 1\nI3 1\n"
 TOGETHER = "I1 1\nI2 1\nI3 1\n"
 CERTIFICATE = ("mpcert 2\nbound 100\nlists 1\nprices\nup 1 1 5\ntail 1 10 1 2\nex 1 2 7\ntree\n"
                "split 1 1\ncost 1\nsplit 2 1\ncost 0\ncost 0\n")
+REFINED = ("mpcert 3\nbound 100\nlists 1\nprices\nup 1 1 5\ncap\ntail 1 1 1\ntail 1 2 1\noff 1 1 1 5\nex 1 2 7\n"
+           "tree\nsplit 1 1\ncost 1\ncost 0\n")
 SCRIPT = "move I1 3\nswap I1 I2\nundo\nmove I3 2\nundo\n"
 CHANGES = "mpcert 2\nbound 0\nlists 0\ntree\nsplit 1 1\ncost 0\ncost 0\n"
 FILES = {"i": INSTANCE, "tight": TIGHT, "bad": INSTANCE[:-1], "double": INSTANCE.replace('"d":{"max"', '"c":{"max"'),
          "unknown": INSTANCE.replace('["I1","I2","w"]', '["I1","I9","w"]'), "p": PLAN, "both": TOGETHER,
          "half": "I2 1\n", "badp": PLAN + "I9 1\n", "s": SCRIPT, "bads": SCRIPT + "undo\nundo\n", "c": CERTIFICATE,
          "badc": CERTIFICATE.replace("bound 100\n", "bound 90000000000000000000000\n"),
-         "cutc": CERTIFICATE[:-1], "k": CHANGES}
+         "cutc": CERTIFICATE[:-1], "k": CHANGES, "r": REFINED, "cutr": REFINED[:-1]}
 HELD = b"what was there\n"
 # What each row runs: the words, of which those in capital letters are written.
 PLANNER = ["evaluate i p", "evaluate i both", "evaluate i p slack=0.001", "evaluate bad p", "evaluate double p",
@@ -129,6 +132,9 @@ PLANNER = ["evaluate i p", "evaluate i both", "evaluate i p slack=0.001", "evalu
            "rehearse 7 2"]
 REPAIR = ["repair i p C O 20", "repair i both C O 20", "repair i half C O 20", "repair i both C O 0",
           "repair tight both C O 20", "audit i p k", "audit i both k", "audit i both badc"]
+REFINE = ["check i p c", "check i p r", "check i - cutr", "rebound i r O", "bound i p - O 0", "bound i - - O 3",
+          "bound i p r O 20", "bound tight - - O 20", "improve i p O 0 7", "improve i p O 1 7", "improve i - O 1 7",
+          "improve i both O 1 7", "improve tight - O 1 7"]
 
 
 class Room:
@@ -237,14 +243,16 @@ def main():
     parser = argparse.ArgumentParser(description=__doc__, formatter_class=argparse.RawDescriptionHelpFormatter)
     parser.add_argument("--planner", help="the built planner_cli", metavar="PROGRAM")
     parser.add_argument("--repair", help="the built plan_repair", metavar="PROGRAM")
+    parser.add_argument("--refine", help="the built plan_refine", metavar="PROGRAM")
     parser.add_argument("--only", help="the commands, else all", metavar="WORDS")
     parser.add_argument("--jobs", type=int, default=2, help="how many commands are tried at a time")
     words = parser.parse_args()
     only = words.only.split() if words.only else None
-    calls = [(program, shlex.split(call)) for program, calls in ((words.planner, PLANNER), (words.repair, REPAIR))
-             if program for call in calls if not only or call.split()[0] in only]
+    programs = (words.planner, PLANNER), (words.repair, REPAIR), (words.refine, REFINE)
+    calls = [(program, shlex.split(call)) for program, calls in programs if program for call in calls
+             if not only or call.split()[0] in only]
     if not calls:
-        parser.error("give --planner or --repair")
+        parser.error("give --planner, --repair or --refine")
     with tempfile.TemporaryDirectory(prefix="refused-") as folder:
         library = build(folder, "refuse.so", LIBRARY, "-shared", "-fPIC")
         self_test(library, folder)
