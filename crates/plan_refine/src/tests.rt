@@ -376,9 +376,11 @@ fn nothing_is_improved_without_turns(rt: HostRuntime) -> Result<(), Fail> {
     let mut desk = desk(alloc, BANDED, TURNED, "")?;
     let (status, said) = ran(alloc, &["improve", "I", "P", "O", "0", "7"], &mut desk)?;
     assert_eq!(rt; status, 0);
-    assert!(rt; said.as_slice().starts_with(
-        b"plan improved\nscore 4000000000000000000\nbefore 4000000000000000000\nchanged 0\ncost 2.0"
-    ));
+    assert!(rt;
+        said.as_slice().starts_with(
+            b"plan improved\nscore 4000000000000000000\nbefore 4000000000000000000\nchanged 0\ncost 2.0"
+        )
+    );
     assert_eq!(rt; desk.file("O"), Some(TURNED.as_bytes()));
     Ok(())
 }
@@ -414,7 +416,11 @@ fn no_plan_is_improved_without_a_start(rt: HostRuntime) -> Result<(), Fail> {
         let mut desk = desk(alloc, STARTLESS, "I1 1\n", "")?;
         let (status, said) = ran(alloc, &["improve", "I", name, "O", "5", "7"], &mut desk)?;
         assert_eq!(rt; status, 10, "{name}");
-        assert_eq!(rt; said.as_slice(), b"no plan exists\nrounded 0\n".as_slice(), "{name}");
+        assert_eq!(rt;
+            said.as_slice(),
+            b"no plan exists\nrounded 0\n".as_slice(),
+            "{name}"
+        );
         assert!(rt; desk.file("O").is_none(), "{name}");
     }
     Ok(())
