@@ -54,6 +54,8 @@ take_words() {
         wrong="${word@Q} is a word too many"
         [[ $word != slack=* || ${form[-1]} != '['* ]] ||
             wrong="${word@Q} is no slack: write it from 0 to 0.001 with at most 12 decimals, as slack=0.00001"
+        [[ $word != part=* || ${form[-1]} != '[part=K/N]' ]] ||
+            wrong="${word@Q} is no part: write it with K below N, which is at most 1000000, as part=0/4"
         return 1
     fi
     fit_together
@@ -94,8 +96,15 @@ fit_together() {
         SEED) is_below_2_64 "${given[at]}" || wrong="SEED is '${given[at]}', and not ${ranges[SEED]}" ;;
         esac
     done
+    [[ ${given[1]} != bound ]] || fit_part "${given[-1]}"
     ((${#writes[@]} == 0)) || differ "${reads[@]}" "${writes[@]}"
     [[ -z $wrong ]]
+}
+
+# Finds whether a word that says a part names one that there is.
+fit_part() {
+    [[ ! $1 =~ ^part=([0-9]+)/([0-9]+)$ ]] || ((BASH_REMATCH[1] < BASH_REMATCH[2])) ||
+        wrong="K, ${BASH_REMATCH[1]}, is not below N, ${BASH_REMATCH[2]}"
 }
 
 # Finds whether the words of some numbers differ from each other.

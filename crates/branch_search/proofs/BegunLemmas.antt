@@ -1,11 +1,11 @@
 -- The walk that lays out the tree that a search goes on from.
 use Rattle.std.proofs.Common.{◌≡◌, ℕ, zero, suc, ◌+◌, ◌<◌, ◌≤◌, ◌⊎◌, inl, inr, refl, sym, ◌∙◌, ap, subst, arith, ℤ}
 use Rattle.std.proofs.Common.{◌≤ℤ◌, List, [], ◌∷◌, ◌++◌, append_assoc, add-one, drop, drop-cons}
-use Rattle.std.proofs.Common.{length, length-append, get_or, map, reverse, All}
-use Rattle.std.proofs.Common.{Option, Some, None, IfSome, Bor}
-use Rattle.std.specs.Prelude.{IsPermutation, option_map}
+use Rattle.std.proofs.Common.{length, get_or, map, reverse, All}
+use Rattle.std.proofs.Common.{Bool, IsTrue, Option, Some, None, IfSome, Bor}
+use Rattle.std.specs.Prelude.{option_map, ◌↔◌}
 use Rattle.std.proofs.lemmas.Bool.{cases_eq}
-use Rattle.std.proofs.lemmas.List.{drop_all, get_or_append_left, get_or-append-add, reverse-append}
+use Rattle.std.proofs.lemmas.List.{drop_all, reverse-append}
 use Rattle.std.proofs.lemmas.List.Elements.{All-nil, All-head}
 use Rattle.std.proofs.lemmas.List.Sorted.{IsPermutation-refl}
 use Rattle.fixed_num.proofs.SignedLemmas.{signed_arith}
@@ -16,7 +16,7 @@ use Rattle.lagrange_bound.specs.Boxes.{IsBox}
 use Rattle.certificate_lines.specs.declared.line.Bound.{Bound}
 use Rattle.certificate_tree.specs.declared.node.Node.{Node}
 use Rattle.certificate_tree.specs.declared.node.Node.TheVariants.{Split, Cost, Point, Band, Excl, Empty}
-use Rattle.certificate_tree.specs.Trees.{Tree, leaf, split, pre_order, Leaf, leaves, root_box, below, above, IsSplit}
+use Rattle.certificate_tree.specs.Trees.{Tree, leaf, split, pre_order, leaves, root_box, below, above, IsSplit}
 use Rattle.certificate_tree.specs.Ranges.{AreNodesOf, IsLeafInRange, IsTreeInRange}
 use Rattle.certificate_tree.specs.Holding.{IsAtLeast, LeafHolds}
 use Rattle.certificate_tree.specs.Validity.{IsProved, ClaimLeafHolds, BoundBoxes}
@@ -27,14 +27,15 @@ use Rattle.branch_search.specs.declared.splitting.settling.Settled.{Settled}
 use Rattle.branch_search.specs.declared.tree.cell.Cell.{Cell}
 use Rattle.branch_search.specs.Best.{IsFeasiblePlan, IsBestOver}
 use Rattle.branch_search.specs.Splits.{split_count}
-use Rattle.branch_search.specs.Tasks.{Task, splits_before, given_claim, freed}
+use Rattle.branch_search.specs.Tasks.{Task, given_claim, freed}
 use Rattle.branch_search.specs.Growing.{cell_at, node_at, box_at, IsLeafNode, IsLinked, AreBoxesOf, split_cells}
 use Rattle.branch_search.specs.Growing.{split_list}
 use Rattle.branch_search.specs.Shapes.{Shape, tip, fork, forks, times, Stands, IsShapeOf, grown}
 use Rattle.branch_search.specs.Settled.{IsWaitingBox, IsSettled, IsWorthOf, IsImprovedIn, IsLeafOf}
-use Rattle.branch_search.specs.Entries.{with_entry}
 use Rattle.branch_search.specs.States.{entries_of, AreEntries, IsFloor, IsGrown}
-use Rattle.branch_search.specs.Begun.{with_leaf, Place, nodes_at, IsApart, AreApart, IsOneOf, IsOpen, AreOpen, IsBegun}
+use Rattle.branch_search.specs.Aside.{IsFiled}
+use Rattle.branch_search.specs.Parted.{Place, IsApart, IsNoEntry, Stage, Continues}
+use Rattle.branch_search.specs.Begun.{with_leaf, nodes_at, AreApart, IsOneOf, IsOpen, AreOpen, IsBegun}
 use Rattle.branch_search.proofs.SplitLemmas.{leaf_count}
 use Rattle.branch_search.proofs.CellLemmas.{length_split, at_split, at_left, at_right, box_left, box_right}
 use Rattle.branch_search.proofs.CellLemmas.{leaf_linked, are_boxes_more, split_is_no_leaf, cost_is_no_split, Where}
@@ -43,6 +44,9 @@ use Rattle.branch_search.proofs.ShapeLemmas.{same_is, same_not, shape_more, fork
 use Rattle.branch_search.proofs.LeafLemmas.{leaf_for, still_best, some_is, still_settled, given_under}
 use Rattle.branch_search.proofs.ChangeLemmas.{IsChangedAt, point_is_no_cost, length_leaf, at_leaf, leaf_changes}
 use Rattle.branch_search.proofs.ChangeLemmas.{shape_leaf, boxes_leaf, split_changes, entries_changed}
+use Rattle.branch_search.proofs.EntryLemmas.{all_front, all_back}
+use Rattle.branch_search.proofs.AsideLemmas.{aside_after, filed_all, filed_waits, filed_stays, filed_here}
+use Rattle.branch_search.proofs.PartLemmas.{place_continues, continues_laid, continues_split}
 
 -- the plan handed in is no worse than itself
 pub best_at_first : (task : Task) (best : Option (List ℕ)) → best ≡ task.incumbent
@@ -66,14 +70,6 @@ tail_is x y xs ys e = cc
 
 some_are_none : {A : Type 0} (x : A) (xs : List A) → x ∷ xs ≡ [] → ⊥
 some_are_none x xs e = cc
-
-all_front : (P : Leaf → Type 0) (xs ys : List Leaf) → All P (xs ++ ys) → All P xs
-all_front P xs ys h k d l =
-    subst P (get_or_append_left xs ys d k l) (h k d (omega (arith, l, length-append xs ys)))
-
-all_back : (P : Leaf → Type 0) (xs ys : List Leaf) → All P (xs ++ ys) → All P ys
-all_back P xs ys h k d l =
-    subst P (get_or-append-add xs ys k d) (h (length xs + k) d (omega (arith, l, length-append xs ys)))
 
 -- ---- splits
 -- a split among the numbers is a fork of the shape
@@ -153,12 +149,13 @@ root_shape node plain = record {
   count = refl;
 }
 
-pub begun_first : (task : Task) (best : Option (List ℕ)) (t : Tree) (stack : List ℕ) → IsFitting task.inst
+pub begun_first : (task : Task) (may : ℕ → Type 0) (best : Option (List ℕ)) (t : Tree) (stack : List ℕ)
+    → IsFitting task.inst
     → NodesAreOneTree → AreNodesOf task.inst task.lists (root_box task.inst) t task.given
     → BoundBoxes task.value task.inst task.lists task.worths
     → IsBestOver task.value task.inst task.incumbent best → stack ≡ 0 ∷ []
-    → IsBegun task ((record { node = Point; parent = 0; left = 0 }) ∷ []) [] best stack task.given
-begun_first task best t stack fits one nodes law best_is is = record {
+    → IsBegun task may t ((record { node = Point; parent = 0; left = 0 }) ∷ []) [] [] best stack 0 task.given
+begun_first task may best t stack fits one nodes law best_is is = record {
   boxes = root_box task.inst ∷ [];
   shape = tip 0;
   are_boxes = root_boxes task.inst Point fits tt;
@@ -188,6 +185,14 @@ begun_first task best t stack fits one nodes law best_is is = record {
         → ⊥) k l (λ f. point_is_no_cost Point j refl f) e);
     once = λ k. let e : entries_of k [] ≡ 0 = refl in omega (arith, e);
   };
+  continues = place_continues (record {
+    may = may;
+    cells = (record { node = Point; parent = 0; left = 0 }) ∷ [];
+    waiting = [];
+    aside = [];
+    next = 0;
+    places = (record { number = 0; tree = t }) ∷ [];
+  }) 0 t 0 (inl (refl, refl, refl));
   best_is = best_is;
   floors = λ bound h. record {
     under_best = λ plan e. best_under task bound best plan fits law h best_is e;
@@ -209,8 +214,8 @@ leaf_from (Band c t s) h = tt
 leaf_from (Excl e) h = tt
 leaf_from (Empty i) h = tt
 
-pub record IsTop (task : Task) (cells : List Cell) (entries : List (ℤ × ℕ)) (best : Option (List ℕ))
-    (under : List ℕ) (k : ℕ) (rest : List Node) : Type 0 where
+pub record IsTop (task : Task) (may : ℕ → Type 0) (given : Tree) (cells : List Cell) (waiting aside : List (ℤ × ℕ))
+    (best : Option (List ℕ)) (under : List ℕ) (k seen : ℕ) (rest : List Node) : Type 0 where
   pub boxes : List (List Span)
   pub shape : Shape
   pub are_boxes : AreBoxesOf task.inst cells boxes
@@ -226,23 +231,38 @@ pub record IsTop (task : Task) (cells : List Cell) (entries : List (ℤ × ℕ))
   pub splits_are : forks shape + split_count rest ≡ split_count task.given
   pub settled : (j : ℕ) → j < length cells
       → (k ≡ j) ⊎ IsOneOf j others ⊎ IsSettled task best (box_at boxes j) (node_at cells j)
-  pub waits : AreEntries task cells boxes entries
+  pub waits : AreEntries task cells boxes (waiting ++ aside)
+  pub continues : Continues (record {
+    may = may;
+    cells = cells;
+    waiting = waiting;
+    aside = aside;
+    next = seen;
+    places = (record { number = k; tree = first }) ∷ others;
+  }) 0 given shape
   pub best_is : IsBestOver task.value task.inst task.incumbent best
   pub floors : (bound : Bound) → IsProved task.value task.inst (given_claim task bound)
       → IsFloor task cells boxes best bound
 
-pub at_top : (task : Task) (cells : List Cell) (entries : List (ℤ × ℕ)) (best : Option (List ℕ))
-    (stack under : List ℕ) (k : ℕ) (rest : List Node) → IsBegun task cells entries best stack rest
-    → stack ≡ under ++ k ∷ [] → IsTop task cells entries best under k rest
-at_top task cells entries best stack under k rest h e =
+abbrev stage_at : (may : ℕ → Type 0) (cells : List Cell) (waiting aside : List (ℤ × ℕ)) (seen : ℕ) → List Place → Stage
+stage_at may cells waiting aside seen places =
+    record { may = may; cells = cells; waiting = waiting; aside = aside; next = seen; places = places }
+
+pub at_top : (task : Task) (may : ℕ → Type 0) (given : Tree) (cells : List Cell) (waiting aside : List (ℤ × ℕ))
+    (best : Option (List ℕ)) (stack under : List ℕ) (k seen : ℕ) (rest : List Node)
+    → IsBegun task may given cells waiting aside best stack seen rest → stack ≡ under ++ k ∷ []
+    → IsTop task may given cells waiting aside best under k seen rest
+at_top task may given cells waiting aside best stack under k seen rest h e =
     at h.places (sym (reversed under k) ∙ ap reverse (sym e) ∙ h.stack_is) h.rest_is h.open_are h.apart h.settled
+    h.continues
   where
     at : (places : List Place) → k ∷ reverse under ≡ map (λ place. place.number) places → nodes_at places ≡ rest
         → AreOpen task cells h.boxes places → AreApart places
         → ((j : ℕ) → j < length cells → IsOneOf j places ⊎ IsSettled task best (box_at h.boxes j) (node_at cells j))
-        → IsTop task cells entries best under k rest
-    at [] f r o a s = absurd (some_are_none k (reverse under) f)
-    at (p ∷ ps) f r o a s =
+        → Continues (stage_at may cells waiting aside seen places) 0 given h.shape
+        → IsTop task may given cells waiting aside best under k seen rest
+    at [] f r o a s c = absurd (some_are_none k (reverse under) f)
+    at (p ∷ ps) f r o a s c =
         let is : p.number ≡ k = sym (head_is k p.number (reverse under) (map (λ place. place.number) ps) f) in
         record {
           boxes = h.boxes;
@@ -260,6 +280,9 @@ at_top task cells entries best stack under k rest h e =
           splits_are = h.splits_are;
           settled = λ j l. settled j (s j l) is;
           waits = h.waits;
+          continues = subst (λ (n : ℕ). Continues (stage_at may cells waiting aside seen
+              ((record { number = n; tree = p.tree }) ∷ ps)) 0 given
+              h.shape) is c;
           best_is = h.best_is;
           floors = h.floors;
         }
@@ -323,13 +346,14 @@ split_first inst lists box (split j n a b) others i m after e r =
     }
 
 -- ---- a leaf is laid
-module _ (task : Task) (cells : List Cell) (old new : List (ℤ × ℕ)) (best next : Option (List ℕ))
-    (under : List ℕ) (k : ℕ) (node : Node) (after : List Node) (here : Settled) (fits : IsFitting task.inst)
+module _ (task : Task) (may : ℕ → Type 0) (given : Tree) (cells : List Cell) (old new aside : List (ℤ × ℕ))
+    (best next : Option (List ℕ)) (under : List ℕ) (k seen : ℕ) (node : Node) (after : List Node) (here : Settled)
+    (may_split : Bool) (kept more : Option ℤ) (fits : IsFitting task.inst)
     (law : BoundBoxes task.value task.inst task.lists task.worths) (plain : IsLeafNode node)
-    (g : IsTop task cells old best under k (node ∷ after))
+    (g : IsTop task may given cells old aside best under k seen (node ∷ after))
     (laid : IsLeafOf (freed task) next (box_at g.boxes k) here)
     (improved : IsImprovedIn task.value task.inst (box_at g.boxes k) best next)
-    (waits : IsPermutation (with_entry here.worth k old) new) where
+    (own : IsTrue may_split ↔ may seen) (filed : IsFiled may_split here.worth k old new kept more) where
   known : k < length cells
   known = g.open_first.known
 
@@ -386,7 +410,39 @@ module _ (task : Task) (cells : List Cell) (old new : List (ℤ × ℕ)) (best n
   cost_at bound h j list l e (inr d) = (g.floors bound h).under_costs j list l
       (sym (ap (λ (c : Cell). c.node) (change.same j l d)) ∙ e)
 
-  pub leaf_laid : IsBegun task (with_leaf cells k here.node) new next under after
+  -- no entry so far has the number
+  no_entry : IsNoEntry (old ++ aside) k
+  no_entry i d l e =
+      let h = g.waits.sound i d l in
+      point_is_no_cost (node_at cells k) h.list g.open_first.node
+      (subst (λ (j : ℕ). node_at cells j ≡ Cost h.list) e h.node)
+
+  still_continues : Continues (record {
+    may = may;
+    cells = with_leaf cells k here.node;
+    waiting = new;
+    aside = aside_after may_split here.worth k aside;
+    next = seen + 1;
+    places = g.others;
+  }) 0 given g.shape
+  still_continues =
+      continues_laid may cells k here.node node known g.open_first.node old new aside
+      (aside_after may_split here.worth k aside) seen g.others g.apart_first
+      (filed_waits may_split here.worth k old new kept more filed) (filed_stays may_split here.worth k aside)
+      (filed_here may_split (may seen) here.worth k old new aside kept more own filed
+      (all_front (λ (e : ℤ × ℕ). e.1 ≡ k → ⊥) old aside no_entry)
+      (all_back (λ (e : ℤ × ℕ). e.1 ≡ k → ⊥) old aside no_entry)) 0 given g.shape
+      (subst (λ (t : Tree). Continues (record {
+        may = may;
+        cells = cells;
+        waiting = old;
+        aside = aside;
+        next = seen;
+        places = (record { number = k; tree = t }) ∷ g.others;
+      }) 0 given g.shape) at.is g.continues)
+
+  pub leaf_laid : IsBegun task may given (with_leaf cells k here.node) new (aside_after may_split here.worth k aside)
+      next under (seen + 1) after
   leaf_laid = record {
     boxes = g.boxes;
     shape = g.shape;
@@ -401,9 +457,11 @@ module _ (task : Task) (cells : List Cell) (old new : List (ℤ × ℕ)) (best n
     splits_are = let z = leaf_count node after plain in let s = g.splits_are in omega (arith, z, s);
     settled = λ j l. settled_at j (omega (arith, l, length_leaf cells k here.node known)) (cases_eq j k);
     waits = entries_changed task cells (with_leaf cells k here.node) g.boxes g.boxes k known g.open_first.node change
-        old g.waits here.worth new
+        (old ++ aside) g.waits here.worth (new ++ aside_after may_split here.worth k aside)
         (subst (λ (c : Cell). IsWorthOf task (box_at g.boxes k) c.node here.worth)
-        (sym (at_leaf cells k here.node known)) one.worth) one.small waits;
+        (sym (at_leaf cells k here.node known)) one.worth) one.small
+        (filed_all may_split here.worth k old new kept more aside filed);
+    continues = still_continues;
     best_is = best_next;
     floors = λ bound h. record {
       under_best = λ plan e. best_under task bound next plan fits law h best_next e;
@@ -413,9 +471,9 @@ module _ (task : Task) (cells : List Cell) (old new : List (ℤ × ℕ)) (best n
   }
 
 -- ---- a split is laid
-module _ (task : Task) (cells : List Cell) (entries : List (ℤ × ℕ)) (best : Option (List ℕ))
-    (under stack : List ℕ) (k i m : ℕ) (after : List Node)
-    (g : IsTop task cells entries best under k (Split i m ∷ after)) where
+module _ (task : Task) (may : ℕ → Type 0) (given : Tree) (cells : List Cell) (waiting aside : List (ℤ × ℕ))
+    (best : Option (List ℕ)) (under stack : List ℕ) (k i m seen : ℕ) (after : List Node)
+    (g : IsTop task may given cells waiting aside best under k seen (Split i m ∷ after)) where
   split_known : k < length cells
   split_known = g.open_first.known
 
@@ -513,7 +571,7 @@ module _ (task : Task) (cells : List Cell) (entries : List (ℤ × ℕ)) (best :
       (ap (λ (c : Cell). c.node) (at_right cells k i m Point Point split_known j q)) e)
 
   pub split_laid : stack ≡ (under ++ (length cells + 1) ∷ []) ++ length cells ∷ []
-      → IsBegun task (split_cells cells k i m Point Point) entries best stack after
+      → IsBegun task may given (split_cells cells k i m Point Point) waiting aside best stack seen after
   split_laid is = record {
     boxes = split_list g.boxes k i m;
     shape = grown k (length cells) g.shape;
@@ -546,9 +604,19 @@ module _ (task : Task) (cells : List Cell) (entries : List (ℤ × ℕ)) (best :
     settled = λ j l. split_settled j (where_is (length cells) k j
         (omega (arith, l, length_split cells k i m Point Point split_known)));
     waits = entries_changed task cells (split_cells cells k i m Point Point) g.boxes (split_list g.boxes k i m) k
-        split_known g.open_first.node split_change entries g.waits None entries
+        split_known g.open_first.node split_change (waiting ++ aside) g.waits None (waiting ++ aside)
         (subst (λ (c : Cell). IsWorthOf task (box_at (split_list g.boxes k i m) k) c.node None)
-        (sym (at_split cells k i m Point Point split_known)) refl) tt (IsPermutation-refl entries);
+        (sym (at_split cells k i m Point Point split_known)) refl) tt (IsPermutation-refl (waiting ++ aside));
+    continues = continues_split may cells k i m split_known g.open_first.node waiting aside seen first.left first.right
+        g.others g.apart_first 0 given g.shape g.is_shape.within
+        (subst (λ (t : Tree). Continues (record {
+          may = may;
+          cells = cells;
+          waiting = waiting;
+          aside = aside;
+          next = seen;
+          places = (record { number = k; tree = t }) ∷ g.others;
+        }) 0 given g.shape) first.is g.continues);
     best_is = g.best_is;
     floors = λ bound h. record {
       under_best = (g.floors bound h).under_best;
@@ -562,63 +630,71 @@ nodes_are_some : (t : Tree) (ns : List Node) → pre_order t ++ ns ≡ [] → �
 nodes_are_some (leaf n) ns e = some_are_none n ns e
 nodes_are_some (split i m l r) ns e = some_are_none (Split i m) ((pre_order l ++ pre_order r) ++ ns) e
 
-pub begun_end : (task : Task) (cells : List Cell) (entries : List (ℤ × ℕ)) (best : Option (List ℕ))
-    (stack : List ℕ) → IsBegun task cells entries best stack []
-    → IsGrown task cells entries best 0
-begun_end task cells entries best stack h = record {
-  boxes = h.boxes;
-  shape = h.shape;
-  are_boxes = h.are_boxes;
-  is_shape = h.is_shape;
-  splits_are = let s = h.splits_are in omega (arith, s);
-  settled = λ k l. settled k h.places h.rest_is (h.settled k l);
-  level = λ none k i m j l e s. absurd (let f = fork_is_there cells k i m h.shape e h.is_shape.stands
-      (omega (arith, h.is_shape.once k l)) in
-      let q = h.splits_are in omega (arith, f, q, none));
-  floors = h.floors;
-  waits = h.waits;
-  best_is = h.best_is;
-}
-  where
-    settled : (k : ℕ) (places : List Place) → nodes_at places ≡ []
-        → IsOneOf k places ⊎ IsSettled task best (box_at h.boxes k) (node_at cells k)
-        → IsSettled task best (box_at h.boxes k) (node_at cells k)
-    settled k places e (inr t) = t
-    settled k [] e (inl o) = absurd o
-    settled k (p ∷ ps) e (inl o) = absurd (nodes_are_some p.tree (nodes_at ps) e)
+no_places : (places : List Place) → nodes_at places ≡ [] → places ≡ []
+no_places [] e = refl
+no_places (p ∷ ps) e = absurd (nodes_are_some p.tree (nodes_at ps) e)
 
--- the next node
-pub begun_at : (task : Task) (cells : List Cell) (entries : List (ℤ × ℕ)) (best : Option (List ℕ))
-    (stack : List ℕ) (nodes : List Node) (n : ℕ) → n < length nodes
-    → IsBegun task cells entries best stack (drop n nodes)
-    → IsBegun task cells entries best stack (get_or nodes n (Split 0 0) ∷ drop (n + 1) nodes)
-begun_at task cells entries best stack nodes n l h =
-    subst (IsBegun task cells entries best stack)
-    (drop-cons nodes n (Split 0 0) l ∙ ap (λ (k : ℕ). get_or nodes n (Split 0 0) ∷ drop k nodes) (sym (add-one n))) h
+module _ (task : Task) (may : ℕ → Type 0) (given : Tree) (cells : List Cell) (waiting aside : List (ℤ × ℕ))
+    (best : Option (List ℕ)) (stack : List ℕ) (seen : ℕ) where
+  begun_end : IsBegun task may given cells waiting aside best stack seen []
+      → IsGrown task may given cells waiting aside best seen 0
+  begun_end h = record {
+    boxes = h.boxes;
+    shape = h.shape;
+    are_boxes = h.are_boxes;
+    is_shape = h.is_shape;
+    splits_are = let s = h.splits_are in omega (arith, s);
+    settled = λ k l. settled k h.places h.rest_is (h.settled k l);
+    level = λ none k i m j l e s. absurd (let f = fork_is_there cells k i m h.shape e h.is_shape.stands
+        (omega (arith, h.is_shape.once k l)) in
+        let q = h.splits_are in omega (arith, f, q, none));
+    floors = h.floors;
+    waits = h.waits;
+    continues = subst (λ (places : List Place). Continues (record {
+      may = may;
+      cells = cells;
+      waiting = waiting;
+      aside = aside;
+      next = seen;
+      places = places;
+    }) 0 given h.shape) (no_places h.places h.rest_is) h.continues;
+    best_is = h.best_is;
+  }
+    where
+      settled : (k : ℕ) (places : List Place) → nodes_at places ≡ []
+          → IsOneOf k places ⊎ IsSettled task best (box_at h.boxes k) (node_at cells k)
+          → IsSettled task best (box_at h.boxes k) (node_at cells k)
+      settled k places e (inr t) = t
+      settled k [] e (inl o) = absurd o
+      settled k (p ∷ ps) e (inl o) = absurd (nodes_are_some p.tree (nodes_at ps) e)
 
--- a number is left as long as a node is to come
-pub some_top : (task : Task) (cells : List Cell) (entries : List (ℤ × ℕ)) (best : Option (List ℕ))
-    (stack : List ℕ) (node : Node) (after : List Node) → IsBegun task cells entries best stack (node ∷ after)
-    → stack ≡ [] → ⊥
-some_top task cells entries best stack node after h e =
-    at h.places (ap reverse (sym e) ∙ h.stack_is) h.rest_is
-  where
-    at : (places : List Place) → [] ≡ map (λ place. place.number) places → nodes_at places ≡ node ∷ after → ⊥
-    at [] f r = some_are_none node after (sym r)
-    at (p ∷ ps) f r = some_are_none p.number (map (λ place. place.number) ps) (sym f)
+  -- the next node
+  pub begun_at : (nodes : List Node) (n : ℕ) → n < length nodes
+      → IsBegun task may given cells waiting aside best stack seen (drop n nodes)
+      → IsBegun task may given cells waiting aside best stack seen (get_or nodes n (Split 0 0) ∷ drop (n + 1) nodes)
+  begun_at nodes n l h =
+      subst (IsBegun task may given cells waiting aside best stack seen)
+      (drop-cons nodes n (Split 0 0) l ∙ ap (λ (k : ℕ). get_or nodes n (Split 0 0) ∷ drop k nodes) (sym (add-one n))) h
 
--- no node is to come, or no number is left
-pub begun_done : (task : Task) (cells : List Cell) (entries : List (ℤ × ℕ)) (best : Option (List ℕ))
-    (stack : List ℕ) (nodes : List Node) (n : ℕ) → IsBegun task cells entries best stack (drop n nodes)
-    → (length nodes ≤ n) ⊎ ((n < length nodes) × (stack ≡ []))
-    → IsGrown task cells entries best 0
-begun_done task cells entries best stack nodes n h (inl l) =
-    begun_end task cells entries best stack
-    (subst (IsBegun task cells entries best stack) (drop_all n nodes l) h)
-begun_done task cells entries best stack nodes n h (inr (l, e)) =
-    let node = get_or nodes n (Split 0 0) in
-    absurd (some_top task cells entries best stack node (drop (n + 1) nodes)
-    (begun_at task cells entries best stack nodes n l h) e)
+  -- a number is left as long as a node is to come
+  some_top : (node : Node) (after : List Node)
+      → IsBegun task may given cells waiting aside best stack seen (node ∷ after) → stack ≡ [] → ⊥
+  some_top node after h e =
+      at h.places (ap reverse (sym e) ∙ h.stack_is) h.rest_is
+    where
+      at : (places : List Place) → [] ≡ map (λ place. place.number) places → nodes_at places ≡ node ∷ after → ⊥
+      at [] f r = some_are_none node after (sym r)
+      at (p ∷ ps) f r = some_are_none p.number (map (λ place. place.number) ps) (sym f)
+
+  -- no node is to come, or no number is left
+  pub begun_done : (nodes : List Node) (n : ℕ)
+      → IsBegun task may given cells waiting aside best stack seen (drop n nodes)
+      → (length nodes ≤ n) ⊎ ((n < length nodes) × (stack ≡ []))
+      → IsGrown task may given cells waiting aside best seen 0
+  begun_done nodes n h (inl l) =
+      begun_end (subst (IsBegun task may given cells waiting aside best stack seen) (drop_all n nodes l) h)
+  begun_done nodes n h (inr (l, e)) =
+      absurd (some_top (get_or nodes n (Split 0 0)) (drop (n + 1) nodes) (begun_at nodes n l h) e)
 
 -- the plan handed in, as it is kept
 pub given_feasible : (inst : Tables) (incumbent : Option (Bor (List ℕ))) (best : Option (List ℕ))

@@ -1,6 +1,7 @@
 -- What the last state of a search shows: the statement.
 use Rattle.std.proofs.Common.{◌≡◌, ℕ, ◌+◌, ◌<◌, ◌≤◌, inl, inr, refl, sym, ◌∙◌, ap, subst, arith, ℤ, ◌≤ℤ◌, ◌<ℤ◌}
-use Rattle.std.proofs.Common.{List, length, map, All, Contains, Option, Some, None, IfSome, IfNone, IsTrue, is_some}
+use Rattle.std.proofs.Common.{List, ◌++◌, length, map, All, Contains, Option, Some, None, IfSome, IfNone, IsTrue}
+use Rattle.std.proofs.Common.{is_some}
 use Rattle.std.proofs.Common.{Bool}
 use Rattle.std.specs.Prelude.{Any}
 use Rattle.std.specs.Bool.{OnFalse}
@@ -17,8 +18,9 @@ use Rattle.certificate_tree.specs.declared.node.Node.{Node}
 use Rattle.certificate_tree.specs.declared.node.Node.TheVariants.{Split, Cost, Point, Band, Excl, Empty}
 use Rattle.certificate_tree.specs.Trees.{Leaf, leaves, root_box}
 use Rattle.certificate_tree.specs.Holding.{IsAtLeast, LeafHolds, first_starts}
-use Rattle.certificate_tree.specs.Ranges.{IsLeafInRange, IsTreeInRange}
+use Rattle.certificate_tree.specs.Ranges.{AreNodesOf, IsLeafInRange, IsTreeInRange}
 use Rattle.certificate_tree.specs.Validity.{IsProved}
+use Rattle.branch_search.specs.declared.part.Part.{Part}
 use Rattle.branch_search.specs.declared.best.Best.{Best}
 use Rattle.branch_search.specs.declared.tree.growth.Growth.{Growth}
 use Rattle.branch_search.specs.declared.search_end.SearchEnd.{SearchEnd}
@@ -75,18 +77,18 @@ value_reaches value inst (Some b) (Some z) entries v some valued h = at_most_tra
 value_reaches value inst (Some b) None entries v some valued h = subst (λ (x : ℤ). x ≤ℤ v) (sym valued.is) h
 
 -- where nothing is left, a worth that waits isn't short
-none_short : (value : PlanValue) (inst : Tables) (best : Option Best) (entries : List (ℤ × ℕ)) (w : ℤ) (k : ℕ)
+pub none_short : (value : PlanValue) (inst : Tables) (best : Option Best) (entries : List (ℤ × ℕ)) (w : ℤ) (k : ℕ)
     → NoneIsLeft best entries → IsValued value inst best → Contains entries (w, k)
     → IsShort value inst (plan_in best) w → ⊥
 none_short value inst best entries w k none valued c h =
     All-contains (λ (e : ℤ × ℕ). ¬ IsBelow best e.0) entries (w, k) none c (short_below value inst best w valued h)
 
 -- ---- the last state
-module _ (task : Task) (growth : Growth) (g : IsGrowth task growth) (left : Option ℤ)
-    (some : IfSome left (IsLeftWorth growth.best growth.waiting))
-    (none : IfNone left (NoneIsLeft growth.best growth.waiting)) where
+module _ (task : Task) (part : Part) (growth : Growth) (g : IsGrowth task part growth) (left : Option ℤ)
+    (some : IfSome left (IsLeftWorth growth.best (growth.waiting ++ g.aside)))
+    (none : IfNone left (NoneIsLeft growth.best (growth.waiting ++ g.aside))) where
   waits : (k j : ℕ) → k < length growth.cells.items → node_at growth.cells.items k ≡ Cost j
-      → Contains growth.waiting (task.worths (box_at g.state.boxes k) j, k)
+      → Contains (growth.waiting ++ g.aside) (task.worths (box_at g.state.boxes k) j, k)
   waits = g.state.waits.complete
 
   -- a leaf holds, for the bound
@@ -96,12 +98,13 @@ module _ (task : Task) (growth : Growth) (g : IsGrowth task growth) (left : Opti
   holds_at k (Split i m) l e leaf h = absurd leaf
   holds_at k (Cost j) l e leaf h = record {
     starts = h.unrefuted.starts;
-    worth = cost_reaches growth.best left growth.waiting (task.worths (box_at g.state.boxes k) j) k some none
+    worth = cost_reaches growth.best left (growth.waiting ++ g.aside) (task.worths (box_at g.state.boxes k) j) k some
+        none
         (waits k j l e);
   }
   holds_at k Point l e leaf h = record {
     single = h.0;
-    bounded = λ f. value_reaches task.value task.inst growth.best left growth.waiting
+    bounded = λ f. value_reaches task.value task.inst growth.best left (growth.waiting ++ g.aside)
         (task.value task.inst (first_starts (box_at g.state.boxes k))) some g.valued (h.1 f);
   }
   holds_at k (Band c t s) l e leaf h = h.1
@@ -127,7 +130,7 @@ module _ (task : Task) (growth : Growth) (g : IsGrowth task growth) (left : Opti
   range_at best box (Empty i) leaf h = h.0
 
   -- the tree stands over the box of all starts
-  root_is : box_at g.state.boxes (top g.state.shape) ≡ root_box task.inst
+  pub root_is : box_at g.state.boxes (top g.state.shape) ≡ root_box task.inst
   root_is = ap (box_at g.state.boxes) g.state.is_shape.root ∙ g.state.are_boxes.root
 
   each : (P : Leaf → Type 0)
@@ -149,39 +152,52 @@ module _ (task : Task) (growth : Growth) (g : IsGrowth task growth) (left : Opti
 
   -- a `cost` leaf is one that waits
   each_cost : All (λ leaf. (j : ℕ) → leaf.node ≡ Cost j
-      → (k : ℕ) × Contains growth.waiting (task.worths leaf.box j, k))
+      → (k : ℕ) × Contains (growth.waiting ++ g.aside) (task.worths leaf.box j, k))
       (leaves (root_box task.inst) (tree_of growth.cells.items g.state.shape))
   each_cost = each (λ leaf. (j : ℕ) → leaf.node ≡ Cost j
-      → (k : ℕ) × Contains growth.waiting (task.worths leaf.box j, k))
+      → (k : ℕ) × Contains (growth.waiting ++ g.aside) (task.worths leaf.box j, k))
       (λ k l leaf j e. (k, waits k j l e))
 
   among_reaches : (y : ℤ) → IsAmong task.value task.inst task.worths (plan_in growth.best)
       (leaves (root_box task.inst) (tree_of growth.cells.items g.state.shape)) y → IsAtLeast (bound_with left
       growth.best) y
-  among_reaches y (inl (plan, e, v)) = value_reaches task.value task.inst growth.best left growth.waiting y some
+  among_reaches y (inl (plan, e, v)) = value_reaches task.value task.inst growth.best left (growth.waiting ++ g.aside)
+      y some
       g.valued
       (subst (λ (o : Option (List ℕ)). IsReached task.value task.inst o y) (sym e)
       (subst (λ (x : ℤ). task.value task.inst plan ≤ℤ x) v (omega (arith, signed_arith))))
   among_reaches y (inr (k, leaf, l, e, w)) =
       let c = subst (λ (x : Leaf). (j : ℕ) → x.node ≡ Cost j
-      → (k : ℕ) × Contains growth.waiting (task.worths x.box j, k)) e
+      → (k : ℕ) × Contains (growth.waiting ++ g.aside) (task.worths x.box j, k)) e
       (each_cost k leaf l) w.list w.node in
       subst (IsAtLeast (bound_with left growth.best)) w.worth
-      (cost_reaches growth.best left growth.waiting (task.worths leaf.box w.list) c.0
+      (cost_reaches growth.best left (growth.waiting ++ g.aside) (task.worths leaf.box w.list) c.0
       some none c.1)
 
   -- the leaf that is left
-  left_leaf : (z : ℤ) → IsLeftWorth growth.best growth.waiting z → (P : Leaf → Type 0)
+  left_leaf : (z : ℤ) → IsLeftWorth growth.best (growth.waiting ++ g.aside) z → (P : Leaf → Type 0)
       → ((k j : ℕ) → k < length growth.cells.items → node_at growth.cells.items k ≡ Cost j
       → z ≡ task.worths (box_at g.state.boxes k) j
       → P (record { box = box_at g.state.boxes k; node = node_at growth.cells.items k }))
       → Any P (leaves (root_box task.inst) (tree_of growth.cells.items g.state.shape))
   left_leaf z w P h =
-      let s = All-contains (λ (e : ℤ × ℕ). IsEntry task growth.cells.items g.state.boxes e) growth.waiting
+      let s = All-contains (λ (e : ℤ × ℕ). IsEntry task growth.cells.items g.state.boxes e) (growth.waiting ++ g.aside)
       (z, w.number) g.state.waits.sound w.member in
       one_of P w.number s.list s.within s.node (h w.number s.list s.within s.node s.worth)
 
-  few_of : length (split_boxes (root_box task.inst) (tree_of growth.cells.items g.state.shape))
+  -- its nodes
+  pub of_tree : AreNodesOf task.inst task.lists (root_box task.inst) (tree_of growth.cells.items g.state.shape)
+      (map (node_at growth.cells.items) (numbers g.state.shape))
+  of_tree = record {
+    order = order_is growth.cells.items g.state.shape g.state.is_shape.stands;
+    in_range = subst
+        (λ (b : List Span). IsTreeInRange task.inst task.lists b (tree_of growth.cells.items g.state.shape)) root_is
+        (in_range task.inst growth.cells.items g.state.boxes g.state.are_boxes task.lists
+        (λ k l leaf. range_at (plan_in growth.best) (box_at g.state.boxes k) (node_at growth.cells.items k) leaf
+        (g.state.settled k l)) g.state.shape g.state.is_shape.stands g.state.is_shape.within);
+  }
+
+  pub few_of : length (split_boxes (root_box task.inst) (tree_of growth.cells.items g.state.shape))
       ≡ splits_before task + growth.splits
   few_of = splits_are growth.cells.items (root_box task.inst) g.state.shape ∙ g.state.splits_are
 
@@ -256,13 +272,13 @@ none_is_floor task growth boxes left h some = at growth.best left h.under_best s
 abbrev answer_of : Bound → List Node → Option (List ℕ) → Bool → SearchEnd
 answer_of b n p u = record { bound = b; nodes = n; best = p; unfinished = u }
 
-module _ (task : Task) (growth : Growth) (g : IsGrowth task growth) (left : Option ℤ)
-    (some : IfSome left (IsLeftWorth growth.best growth.waiting))
-    (none : IfNone left (NoneIsLeft growth.best growth.waiting)) where
-  left_floor : (bound : Bound) (z : ℤ) → IsLeftWorth growth.best growth.waiting z
+module _ (task : Task) (part : Part) (growth : Growth) (g : IsGrowth task part growth) (left : Option ℤ)
+    (some : IfSome left (IsLeftWorth growth.best (growth.waiting ++ g.aside)))
+    (none : IfNone left (NoneIsLeft growth.best (growth.waiting ++ g.aside))) where
+  left_floor : (bound : Bound) (z : ℤ) → IsLeftWorth growth.best (growth.waiting ++ g.aside) z
       → IsFloor task growth.cells.items g.state.boxes (plan_in growth.best) bound → IsAtLeast bound z
   left_floor bound z w h =
-      let s = All-contains (λ (e : ℤ × ℕ). IsEntry task growth.cells.items g.state.boxes e) growth.waiting
+      let s = All-contains (λ (e : ℤ × ℕ). IsEntry task growth.cells.items g.state.boxes e) (growth.waiting ++ g.aside)
       (z, w.number) g.state.waits.sound w.member in
       subst (IsAtLeast bound) (sym s.worth) (h.under_costs w.number s.list s.within s.node)
 
@@ -272,61 +288,53 @@ module _ (task : Task) (growth : Growth) (g : IsGrowth task growth) (left : Opti
   no_lower b h =
       let floor = g.state.floors (Least b) h in
       reaches_floor task growth g.state.boxes left b g.valued floor
-      (λ z e. left_floor (Least b) z (left_of left (IsLeftWorth growth.best growth.waiting) z e some) floor)
+      (λ z e. left_floor (Least b) z (left_of left (IsLeftWorth growth.best (growth.waiting ++ g.aside)) z e some)
+      floor)
 
   pub no_plan : IsProved task.value task.inst (given_claim task NoPlan) → bound_with left growth.best ≡ NoPlan
   no_plan h =
       let floor = g.state.floors NoPlan h in
       none_is_floor task growth g.state.boxes left floor
-      (λ z e. left_floor NoPlan z (left_of left (IsLeftWorth growth.best growth.waiting) z e some) floor)
+      (λ z e. left_floor NoPlan z (left_of left (IsLeftWorth growth.best (growth.waiting ++ g.aside)) z e some) floor)
 
   module _ (turns : ℕ) (few : growth.splits ≤ turns)
-      (spent : (z : ℤ) → IsLeftWorth growth.best growth.waiting z → growth.splits ≡ turns) where
+      (spent : (z : ℤ) → IsLeftWorth growth.best (growth.waiting ++ g.aside) z → growth.splits ≡ turns) where
     searched_of : IsSearchedBy task.value task.inst task.lists task.worths task.incumbent (splits_before task) turns
         (answer_of (bound_with left growth.best) (map (node_at growth.cells.items) (numbers g.state.shape))
         (plan_in growth.best) (is_some left))
     searched_of = record {
       tree = tree_of growth.cells.items g.state.shape;
-      of_nodes = record {
-        order = order_is growth.cells.items g.state.shape g.state.is_shape.stands;
-        in_range = subst
-            (λ (b : List Span). IsTreeInRange task.inst task.lists b (tree_of growth.cells.items g.state.shape))
-            (root_is task growth g left some none)
-            (in_range task.inst growth.cells.items g.state.boxes g.state.are_boxes task.lists
-            (λ k l leaf. range_at task growth g left some none (plan_in growth.best) (box_at g.state.boxes k)
-            (node_at growth.cells.items k) leaf (g.state.settled k l))
-            g.state.shape g.state.is_shape.stands g.state.is_shape.within);
-      };
-      holds = each task growth g left some none
+      of_nodes = of_tree task part growth g left some none;
+      holds = each task part growth g left some none
           (λ leaf. LeafHolds task.value task.inst (bound_with left growth.best) task.worths leaf.box leaf.node)
-          (λ k l leaf. holds_at task growth g left some none k (node_at growth.cells.items k) l refl leaf
+          (λ k l leaf. holds_at task part growth g left some none k (node_at growth.cells.items k) l refl leaf
           (g.state.settled k l));
-      stay = omega (arith, few_of task growth g left some none);
-      few = omega (arith, few, few_of task growth g left some none);
+      stay = omega (arith, few_of task part growth g left some none);
+      few = omega (arith, few, few_of task part growth g left some none);
       splits = λ first. subst
           (λ (b : List Span). All (IsSplitBox task.value task.inst task.lists task.worths task.incumbent
           (bound_with left growth.best)) (split_boxes b (tree_of growth.cells.items g.state.shape)))
-          (root_is task growth g left some none)
+          (root_is task part growth g left some none)
           (each_split task.inst growth.cells.items g.state.boxes g.state.are_boxes
           (IsSplitBox task.value task.inst task.lists task.worths task.incumbent (bound_with left growth.best))
           (λ k i m l e. split_box first k i m l e) g.state.shape g.state.is_shape.stands g.state.is_shape.within);
-      bounding = each task growth g left some none
+      bounding = each task part growth g left some none
           (λ leaf. IsBounding task.value task.inst task.lists task.worths (plan_in growth.best) leaf.box leaf.node)
-          (λ k l leaf. bounding_at task growth g left some none (box_at g.state.boxes k)
+          (λ k l leaf. bounding_at task part growth g left some none (box_at g.state.boxes k)
           (node_at growth.cells.items k) (g.state.settled k l));
       best = g.state.best_is;
       bound = least_of task growth.best left (leaves (root_box task.inst) (tree_of growth.cells.items g.state.shape))
           g.valued
-          (λ z e. left_leaf task growth g left some none z
-          (left_of left (IsLeftWorth growth.best growth.waiting) z e some)
+          (λ z e. left_leaf task part growth g left some none z
+          (left_of left (IsLeftWorth growth.best (growth.waiting ++ g.aside)) z e some)
           (IsCostOf task.worths z)
           (λ k j l f s. record { list = j; node = f; worth = sym s }))
-          (among_reaches task growth g left some none);
+          (among_reaches task part growth g left some none);
       unfinished = (
         λ t. spent_of left (Any (IsUnfinishedLeaf task.value task.inst task.worths (plan_in growth.best))
             (leaves (root_box task.inst) (tree_of growth.cells.items g.state.shape))) (λ z e.
-            let w = left_of left (IsLeftWorth growth.best growth.waiting) z e some in
-            left_leaf task growth g left some none z w
+            let w = left_of left (IsLeftWorth growth.best (growth.waiting ++ g.aside)) z e some in
+            left_leaf task part growth g left some none z w
             (IsUnfinishedLeaf task.value task.inst task.worths (plan_in growth.best))
             (λ k j l f s. record {
               list = j;
@@ -338,13 +346,13 @@ module _ (task : Task) (growth : Growth) (g : IsGrowth task growth) (left : Opti
             })) t,
         unfinished_of left (Any (IsUnfinishedLeaf task.value task.inst task.worths (plan_in growth.best))
             (leaves (root_box task.inst) (tree_of growth.cells.items g.state.shape))) (NoneIsLeft growth.best
-            growth.waiting) none
+            (growth.waiting ++ g.aside)) none
             (λ q u. none_unfinished q u),
       );
       spent = spent_of left (length (split_boxes (root_box task.inst) (tree_of growth.cells.items g.state.shape))
           ≡ splits_before task + turns)
-          (λ z e. few_of task growth g left some none ∙ ap (λ (n : ℕ). splits_before task + n)
-          (spent z (left_of left (IsLeftWorth growth.best growth.waiting) z e some)));
+          (λ z e. few_of task part growth g left some none ∙ ap (λ (n : ℕ). splits_before task + n)
+          (spent z (left_of left (IsLeftWorth growth.best (growth.waiting ++ g.aside)) z e some)));
       finished = finished_of task.value task.inst growth.best left g.valued;
     }
       where
@@ -361,17 +369,19 @@ module _ (task : Task) (growth : Growth) (g : IsGrowth task growth) (left : Opti
                   let floor = g.state.level first k i m j l e s in
                   split_at_most task growth.best left (task.worths (box_at g.state.boxes k) j) b g.valued
                   (λ z q. left_floor (Least (task.worths (box_at g.state.boxes k) j)) z
-                  (left_of left (IsLeftWorth growth.best growth.waiting) z q some) floor) floor.under_best f;
+                  (left_of left (IsLeftWorth growth.best (growth.waiting ++ g.aside)) z q some) floor)
+                  floor.under_best f;
             }
 
-        none_unfinished : NoneIsLeft growth.best growth.waiting
+        none_unfinished : NoneIsLeft growth.best (growth.waiting ++ g.aside)
             → Any (IsUnfinishedLeaf task.value task.inst task.worths (plan_in growth.best))
             (leaves (root_box task.inst) (tree_of growth.cells.items g.state.shape)) → ⊥
         none_unfinished q (k, leaf, l, e, u) =
             let c = subst (λ (x : Leaf). (j : ℕ) → x.node ≡ Cost j
-            → (k : ℕ) × Contains growth.waiting (task.worths x.box j, k)) e
-            (each_cost task growth g left some none k leaf l) u.list u.node in
-            none_short task.value task.inst growth.best growth.waiting (task.worths leaf.box u.list) c.0 q g.valued c.1
+            → (k : ℕ) × Contains (growth.waiting ++ g.aside) (task.worths x.box j, k)) e
+            (each_cost task part growth g left some none k leaf l) u.list u.node in
+            none_short task.value task.inst growth.best (growth.waiting ++ g.aside) (task.worths leaf.box u.list) c.0 q
+            g.valued c.1
             u.short
 
     pub searched : (answer : SearchEnd) → answer.bound ≡ bound_with left growth.best

@@ -1,9 +1,11 @@
 -- The entries of what waits, once the first one is split.
 use Rattle.std.proofs.Common.{◌≡◌, ℕ, zero, suc, ◌+◌, ◌<◌, ◌≤◌, ◌⊎◌, inl, inr, refl, sym, ◌∙◌, ap, subst, arith, ℤ, ◌^◌}
-use Rattle.std.proofs.Common.{List, [], ◌∷◌, length, get_or, All, Contains, Bool, true, false, cond, eqb, Option, Some}
+use Rattle.std.proofs.Common.{List, [], ◌∷◌, ◌++◌, length, get_or, All, Contains, Bool, true, false, cond, eqb, Option}
+use Rattle.std.proofs.Common.{Some}
 use Rattle.std.proofs.Common.{None, IfSome, unsigned_abs}
 use Rattle.std.specs.Prelude.{IsPermutation}
 use Rattle.std.proofs.lemmas.Bool.{eq-eqb, ne_eqb, cases_lt, cases_eq}
+use Rattle.std.proofs.lemmas.List.{length-append, get_or_append_left, get_or-append-add}
 use Rattle.std.proofs.lemmas.List.Elements.{All-nil, All-cons, All-head, All-tail}
 use Rattle.std.proofs.lemmas.List.Sums.{sum_by-cons}
 use Rattle.std.proofs.lemmas.List.Sorted.{IsPermutation-sym, All-permutation, Contains-permutation}
@@ -21,6 +23,15 @@ use Rattle.branch_search.specs.States.{IsEntry, entries_of, AreEntries}
 use Rattle.branch_search.proofs.CellLemmas.{length_split, at_split, at_other, at_left, at_right, box_before, box_left}
 use Rattle.branch_search.proofs.CellLemmas.{box_right, cost_is_no_split, Where, where_is}
 use Rattle.branch_search.proofs.LeafLemmas.{none_is_not_some, some_is}
+
+-- ---- two lists
+pub all_front : {A : Type 0} (P : A → Type 0) (xs ys : List A) → All P (xs ++ ys) → All P xs
+all_front P xs ys h k d l =
+    subst P (get_or_append_left xs ys d k l) (h k d (omega (arith, l, length-append xs ys)))
+
+pub all_back : {A : Type 0} (P : A → Type 0) (xs ys : List A) → All P (xs ++ ys) → All P ys
+all_back P xs ys h k d l =
+    subst P (get_or-append-add xs ys k d) (h (length xs + k) d (omega (arith, l, length-append xs ys)))
 
 -- ---- counting
 abbrev one_if : Bool → ℕ

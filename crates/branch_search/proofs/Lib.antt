@@ -5,11 +5,15 @@ pub mod TreeLemmas
 pub mod WorthLemmas
 pub mod LeafLemmas
 pub mod EntryLemmas
+pub mod AsideLemmas
+pub mod PartLemmas
 pub mod StepLemmas
 pub mod ChangeLemmas
 pub mod BegunLemmas
 pub mod EndLemmas
+pub mod GoneLemmas
 pub mod SameLemmas
+pub mod SamePartLemmas
 pub mod FloorLemmas
 pub mod ClimbLemmas
 pub mod ListLemmas

@@ -64,7 +64,7 @@ same_bounding value inst lists worths others best box (Excl e) same b h = h
 same_bounding value inst lists worths others best box (Empty i) same b h = h
 
 -- the worth by the list that a `cost` leaf names
-same_named : (value : PlanValue) (inst : Tables) (lists : ℕ) (worths others : Worths) (best : Option (List ℕ))
+pub same_named : (value : PlanValue) (inst : Tables) (lists : ℕ) (worths others : Worths) (best : Option (List ℕ))
     (x : Leaf) (j : ℕ) → AreSameWorths inst lists worths others → IsBox inst x.box
     → IsBounding value inst lists worths best x.box x.node → x.node ≡ Cost j → worths x.box j ≡ others x.box j
 same_named value inst lists worths others best x j same b h e =

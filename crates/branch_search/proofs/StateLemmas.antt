@@ -1,14 +1,12 @@
 -- The state of a search as it is kept: what its calls need, and what a step leaves.
-use Rattle.std.proofs.Common.{◌≡◌, ℕ, ◌+◌, ◌-◌, ◌<◌, ◌≤◌, ◌⊎◌, inl, inr, refl, sym, ◌∙◌, ap, subst, arith, ℤ}
+use Rattle.std.proofs.Common.{◌≡◌, ℕ, ◌+◌, ◌-◌, ◌<◌, ◌≤◌, refl, sym, ◌∙◌, ap, subst, arith, ℤ}
 use Rattle.std.proofs.Common.{◌≤ℤ◌, ◌<ℤ◌, List, [], ◌∷◌, length, get_or, All, Contains, IfSome, Option, Some, None}
-use Rattle.std.proofs.Common.{true, false}
+use Rattle.std.proofs.Common.{◌^◌, unsigned_abs}
 use Rattle.std.specs.Prelude.{IsPermutation}
-use Rattle.std.proofs.lemmas.Bool.{cases_Bool}
 use Rattle.std.proofs.lemmas.List.Elements.{All-contains, All-nil, All-cons}
 use Rattle.std.proofs.lemmas.List.Sorted.{Contains-permutation}
 use Rattle.fixed_num.proofs.SignedLemmas.{signed_arith}
-use Rattle.instance_model.specs.Naturals.{count_product}
-use Rattle.instance_model.specs.Tables.{Tables, tmax}
+use Rattle.instance_model.specs.Tables.{Tables}
 use Rattle.instance_model.specs.Fitting.{IsFitting}
 use Rattle.lagrange_bound.specs.declared.span.Span.{Span}
 use Rattle.lagrange_bound.specs.Prices.{PriceList, IsPriceList}
@@ -19,9 +17,10 @@ use Rattle.certificate_lines.specs.declared.line.Version.{Version}
 use Rattle.certificate_lines.specs.declared.line.Version.TheVariants.{Two}
 use Rattle.certificate_tree.specs.Trees.{IsSplit}
 use Rattle.certificate_tree.specs.Ranges.{HasPricesOf, IsBoundInRange, IsInRange}
-use Rattle.certificate_tree.specs.Holding.{Worths, worth_by, IsSingle}
+use Rattle.certificate_tree.specs.Holding.{worth_by, IsSingle}
 use Rattle.certificate_tree.specs.Validity.{BoundBoxes}
 use Rattle.certificate_tree.specs.PriceTables.{table_worths, AreTables}
+use Rattle.branch_search.specs.declared.part.Part.{Part}
 use Rattle.branch_search.specs.declared.best.Best.{Best}
 use Rattle.branch_search.specs.declared.tree.cell.Cell.{Cell}
 use Rattle.branch_search.specs.declared.tree.growth.Growth.{Growth}
@@ -30,38 +29,40 @@ use Rattle.branch_search.specs.declared.search_end.SearchEnd.{SearchEnd}
 use Rattle.branch_search.specs.declared.tree_end.TreeEnd.{TreeEnd}
 use Rattle.branch_search.specs.Best.{IsShort}
 use Rattle.branch_search.specs.Searched.{lists_of, IsSearchedBy, IsSearched}
-use Rattle.branch_search.specs.Tasks.{Task, splits_before, freed}
+use Rattle.branch_search.specs.Tasks.{Task, freed}
 use Rattle.branch_search.specs.Boxes.{IsUnrefuted}
 use Rattle.branch_search.specs.CurrentBoxes.{IsCurrentBox}
 use Rattle.branch_search.specs.Growing.{box_at, node_at, split_cells, AreBoxesOf}
 use Rattle.branch_search.specs.Settled.{ArePartsOf}
 use Rattle.branch_search.specs.Valued.{plan_in, IsSmallValue, IsBelow, IsValued}
 use Rattle.branch_search.specs.Entries.{with_entry}
-use Rattle.branch_search.specs.States.{IsEntry, IsGrown, IsGrowth, IsLeftWorth, IsKept, IsAnswerOf}
+use Rattle.branch_search.specs.Parts.{IsOfPart}
+use Rattle.branch_search.specs.Aside.{IsLeastWorth}
+use Rattle.branch_search.specs.States.{IsEntry, IsGrown, IsGrowth, IsLeftWorth, IsKept}
 use Rattle.branch_search.proofs.WorthLemmas.{GrowInParts}
-use Rattle.branch_search.proofs.LeafLemmas.{at_most_below, below_is_at_most}
-use Rattle.branch_search.proofs.EntryLemmas.{popped}
+use Rattle.branch_search.proofs.LeafLemmas.{below_is_at_most}
+use Rattle.branch_search.proofs.EntryLemmas.{all_front, all_back, popped}
+use Rattle.branch_search.proofs.AsideLemmas.{least_small, below_less}
 use Rattle.branch_search.proofs.StepLemmas.{waits_at, grown_more}
-use Rattle.branch_search.proofs.EndLemmas.{below_short, searched}
+use Rattle.branch_search.proofs.EndLemmas.{below_short}
 use Rattle.branch_search.proofs.SameLemmas.{searched_same}
-use Rattle.branch_search.proofs.VolumeLemmas.{too_few}
 
 -- ---- sizes
 small_value : (value : PlanValue) (inst : Tables) (best : Option Best) → IsValued value inst best → IsSmallValue best
 small_value value inst None v = tt
 small_value value inst (Some best) v = v.small
 
-pub kept_of : (task : Task) (growth : Growth) → IsGrowth task growth → IsKept growth
-kept_of task growth g = record {
+pub kept_of : (task : Task) (part : Part) (growth : Growth) → IsGrowth task part growth → IsKept growth
+kept_of task part growth g = record {
   value = small_value task.value task.inst growth.best g.valued;
-  worths = λ k d l. (g.state.waits.sound k d l).small;
+  worths = all_front (λ (e : ℤ × ℕ). unsigned_abs e.0 < 10 ^ 37) growth.waiting g.aside
+      (λ k d l. (g.state.waits.sound k d l).small);
+  aside = least_small growth.aside g.aside g.least
+      (all_back (λ (e : ℤ × ℕ). unsigned_abs e.0 < 10 ^ 37) growth.waiting g.aside
+      (λ k d l. (g.state.waits.sound k d l).small));
 }
 
 -- ---- the entry that is taken out
-below_less : (best : Option Best) (y z : ℤ) → y ≤ℤ z → IsBelow best z → IsBelow best y
-below_less None y z l h = tt
-below_less (Some best) y z l h = at_most_below y z best.value l h
-
 popped_least : (entries rest : List (ℤ × ℕ)) (y z : ℤ) (n k : ℕ) → IsPermutation entries ((y, n) ∷ rest)
     → All (λ o. y ≤ℤ o.0) rest → Contains entries (z, k) → y ≤ℤ z
 popped_least entries rest y z n k p l c = All-contains (λ (o : ℤ × ℕ). y ≤ℤ o.0) ((y, n) ∷ rest) (z, k)
@@ -74,35 +75,42 @@ popped_short : (value : PlanValue) (inst : Tables) (best : Option Best) (entries
 popped_short value inst best entries rest y z n v w p l = below_short value inst best y v
     (below_less best y z (popped_least entries rest y z n w.number p l w.member) w.below)
 
-popped_entry : (task : Task) (growth : Growth) (g : IsGrowth task growth) (rest : List (ℤ × ℕ)) (y : ℤ) (n : ℕ)
+popped_entry : (task : Task) (part : Part) (growth : Growth) (g : IsGrowth task part growth) (rest : List (ℤ × ℕ))
+    (y : ℤ) (n : ℕ)
     → IsPermutation growth.waiting ((y, n) ∷ rest) → IsEntry task growth.cells.items g.state.boxes (y, n)
-popped_entry task growth g rest y n p = All-contains (IsEntry task growth.cells.items g.state.boxes) growth.waiting
-    (y, n) g.state.waits.sound (popped growth.waiting rest (y, n) p)
+popped_entry task part growth g rest y n p = All-contains (IsEntry task growth.cells.items g.state.boxes)
+    growth.waiting (y, n)
+    (all_front (IsEntry task growth.cells.items g.state.boxes) growth.waiting g.aside g.state.waits.sound)
+    (popped growth.waiting rest (y, n) p)
 
-pub popped_known : (task : Task) (growth : Growth) (rest : List (ℤ × ℕ)) (y : ℤ) (n : ℕ) → IsGrowth task growth
+pub popped_known : (task : Task) (part : Part) (growth : Growth) (rest : List (ℤ × ℕ)) (y : ℤ) (n : ℕ)
+    → IsGrowth task part growth
     → IsPermutation growth.waiting ((y, n) ∷ rest) → n < length growth.cells.items
-popped_known task growth rest y n g p = (popped_entry task growth g rest y n p).within
+popped_known task part growth rest y n g p = (popped_entry task part growth g rest y n p).within
 
-pub popped_box : (task : Task) (growth : Growth) (g : IsGrowth task growth) (rest : List (ℤ × ℕ)) (y : ℤ) (n : ℕ)
+pub popped_box : (task : Task) (part : Part) (growth : Growth) (g : IsGrowth task part growth) (rest : List (ℤ × ℕ))
+    (y : ℤ) (n : ℕ)
     (spans : List Span) → IsPermutation growth.waiting ((y, n) ∷ rest) → spans ≡ box_at g.state.boxes n
     → IsBox task.inst spans
-popped_box task growth g rest y n spans p e = subst (IsBox task.inst) (sym e)
-    (g.state.are_boxes.boxed n (popped_entry task growth g rest y n p).within)
+popped_box task part growth g rest y n spans p e = subst (IsBox task.inst) (sym e)
+    (g.state.are_boxes.boxed n (popped_entry task part growth g rest y n p).within)
 
-pub popped_several : (task : Task) (growth : Growth) (g : IsGrowth task growth) (rest : List (ℤ × ℕ)) (y : ℤ) (n : ℕ)
+pub popped_several : (task : Task) (part : Part) (growth : Growth) (g : IsGrowth task part growth)
+    (rest : List (ℤ × ℕ)) (y : ℤ) (n : ℕ)
     (spans : List Span) → IsPermutation growth.waiting ((y, n) ∷ rest) → spans ≡ box_at g.state.boxes n
     → IsSingle spans → ⊥
-popped_several task growth g rest y n spans p e s =
-    let x = popped_entry task growth g rest y n p in
+popped_several task part growth g rest y n spans p e s =
+    let x = popped_entry task part growth g rest y n p in
     (waits_at task (plan_in growth.best) (box_at g.state.boxes n)
     (node_at growth.cells.items n) x.list x.node (g.state.settled n x.within)).several
     (subst IsSingle e s)
 
-pub popped_unrefuted : (task : Task) (growth : Growth) (g : IsGrowth task growth) (rest : List (ℤ × ℕ)) (y : ℤ) (n : ℕ)
+pub popped_unrefuted : (task : Task) (part : Part) (growth : Growth) (g : IsGrowth task part growth)
+    (rest : List (ℤ × ℕ)) (y : ℤ) (n : ℕ)
     (spans : List Span) → IsPermutation growth.waiting ((y, n) ∷ rest) → spans ≡ box_at g.state.boxes n
     → IsUnrefuted task.inst spans
-popped_unrefuted task growth g rest y n spans p e =
-    let x = popped_entry task growth g rest y n p in
+popped_unrefuted task part growth g rest y n spans p e =
+    let x = popped_entry task part growth g rest y n p in
     subst (IsUnrefuted task.inst) (sym e) (waits_at task (plan_in growth.best) (box_at g.state.boxes n)
     (node_at growth.cells.items n) x.list x.node (g.state.settled n x.within)).unrefuted
 
@@ -114,20 +122,21 @@ pub record IsPopped (inst : Tables) (boxes : List (List Span)) (count n : ℕ) (
   pub unrefuted : IsUnrefuted inst spans
   pub several : ¬ IsSingle spans
 
-pub popped_made : (task : Task) (growth : Growth) (g : IsGrowth task growth) (rest : List (ℤ × ℕ)) (y : ℤ) (n : ℕ)
+pub popped_made : (task : Task) (part : Part) (growth : Growth) (g : IsGrowth task part growth) (rest : List (ℤ × ℕ))
+    (y : ℤ) (n : ℕ)
     (cells : List Cell) (spans : List Span) → IsPermutation growth.waiting ((y, n) ∷ rest)
     → cells ≡ growth.cells.items
     → ((boxes : List (List Span)) → AreBoxesOf task.inst cells boxes → spans ≡ box_at boxes n)
     → IsPopped task.inst g.state.boxes (length growth.cells.items) n spans
-popped_made task growth g rest y n cells spans p e made =
+popped_made task part growth g rest y n cells spans p e made =
     let is = made g.state.boxes (subst (λ (c : List Cell). AreBoxesOf task.inst c g.state.boxes) (sym e)
     g.state.are_boxes) in
     record {
-      known = popped_known task growth rest y n g p;
+      known = popped_known task part growth rest y n g p;
       box_is = is;
-      box = popped_box task growth g rest y n spans p is;
-      unrefuted = popped_unrefuted task growth g rest y n spans p is;
-      several = popped_several task growth g rest y n spans p is;
+      box = popped_box task part growth g rest y n spans p is;
+      unrefuted = popped_unrefuted task part growth g rest y n spans p is;
+      several = popped_several task part growth g rest y n spans p is;
     }
 
 -- a plan whose value is below that of the best one is better
@@ -140,56 +149,43 @@ better_than value inst best z starts plan e v b is other f =
     (subst (λ (x : ℤ). x <ℤ value inst other) (is ∙ ap (value inst) e) s)
 
 -- ---- a step
-pub step_kept : (task : Task) (old new : Growth) (n i m c1 c2 : ℕ) (left right : Settled) (y z : ℤ)
+pub step_kept : (task : Task) (part : Part) (old new : Growth) (n i m c1 c2 : ℕ) (left right : Settled) (y z : ℤ)
     (rest mid : List (ℤ × ℕ)) (spans : List Span)
     → BoundBoxes task.value task.inst task.lists task.worths → GrowInParts task.inst task.lists task.worths
-    → (g : IsGrowth task old) → IsLeftWorth old.best old.waiting z → IsPermutation old.waiting ((y, n) ∷ rest)
+    → (g : IsGrowth task part old) → IsLeftWorth old.best old.waiting z → IsPermutation old.waiting ((y, n) ∷ rest)
     → All (λ o. y ≤ℤ o.0) rest → spans ≡ box_at g.state.boxes n → IsSplit spans i m
     → ArePartsOf (freed task) spans i m (plan_in old.best) (plan_in new.best) left right
     → new.cells.items ≡ split_cells old.cells.items n i m left.node right.node
     → c1 ≡ length old.cells.items → c2 ≡ length old.cells.items + 1
     → IsPermutation (with_entry left.worth c1 rest) mid → IsPermutation (with_entry right.worth c2 mid) new.waiting
-    → new.splits ≡ old.splits + 1 → IsValued task.value task.inst new.best → IsCurrentBox task.inst new.current
-    → IsGrowth task new
-step_kept task old new n i m c1 c2 left right y z rest mid spans law grow g w p l e s parts cells d1 d2 pl pr splits v
-    current =
+    → new.aside ≡ old.aside → new.splits ≡ old.splits + 1 → IsValued task.value task.inst new.best
+    → IsCurrentBox task.inst new.current
+    → IsGrowth task part new
+step_kept task part old new n i m c1 c2 left right y z rest mid spans law grow g w p l e s parts cells d1 d2 pl pr
+    same splits v current =
     let short = popped_short task.value task.inst old.best old.waiting rest y z n g.valued w p l in
-    let next = grown_more task old.cells.items n i m left right (plan_in old.best) (plan_in new.best) y old.waiting rest
-    mid new.waiting old.splits g.state p l short law grow
+    let next = grown_more task (IsOfPart part) g.given old.cells.items n i m left right (plan_in old.best)
+    (plan_in new.best) y old.waiting rest mid new.waiting g.aside g.seen old.splits g.of_nodes.order g.state p l short
+    law grow
     (subst (λ (b : List Span). IsSplit b i m) e s)
     (subst
     (λ (b : List Span). ArePartsOf (freed task) b i m (plan_in old.best) (plan_in new.best) left right) e parts)
     (subst (λ (c : ℕ). IsPermutation (with_entry left.worth c rest) mid) d1 pl)
     (subst (λ (c : ℕ). IsPermutation (with_entry right.worth c mid) new.waiting) d2 pr) in
     record {
-      state = subst (λ (c : List Cell). IsGrown task c new.waiting (plan_in new.best) new.splits) (sym cells)
-          (subst (λ (k : ℕ). IsGrown task (split_cells old.cells.items n i m left.node right.node) new.waiting
-          (plan_in new.best) k) (sym splits) next);
+      given = g.given;
+      of_nodes = g.of_nodes;
+      aside = g.aside;
+      least = subst (λ (x : Option ℤ). IsLeastWorth x g.aside) (sym same) g.least;
+      seen = g.seen;
+      state = subst (λ (c : List Cell). IsGrown task (IsOfPart part) g.given c new.waiting g.aside (plan_in new.best)
+          g.seen new.splits) (sym cells)
+          (subst (λ (k : ℕ). IsGrown task (IsOfPart part) g.given
+          (split_cells old.cells.items n i m left.node right.node) new.waiting g.aside (plan_in new.best) g.seen k)
+          (sym splits) next);
       valued = v;
       current = current;
     }
-
--- ---- the end
-pub answer_is : (task : Task) (growth : Growth) (answer : SearchEnd) (turns : ℕ) → IsGrowth task growth
-    → IsAnswerOf growth answer → growth.splits ≤ turns
-    → ((z : ℤ) → IsLeftWorth growth.best growth.waiting z → growth.splits ≡ turns)
-    → IsSearchedBy task.value task.inst task.lists task.worths task.incumbent (splits_before task) turns answer
-answer_is task growth answer turns g a few spent = searched task growth g a.left a.some a.none turns few spent answer
-    a.bound (a.nodes g.state.shape g.state.is_shape) a.best a.unfinished
-
-pub enough_turns : (value : PlanValue) (inst : Tables) (lists : ℕ) (worths : Worths) (incumbent : Option (List ℕ))
-    (before turns : ℕ) (answer : SearchEnd) → IsFitting inst
-    → IsSearchedBy value inst lists worths incumbent before turns answer
-    → count_product (length inst.names) (tmax inst) ≤ before + turns + 1 → answer.unfinished ≡ false
-enough_turns value inst lists worths incumbent before turns answer fits h enough =
-    at (cases_Bool answer.unfinished)
-  where
-    at : (answer.unfinished ≡ true) ⊎ (answer.unfinished ≡ false) → answer.unfinished ≡ false
-    at (inr e) = e
-    at (inl e) =
-        let w = h.unfinished.0 e in
-        let v = too_few inst lists h.tree fits h.of_nodes.in_range (w.0, w.1, w.2, w.3, w.4.several) in
-        absurd (omega (arith, v, h.spent e, enough))
 
 -- ---- by price lists
 pub searched_by_lists : (base : Bases) (value : PlanValue) (inst : Tables) (prices : Option PriceList)

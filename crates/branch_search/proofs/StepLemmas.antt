@@ -1,9 +1,9 @@
 -- One step of a search: the leaf of least worth is split.
 use Rattle.std.proofs.Common.{◌≡◌, ℕ, ◌+◌, ◌≤◌, inl, inr, sym, ◌∙◌, ap, subst, arith, ℤ, ◌≤ℤ◌, List, ◌∷◌, length, All}
-use Rattle.std.proofs.Common.{Option, Some, None}
+use Rattle.std.proofs.Common.{[], ◌++◌, get_or, Option, Some, None}
 use Rattle.std.specs.Prelude.{IsPermutation}
-use Rattle.std.proofs.lemmas.List.Elements.{All-contains, All-cons}
-use Rattle.std.proofs.lemmas.List.Sorted.{Contains-permutation}
+use Rattle.std.proofs.lemmas.List.Elements.{All-contains, All-nil, All-cons, All-append}
+use Rattle.std.proofs.lemmas.List.Sorted.{Contains-permutation, IsPermutation-append_left}
 use Rattle.fixed_num.proofs.SignedLemmas.{signed_arith}
 use Rattle.lagrange_bound.specs.declared.span.Span.{Span}
 use Rattle.lagrange_bound.specs.Boxes.{IsBox}
@@ -11,7 +11,7 @@ use Rattle.certificate_lines.specs.declared.line.Bound.{Bound}
 use Rattle.certificate_lines.specs.declared.line.Bound.TheVariants.{Least}
 use Rattle.certificate_tree.specs.declared.node.Node.{Node}
 use Rattle.certificate_tree.specs.declared.node.Node.TheVariants.{Split, Cost}
-use Rattle.certificate_tree.specs.Trees.{below, above, IsSplit}
+use Rattle.certificate_tree.specs.Trees.{Tree, pre_order, below, above, IsSplit}
 use Rattle.certificate_tree.specs.Holding.{IsAtLeast}
 use Rattle.certificate_tree.specs.Validity.{BoundBoxes}
 use Rattle.certificate_tree.proofs.RootLemmas.{parts_are_boxes}
@@ -32,7 +32,9 @@ use Rattle.branch_search.proofs.WorthLemmas.{IsPart, GrowInParts, below_is_part,
 use Rattle.branch_search.proofs.LeafLemmas.{at_most_trans, below_at_most, at_most_below, below_is_at_most}
 use Rattle.branch_search.proofs.LeafLemmas.{none_is_not_some, some_is, at_least_more, leaf_for, still_settled}
 use Rattle.branch_search.proofs.LeafLemmas.{still_best}
-use Rattle.branch_search.proofs.EntryLemmas.{entries_more, popped}
+use Rattle.branch_search.proofs.EntryLemmas.{all_back, entries_more, popped}
+use Rattle.branch_search.proofs.AsideLemmas.{more_wait}
+use Rattle.branch_search.proofs.PartLemmas.{AreOfLeaves, continues_grown, waits_after, waited, alone}
 
 -- what a part waits with is at least the worth of the box
 pub part_waits : (task : Task) (part box : List Span) (q j : ℕ) → GrowInParts task.inst task.lists task.worths
@@ -83,19 +85,43 @@ below_given task (Some plan) box z h s b j given l e = at_most_below (task.worth
     (below_at_most z (task.value task.inst plan) (task.value task.inst given) s (b.at_most given e))
 
 -- ---- the step
-module _ (task : Task) (cells : List Cell) (n i m : ℕ) (left right : Settled) (old new : Option (List ℕ))
-    (z : ℤ) (before rest mid after : List (ℤ × ℕ)) (splits : ℕ)
-    (g : IsGrown task cells before old splits)
+module _ (task : Task) (may : ℕ → Type 0) (given : Tree) (cells : List Cell) (n i m : ℕ) (left right : Settled)
+    (old new : Option (List ℕ)) (z : ℤ) (before rest mid after aside : List (ℤ × ℕ)) (seen splits : ℕ)
+    (of_nodes : pre_order given ≡ task.given) (g : IsGrown task may given cells before aside old seen splits)
     (p : IsPermutation before ((z, n) ∷ rest)) (least : All (λ e. z ≤ℤ e.0) rest)
     (short : IsShort task.value task.inst old z) where
+  all_popped : IsPermutation (before ++ aside) ((z, n) ∷ (rest ++ aside))
+  all_popped = IsPermutation-append_left aside before ((z, n) ∷ rest) p
+
   pub entry : IsEntry task cells g.boxes (z, n)
-  entry = All-contains (IsEntry task cells g.boxes) before (z, n) g.waits.sound (popped before rest (z, n) p)
+  entry = All-contains (IsEntry task cells g.boxes) (before ++ aside) (z, n) g.waits.sound
+      (popped (before ++ aside) (rest ++ aside) (z, n) all_popped)
 
   pub waiting : IsWaitingBox task (box_at g.boxes n) entry.list
   waiting = waits_at task old (box_at g.boxes n) (node_at cells n) entry.list entry.node (g.settled n entry.within)
 
-  floor : IsFloor task cells g.boxes old (Least z)
-  floor = least_floor task cells g.boxes old before rest z n g.waits p least short
+  leaf : IsLeafNode (node_at cells n)
+  leaf = leaf_of_cost (node_at cells n) entry.list entry.node
+
+  set_aside : All (IsEntry task cells g.boxes) aside
+  set_aside = all_back (IsEntry task cells g.boxes) before aside g.waits.sound
+
+  aside_leaves : AreOfLeaves cells aside
+  aside_leaves k d l =
+      let h = set_aside k d l in (h.within, leaf_of_cost (node_at cells (get_or aside k d).1) h.list h.node)
+
+  -- where the tree had no splits at first, its one leaf may be split, and so nothing is set aside
+  none_aside : splits_before task ≡ 0 → aside ≡ []
+  none_aside none = alone may cells before aside seen n given task.given g.shape of_nodes none g.is_shape aside_leaves
+      entry.within leaf (waited n z before rest p) g.continues
+
+  least_of_all : splits_before task ≡ 0 → All (λ (e : ℤ × ℕ). z ≤ℤ e.0) (rest ++ aside)
+  least_of_all none = All-append (λ (e : ℤ × ℕ). z ≤ℤ e.0) rest aside least
+      (subst (All (λ (e : ℤ × ℕ). z ≤ℤ e.0)) (sym (none_aside none)) (All-nil (λ (e : ℤ × ℕ). z ≤ℤ e.0)))
+
+  floor : splits_before task ≡ 0 → IsFloor task cells g.boxes old (Least z)
+  floor none = least_floor task cells g.boxes old (before ++ aside) (rest ++ aside) z n g.waits all_popped
+      (least_of_all none) short
 
   worths_at_most : (j : ℕ) → j ≤ task.lists → task.worths (box_at g.boxes n) j ≤ℤ z
   worths_at_most j l = subst (λ (y : ℤ). task.worths (box_at g.boxes n) j ≤ℤ y) (sym entry.worth)
@@ -106,9 +132,6 @@ module _ (task : Task) (cells : List Cell) (n i m : ℕ) (left right : Settled) 
       (parts : ArePartsOf (freed task) (box_at g.boxes n) i m old new left right)
       (pl : IsPermutation (with_entry left.worth (length cells) rest) mid)
       (pr : IsPermutation (with_entry right.worth (length cells + 1) mid) after) where
-    leaf : IsLeafNode (node_at cells n)
-    leaf = leaf_of_cost (node_at cells n) entry.list entry.node
-
     one : IsLeafOf task new (below (box_at g.boxes n) i m) left
     one = leaf_for task new (below (box_at g.boxes n) i m) left parts.left_is
 
@@ -225,7 +248,7 @@ module _ (task : Task) (cells : List Cell) (n i m : ℕ) (left right : Settled) 
         (sym (box_before g.boxes n i m n (omega (arith, entry.within, each)))
         ∙ ap (box_at (split_list g.boxes n i m)) (sym q))
         (floor_more (Least (task.worths (box_at g.boxes n) j)) (worths_at_most j s)
-        (floor_under task cells g.boxes old (task.worths (box_at g.boxes n) j) z (worths_at_most j s) floor))
+        (floor_under task cells g.boxes old (task.worths (box_at g.boxes n) j) z (worths_at_most j s) (floor none)))
     level_at none k a b j e s (inr (inl (l, d))) =
         let f = sym (ap (λ (c : Cell). c.node) (at_other cells n i m left.node right.node entry.within k l d)) ∙ e in
         let h = g.level none k a b j l f s in
@@ -240,7 +263,8 @@ module _ (task : Task) (cells : List Cell) (n i m : ℕ) (left right : Settled) 
     level_at none k a b j e s (inr (inr (inr q))) = absurd (no_split k a b right.node
         (ap (λ (c : Cell). c.node) (at_right cells n i m left.node right.node entry.within k q)) two.no_split e)
 
-    pub grown_more : IsGrown task (split_cells cells n i m left.node right.node) after new (splits + 1)
+    pub grown_more : IsGrown task may given (split_cells cells n i m left.node right.node) after aside new seen
+        (splits + 1)
     grown_more = record {
       boxes = split_list g.boxes n i m;
       shape = grown n (length cells) g.shape;
@@ -258,6 +282,11 @@ module _ (task : Task) (cells : List Cell) (n i m : ℕ) (left right : Settled) 
           (omega (arith, l, length_split cells n i m left.node right.node entry.within)));
       floors = λ bound h. let f = g.floors bound h in floor_more bound (floor_reaches bound f) f;
       waits = entries_more task cells g.boxes n i m left.node right.node entry.within each z left.worth right.worth
-          before rest mid after g.waits p one.worth one.small two.worth two.small pl pr;
+          (before ++ aside) (rest ++ aside) (mid ++ aside) (after ++ aside) g.waits all_popped one.worth one.small
+          two.worth two.small (more_wait left.worth (length cells) rest mid aside pl)
+          (more_wait right.worth (length cells + 1) mid after aside pr);
+      continues = continues_grown may cells n i m left.node right.node entry.within leaf before after aside seen
+          (λ k l. waits_after (length cells) n k z left.worth right.worth before rest mid after l p pl pr)
+          (waited n z before rest p) (λ k d l. (set_aside k d l).within) 0 given g.shape g.is_shape.within g.continues;
       best_is = still_best task (box_at g.boxes n) old new improved g.best_is;
     }

@@ -86,7 +86,7 @@ abbrev IsOrdered : List Span → Type 0
 IsOrdered box = (i : ℕ) → i < length box → (span_of box i).from ≤ (span_of box i).to
 
 -- some of two lists
-any_parts : {A : Type 0} (P : A → Type 0) (xs ys : List A) → Any P (xs ++ ys) → Any P xs ⊎ Any P ys
+pub any_parts : {A : Type 0} (P : A → Type 0) (xs ys : List A) → Any P (xs ++ ys) → Any P xs ⊎ Any P ys
 any_parts P [] ys h = inr h
 any_parts P (x ∷ xs) ys (zero, y, l, e, p) = inl (0, y, omega arith, e, p)
 any_parts P (x ∷ xs) ys (suc k, y, l, e, p) = at (any_parts P xs ys (k, y, omega (arith, l), e, p))

@@ -3,12 +3,15 @@ pub mod Splits
 pub mod Best
 pub mod Boxes
 pub mod Searched
+pub mod Parts
 pub mod Tasks
 pub mod Growing
 pub mod Shapes
 pub mod Settled
 pub mod Valued
 pub mod Entries
+pub mod Aside
+pub mod Parted
 pub mod CurrentBoxes
 pub mod States
 pub mod Begun

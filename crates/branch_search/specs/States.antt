@@ -1,13 +1,16 @@
 -- The state of a search. Cited by private functions only: no part of any promise.
-use Rattle.std.specs.Prelude.{◌≡◌, ◌^◌, ℕ, ◌+◌, ◌<◌, ◌≤◌, ℤ, ◌≤ℤ◌, List, length, Option, Some, None}
+use Rattle.std.specs.Prelude.{◌≡◌, ◌^◌, ℕ, ◌+◌, ◌<◌, ◌≤◌, ℤ, ◌≤ℤ◌, List, [], ◌++◌, length, Option, Some, None}
 use Rattle.std.specs.Prelude.{All, Contains, cond, ◌==◌, map, is_some, IfSome, IfNone, unsigned_abs}
 use Rattle.std.specs.List.{sum_by}
 use Rattle.lagrange_bound.specs.declared.span.Span.{Span}
 use Rattle.certificate_lines.specs.declared.line.Bound.{Bound}
 use Rattle.certificate_lines.specs.declared.line.Bound.TheVariants.{NoPlan, Least}
 use Rattle.certificate_tree.specs.declared.node.Node.TheVariants.{Split, Cost}
+use Rattle.certificate_tree.specs.Trees.{Tree, root_box}
+use Rattle.certificate_tree.specs.Ranges.{AreNodesOf}
 use Rattle.certificate_tree.specs.Holding.{IsAtLeast}
 use Rattle.certificate_tree.specs.Validity.{IsProved}
+use Rattle.branch_search.specs.declared.part.Part.{Part}
 use Rattle.branch_search.specs.declared.best.Best.{Best}
 use Rattle.branch_search.specs.declared.tree.cell.Cell.{Cell}
 use Rattle.branch_search.specs.declared.tree.growth.Growth.{Growth}
@@ -18,6 +21,9 @@ use Rattle.branch_search.specs.Tasks.{Task, splits_before, given_claim}
 use Rattle.branch_search.specs.Growing.{node_at, box_at, AreBoxesOf}
 use Rattle.branch_search.specs.Shapes.{Shape, forks, numbers, IsShapeOf}
 use Rattle.branch_search.specs.Settled.{IsSettled}
+use Rattle.branch_search.specs.Parts.{IsOfPart}
+use Rattle.branch_search.specs.Aside.{IsLeastWorth}
+use Rattle.branch_search.specs.Parted.{Continues}
 use Rattle.branch_search.specs.CurrentBoxes.{IsCurrentBox}
 
 -- ---- what waits
@@ -53,9 +59,9 @@ pub record IsFloor (task : Task) (cells : List Cell) (boxes : List (List Span)) 
 
 -- ---- the state
 
--- what holds of a search after so many splits of its own
-pub record IsGrown (task : Task) (cells : List Cell) (entries : List (ℤ × ℕ)) (best : Option (List ℕ))
-    (splits : ℕ) : Type 0 where
+-- what holds of a search after so many splits of its own; so many leaves of the given tree became those of their boxes
+pub record IsGrown (task : Task) (may : ℕ → Type 0) (given : Tree) (cells : List Cell) (waiting aside : List (ℤ × ℕ))
+    (best : Option (List ℕ)) (seen splits : ℕ) : Type 0 where
   pub boxes : List (List Span)
   pub shape : Shape
   pub are_boxes : AreBoxesOf task.inst cells boxes
@@ -66,12 +72,26 @@ pub record IsGrown (task : Task) (cells : List Cell) (entries : List (ℤ × ℕ
       → IsFloor task cells boxes best (Least (task.worths (box_at boxes k) j))
   pub floors : (bound : Bound) → IsProved task.value task.inst (given_claim task bound)
       → IsFloor task cells boxes best bound
-  pub waits : AreEntries task cells boxes entries
+  pub waits : AreEntries task cells boxes (waiting ++ aside)
+  pub continues : Continues (record {
+    may = may;
+    cells = cells;
+    waiting = waiting;
+    aside = aside;
+    next = seen;
+    places = [];
+  }) 0 given shape
   pub best_is : IsBestOver task.value task.inst task.incumbent best
 
--- the same of what is kept
-pub record IsGrowth (task : Task) (growth : Growth) : Type 0 where
-  pub state : IsGrown task growth.cells.items growth.waiting (plan_in growth.best) growth.splits
+-- the same of what is kept, where a part of the given tree may be split
+pub record IsGrowth (task : Task) (part : Part) (growth : Growth) : Type 0 where
+  pub given : Tree
+  pub of_nodes : AreNodesOf task.inst task.lists (root_box task.inst) given task.given
+  pub aside : List (ℤ × ℕ)
+  pub least : IsLeastWorth growth.aside aside
+  pub seen : ℕ
+  pub state : IsGrown task (IsOfPart part) given growth.cells.items growth.waiting aside (plan_in growth.best) seen
+      growth.splits
   pub valued : IsValued task.value task.inst growth.best
   pub current : IsCurrentBox task.inst growth.current
 
@@ -92,6 +112,7 @@ NoneIsLeft best entries = All (λ entry. ¬ IsBelow best entry.0) entries
 pub record IsKept (growth : Growth) : Type 0 where
   pub value : IsSmallValue growth.best
   pub worths : All (λ entry. unsigned_abs entry.0 < 10 ^ 37) growth.waiting
+  pub aside : IfSome growth.aside (λ z. unsigned_abs z < 10 ^ 37)
 
 -- ---- the end
 
@@ -101,13 +122,13 @@ bound_with (Some z) best = Least z
 bound_with None None = NoPlan
 bound_with None (Some best) = Least best.value
 
--- an answer says what is kept
-pub record IsAnswerOf (growth : Growth) (answer : SearchEnd) : Type 0 where
+-- an answer says what is kept, where these entries are set aside
+pub record IsAnswerOf (growth : Growth) (aside : List (ℤ × ℕ)) (answer : SearchEnd) : Type 0 where
   pub nodes : (shape : Shape) → IsShapeOf growth.cells.items shape
       → answer.nodes ≡ map (node_at growth.cells.items) (numbers shape)
   pub best : answer.best ≡ plan_in growth.best
   pub left : Option ℤ
   pub unfinished : answer.unfinished ≡ is_some left
   pub bound : answer.bound ≡ bound_with left growth.best
-  pub some : IfSome left (IsLeftWorth growth.best growth.waiting)
-  pub none : IfNone left (NoneIsLeft growth.best growth.waiting)
+  pub some : IfSome left (IsLeftWorth growth.best (growth.waiting ++ aside))
+  pub none : IfNone left (NoneIsLeft growth.best (growth.waiting ++ aside))

@@ -12,12 +12,14 @@
 mod best;
 mod choosing;
 mod closing;
+mod part;
 mod search_end;
 mod searching;
 mod splitting;
 mod tree;
 mod tree_end;
 
+pub use part::Part;
 pub use search_end::SearchEnd;
-pub use searching::{go_on, search, search_by};
+pub use searching::{go_on, go_on_part, search, search_by};
 pub use tree_end::TreeEnd;

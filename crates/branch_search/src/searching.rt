@@ -1,6 +1,6 @@
-//! The search: its contract is `IsSearchedBy`, which says sentence by sentence what a search promises, and for a search
-//! by price lists `IsSearched`.
-ghost use Rattle.std.specs.Prelude.{◌≡◌, ◌+◌, ◌-◌, ◌*◌, ◌<◌, ◌≤◌, ℕ, ℤ, false, length, All, IfOk, OnOk, IfSome};
+//! The search: its contract is `IsSearchedBy`, which says sentence by sentence what a search promises, for a search
+//! that goes on with a part of a tree `IsGoneOnBy`, and for a search by price lists `IsSearched`.
+ghost use Rattle.std.specs.Prelude.{◌≡◌, ◌⊎◌, ◌+◌, ◌-◌, ◌*◌, ◌<◌, ◌≤◌, ℕ, ℤ, false, length, All, IfOk, OnOk, IfSome};
 ghost use Rattle.std.specs.Prelude.{option_map};
 ghost use Rattle.instance_model.specs.Naturals.{count_product};
 ghost use Rattle.instance_model.specs.Tables.{tmax};
@@ -17,11 +17,12 @@ ghost use Rattle.branch_search.specs.Splits.{split_count};
 ghost use Rattle.branch_search.specs.Searched.{lists_of, IsSearchedBy, IsSearched};
 ghost use Rattle.branch_search.specs.Tasks.{task_of};
 ghost use Rattle.branch_search.specs.Pricing.{AreSearchTables};
-ghost use Rattle.branch_search.specs.States.{IsGrowth, IsLeftWorth};
+ghost use Rattle.branch_search.specs.Parts.{IsGoneOnBy};
+ghost use Rattle.branch_search.specs.States.{IsGrowth, NoneIsLeft};
 
 use crate::splitting::{begin, left_worth, split_least};
 use crate::tree::{Growth, finish};
-use crate::{SearchEnd, TreeEnd};
+use crate::{Part, SearchEnd, TreeEnd};
 use certificate_tree::{
     Certificate, Node, PriceLists, Version, lists_bound_boxes, tables_bound_boxes, tables_of,
 };
@@ -29,7 +30,8 @@ use instance_model::Instance;
 use lagrange_bound::{Goal, PriceTable, Prices, worths_are_small};
 use std::alloc::{AllocError, Global};
 
-/// Splits leaves until no worth is left that is below the value of the best plan, or the turns are spent.
+/// Splits leaves of a part until no worth of them is left that is below the value of the best plan, or the turns are
+/// spent.
 fn grow<G: Goal>(
     alloc: Global,
     goal: &G,
@@ -37,25 +39,26 @@ fn grow<G: Goal>(
     tables: &[PriceTable],
     given: &[Node],
     incumbent: Option<&[u32]>,
+    part: Part,
     turns: u32,
     growth: &mut Growth,
 ) -> Result<(), AllocError>
     requires tables { AreSearchTables inst.now tables.now }
     requires lawful { BoundBoxes (G.value_gives goal.now) inst.now (length tables.now - 1) (table_worths tables.now) }
     requires growth { IsGrowth (task_of (G.value_gives goal.now) inst.now tables.now given.now
-        (option_map (λ given. given.now) incumbent)) growth.old }
+        (option_map (λ given. given.now) incumbent)) part growth.old }
     requires none { growth.old.splits ≡ 0 }
     ensures state { OnOk result (IsGrowth (task_of (G.value_gives goal.now) inst.now tables.now given.now
-        (option_map (λ given. given.now) incumbent.entry)) growth.new) }
+        (option_map (λ given. given.now) incumbent.entry)) part growth.new) }
     ensures few { OnOk result (growth.new.splits ≤ turns) }
     ensures spent { OnOk result
-        ((z : ℤ) → IsLeftWorth growth.new.best growth.new.waiting z → growth.new.splits ≡ turns) }
+        ((growth.new.splits ≡ turns) ⊎ NoneIsLeft growth.new.best growth.new.waiting) }
 {
     while growth.splits < turns {
         if left_worth(growth).is_none() {
             break;
         }
-        split_least(alloc, goal, inst, tables, given, incumbent, growth)?;
+        split_least(alloc, goal, inst, tables, given, incumbent, part, growth)?;
     }
     Ok(())
 }
@@ -63,10 +66,68 @@ fn grow<G: Goal>(
 /// Searches for the best plan and a bound on the values of all feasible plans, given tables of prices, of which the
 /// first is that of list 0, and a feasible plan or none. No feasible plan in a box may have a value below the worth of
 /// the box by a table. Goes on from the tree of these nodes: its splits stay, and each of its leaves becomes the leaf
-/// of its box before any other split is made.
+/// of its box before any other split is made. Of these the leaves of one part alone are split.
 ///
 /// Makes at most so many splits as there are turns. Takes memory for each node and each leaf that waits; a box is made
 /// afresh where it is split.
+pub fn go_on_part<G: Goal>(
+    alloc: Global,
+    goal: &G,
+    inst: &Instance,
+    tables: &[PriceTable],
+    nodes: &[Node],
+    incumbent: Option<&[u32]>,
+    part: Part,
+    turns: u32,
+) -> Result<SearchEnd, AllocError>
+    requires some { 0 < length tables.now }
+    requires few { length tables.now ≤ 17 }
+    requires priced { All (IsPricedTable inst.now) tables.now }
+    requires lawful { BoundBoxes (G.value_gives goal.now) inst.now (length tables.now - 1) (table_worths tables.now) }
+    requires tree { (t : Tree) × IsTreeOfClaim inst.now (claim_by NoPlan tables.now nodes.now) t }
+    requires incumbent { IfSome incumbent (λ given. IsFeasiblePlan inst.now given.now) }
+    requires part { part.number < part.count }
+    ensures proved { IfOk result (λ answer.
+        IsProved (G.value_gives goal.now) inst.now (claim_by answer.bound tables.now answer.nodes)) }
+    ensures gone_on { IfOk result (IsGoneOnBy (G.value_gives goal.now) inst.now (length tables.now - 1)
+        (table_worths tables.now) (option_map (λ given. given.now) incumbent.entry) nodes.now part turns) }
+
+    // The tree is in range.
+    ensures tree { IfOk result (λ answer.
+        (t : Tree) × IsTreeOfClaim inst.now (claim_by answer.bound tables.now answer.nodes) t) }
+
+    // The bound is none, or at least each worth of the box of all starts.
+    ensures floor { IfOk result (λ answer. (j : ℕ) → j ≤ length tables.now - 1 →
+        Reaches answer.bound (table_worths tables.now (root_box inst.now) j)) }
+
+    // It is no lower than a bound that the nodes prove, and none where they prove that there is no plan.
+    ensures no_lower { IfOk result (λ answer. (b : ℤ)
+        → IsProved (G.value_gives goal.now) inst.now (claim_by (Least b) tables.now nodes.now)
+        → Reaches answer.bound b) }
+    ensures no_plan { IfOk result (λ answer.
+        IsProved (G.value_gives goal.now) inst.now (claim_by NoPlan tables.now nodes.now) → answer.bound ≡ NoPlan) }
+
+    // A tree has two nodes more with each split.
+    ensures nodes { IfOk result (λ answer. length answer.nodes ≤ length nodes.now + 2 * turns) }
+{
+    inst.fits();
+    let mut growth = begin(alloc, goal, inst, tables, nodes, incumbent, part)?;
+    grow(
+        alloc,
+        goal,
+        inst,
+        tables,
+        nodes,
+        incumbent,
+        part,
+        turns,
+        &mut growth,
+    )?;
+    let answer = finish(alloc, growth)?;
+    Ok(answer)
+}
+
+/// The same where each of these leaves may be split.
 pub fn go_on<G: Goal>(
     alloc: Global,
     goal: &G,
@@ -109,20 +170,16 @@ pub fn go_on<G: Goal>(
     ensures enough { IfOk result (λ answer. count_product (length inst.now.names) (tmax inst.now)
         ≤ split_count nodes.now + turns + 1 → answer.unfinished ≡ false) }
 {
-    inst.fits();
-    let mut growth = begin(alloc, goal, inst, tables, nodes, incumbent)?;
-    grow(
+    go_on_part(
         alloc,
         goal,
         inst,
         tables,
         nodes,
         incumbent,
+        Part::whole(),
         turns,
-        &mut growth,
-    )?;
-    let answer = finish(alloc, growth)?;
-    Ok(answer)
+    )
 }
 
 /// The same from the box of all starts: from a tree of one `cost` leaf.

@@ -6,4 +6,4 @@ mod step;
 
 pub(crate) use beginning::begin;
 pub(crate) use current_box::CurrentBox;
-pub(crate) use step::{left_worth, split_least};
+pub(crate) use step::{left_worth, open_worth, split_least};

@@ -1,4 +1,5 @@
 //! The tree of boxes under construction: its nodes, the leaves that wait, and the answer that it becomes.
+mod aside;
 mod cell;
 mod finishing;
 mod growth;
@@ -6,6 +7,7 @@ mod node_box;
 mod nodes;
 mod waiting;
 
+pub(crate) use aside::{file_leaf, lesser};
 pub(crate) use cell::{Cell, set_leaf, split_cell};
 pub(crate) use finishing::finish;
 pub(crate) use growth::Growth;

@@ -8,6 +8,7 @@ use Rattle.instance_model.specs.declared.limits.Limits.{Limits}
 use Rattle.instance_model.specs.Tables.{Tables}
 use Rattle.certificate_lines.specs.declared.line.Bound.{Bound}
 use Rattle.certificate_lines.specs.declared.line.Bound.TheVariants.{NoPlan, Least}
+use Rattle.branch_search.specs.declared.part.Part.{Part}
 use Rattle.refined_certificate.specs.declared.certificate.RefinedCertificate.{RefinedCertificate}
 use Rattle.refined_text.specs.Text.{refined_text}
 use Rattle.refined_files.specs.RefinedKind.{refined_kind}
@@ -54,32 +55,35 @@ use Rattle.command_bound.proofs.GivenLemmas.{on_told_plan, on_named_plan}
 -- ---- from one way of meeting the files to another
 
 -- what is answered to the certificate, and to the plan
-abbrev OnCert : Limits → Meeting → Option (List ℕ) → List ℕ → ℕ → Tables → Option (List (Option ℕ)) → Answer → Type 0
-OnCert limits met cert out turns inst given =
-    OnGivenCertificateBy refined_kind.texts limits inst met 4 cert (RaisesBound limits inst given out turns)
+abbrev OnCert : Limits → Meeting → Option (List ℕ) → List ℕ → ℕ → Part → Tables → Option (List (Option ℕ)) → Answer
+    → Type 0
+OnCert limits met cert out turns part inst given =
+    OnGivenCertificateBy refined_kind.texts limits inst met 4 cert (RaisesBound limits inst given out turns part)
 
-abbrev OnPlanned : Limits → Meeting → (plan cert : Option (List ℕ)) → List ℕ → ℕ → Tables → Answer → Type 0
-OnPlanned limits met plan cert out turns inst =
-    OnGiven limits inst met 3 plan (OnCert limits met cert out turns inst)
+abbrev OnPlanned : Limits → Meeting → (plan cert : Option (List ℕ)) → List ℕ → ℕ → Part → Tables → Answer → Type 0
+OnPlanned limits met plan cert out turns part inst =
+    OnGiven limits inst met 3 plan (OnCert limits met cert out turns part inst)
 
 bound_other : (limits : Limits) (slack : ℕ) (met other : Meeting) (i : List ℕ) (p c : Option (List ℕ)) (j : List ℕ)
-    (q d : Option (List ℕ)) (out : List ℕ) (turns : ℕ) (a : Answer) → Carries met i other j
-    → CarriesGiven met p other q → CarriesGiven met c other d → AnswersBound limits met slack i p c out turns a
-    → AnswersBound limits other slack j q d out turns a
-bound_other limits slack met other i p c j q d out turns a ci cp cd =
-    on_other met other 2 i j (RefusesInstance limits) (TakesOne limits slack) (OnPlanned limits met p c out turns)
-    (OnPlanned limits other q d out turns) a ci
-    (λ inst b. on_given_other limits inst met other 3 p q (OnCert limits met c out turns inst)
-    (OnCert limits other d out turns inst) b cp
+    (q d : Option (List ℕ)) (out : List ℕ) (turns : ℕ) (part : Part) (a : Answer) → Carries met i other j
+    → CarriesGiven met p other q → CarriesGiven met c other d → AnswersBound limits met slack i p c out turns part a
+    → AnswersBound limits other slack j q d out turns part a
+bound_other limits slack met other i p c j q d out turns part a ci cp cd =
+    on_other met other 2 i j (RefusesInstance limits) (TakesOne limits slack) (OnPlanned limits met p c out turns part)
+    (OnPlanned limits other q d out turns part) a ci
+    (λ inst b. on_given_other limits inst met other 3 p q (OnCert limits met c out turns part inst)
+    (OnCert limits other d out turns part inst) b cp
     (λ x e. on_given_certificate_other refined_kind.texts limits inst met other 4 c d
-    (RaisesBound limits inst x out turns) (RaisesBound limits inst x out turns) e cd (λ y f raises. raises)))
+    (RaisesBound limits inst x out turns part) (RaisesBound limits inst x out turns part) e cd (λ y f raises. raises)))
 
 pub bound_stays : (limits : Limits) (source : Source) (name cert_name : Option (List ℕ)) (out : List ℕ) (turns : ℕ)
+    (part : Part)
     (old mid new : Shown)
-    → Stays (λ at. AnswersBound limits (reading old at) source.slack source.instance name cert_name out turns) mid new
-bound_stays limits source name cert_name out turns old mid new goes a =
+    → Stays (λ at. AnswersBound limits (reading old at) source.slack source.instance name cert_name out turns part) mid
+    new
+bound_stays limits source name cert_name out turns part old mid new goes a =
     bound_other limits source.slack (reading old mid) (reading old new) source.instance name cert_name source.instance
-    name cert_name out turns a (later_reading source.instance old mid new goes) (later_given name old mid new goes)
+    name cert_name out turns part a (later_reading source.instance old mid new goes) (later_given name old mid new goes)
     (later_given cert_name old mid new goes)
 
 -- ---- which files are written
@@ -111,46 +115,52 @@ status_opens (Least b) = inl refl
 status_opens NoPlan = inr (inr (inl refl))
 
 raises_writes : (limits : Limits) (inst : Tables) (given : Option (List (Option ℕ))) (out : List ℕ) (turns : ℕ)
-    (cert : Option RefinedCertificate) (a : Answer) → RaisesBound limits inst given out turns cert a → Writes out a
-raises_writes limits inst given out turns cert a (raised handed_in answer is) = record {
+    (part : Part)
+    (cert : Option RefinedCertificate) (a : Answer) → RaisesBound limits inst given out turns part cert a → Writes out a
+raises_writes limits inst given out turns part cert a (raised handed_in answer is) = record {
   only = writes_one (out_write inst out answer.cert);
   opened = λ opens. absurd (opens (status_opens answer.cert.bound));
 }
-raises_writes limits inst given out turns cert a (too_long handed_in answer is) =
+raises_writes limits inst given out turns part cert a (too_long handed_in answer is) =
     none_written out a refl
 
-cert_writes : (limits : Limits) (met : Meeting) (cert : Option (List ℕ)) (out : List ℕ) (turns : ℕ) (inst : Tables)
-    (given : Option (List (Option ℕ))) (a : Answer) → OnCert limits met cert out turns inst given a → Writes out a
-cert_writes limits met None out turns inst given a raises = raises_writes limits inst given out turns None a raises
-cert_writes limits met (Some cert) out turns inst given a (unread fails) = none_written out a refl
-cert_writes limits met (Some cert) out turns inst given a (refused bytes b held is) =
+cert_writes : (limits : Limits) (met : Meeting) (cert : Option (List ℕ)) (out : List ℕ) (turns : ℕ) (part : Part)
+    (inst : Tables)
+    (given : Option (List (Option ℕ))) (a : Answer) → OnCert limits met cert out turns part inst given a → Writes out a
+cert_writes limits met None out turns part inst given a raises = raises_writes limits inst given out turns part None a
+    raises
+cert_writes limits met (Some cert) out turns part inst given a (unread fails) = none_written out a refl
+cert_writes limits met (Some cert) out turns part inst given a (refused bytes b held is) =
     none_written out b (certificate_none limits inst bytes b is)
-cert_writes limits met (Some cert) out turns inst given a (stands bytes x b held spells raises) =
-    raises_writes limits inst given out turns (Some x) b raises
+cert_writes limits met (Some cert) out turns part inst given a (stands bytes x b held spells raises) =
+    raises_writes limits inst given out turns part (Some x) b raises
 
-plan_writes : (limits : Limits) (met : Meeting) (plan cert : Option (List ℕ)) (out : List ℕ) (turns : ℕ) (inst : Tables)
-    (a : Answer) → OnPlanned limits met plan cert out turns inst a → Writes out a
-plan_writes limits met None cert out turns inst a due = cert_writes limits met cert out turns inst None a due
-plan_writes limits met (Some plan) cert out turns inst a (unread fails) = none_written out a refl
-plan_writes limits met (Some plan) cert out turns inst a (refused bytes b held is) =
+plan_writes : (limits : Limits) (met : Meeting) (plan cert : Option (List ℕ)) (out : List ℕ) (turns : ℕ) (part : Part)
+    (inst : Tables)
+    (a : Answer) → OnPlanned limits met plan cert out turns part inst a → Writes out a
+plan_writes limits met None cert out turns part inst a due = cert_writes limits met cert out turns part inst None a due
+plan_writes limits met (Some plan) cert out turns part inst a (unread fails) = none_written out a refl
+plan_writes limits met (Some plan) cert out turns part inst a (refused bytes b held is) =
     none_written out b (plan_none limits inst bytes b is)
-plan_writes limits met (Some plan) cert out turns inst a (stands bytes x b held spells due) =
-    cert_writes limits met cert out turns inst (Some x) b due
+plan_writes limits met (Some plan) cert out turns part inst a (stands bytes x b held spells due) =
+    cert_writes limits met cert out turns part inst (Some x) b due
 
 answers_write : (limits : Limits) (met : Meeting) (slack : ℕ) (instance : List ℕ) (plan cert : Option (List ℕ))
-    (out : List ℕ) (turns : ℕ) (a : Answer) → AnswersBound limits met slack instance plan cert out turns a
+    (out : List ℕ) (turns : ℕ) (part : Part) (a : Answer)
+    → AnswersBound limits met slack instance plan cert out turns part a
     → Writes out a
-answers_write limits met slack instance plan cert out turns a (unread fails) = none_written out a refl
-answers_write limits met slack instance plan cert out turns a (refused bytes b held is) =
+answers_write limits met slack instance plan cert out turns part a (unread fails) = none_written out a refl
+answers_write limits met slack instance plan cert out turns part a (refused bytes b held is) =
     none_written out b (instance_none limits bytes b is)
-answers_write limits met slack instance plan cert out turns a (stands bytes inst b held takes due) =
-    plan_writes limits met plan cert out turns inst b due
+answers_write limits met slack instance plan cert out turns part a (stands bytes inst b held takes due) =
+    plan_writes limits met plan cert out turns part inst b due
 
 due_writes : (limits : Limits) (source : Source) (name cert_name : Option (List ℕ)) (out : List ℕ) (turns : ℕ)
-    (old at : Shown) (a : Answer) → DueBound limits source name cert_name out turns old at a → Writes out a
-due_writes limits source name cert_name out turns old at a (answers b is) =
-    answers_write limits (reading old at) source.slack source.instance name cert_name out turns b is
-due_writes limits source name cert_name out turns old at a no_memory = none_written out a refl
+    (part : Part)
+    (old at : Shown) (a : Answer) → DueBound limits source name cert_name out turns part old at a → Writes out a
+due_writes limits source name cert_name out turns part old at a (answers b is) =
+    answers_write limits (reading old at) source.slack source.instance name cert_name out turns part b is
+due_writes limits source name cert_name out turns part old at a no_memory = none_written out a refl
 
 -- ---- which status a certificate that is made comes with
 
@@ -163,11 +173,12 @@ none_status bound e = ap bound_status e
 
 -- where a plan keeps every rule the bound is a number
 kept_status : (limits : Limits) (inst : Tables) (given : Option (List (Option ℕ))) (out : List ℕ) (turns : ℕ)
+    (part : Part)
     (cert : Option RefinedCertificate) (plan : List (Option ℕ)) (a : Answer) → IsKeptPlan inst plan
-    → RaisesBound limits inst given out turns cert a → (a.status ≡ 12) ⊎ (a.status ≡ 0)
-kept_status limits inst given out turns cert plan a keeps (raised handed_in answer is) =
+    → RaisesBound limits inst given out turns part cert a → (a.status ≡ 12) ⊎ (a.status ≡ 0)
+kept_status limits inst given out turns part cert plan a keeps (raised handed_in answer is) =
     inr (number_status answer.cert.bound (λ e. is.checkable.bounds.none e plan keeps))
-kept_status limits inst given out turns cert plan a keeps (too_long handed_in answer is) = inl refl
+kept_status limits inst given out turns part cert plan a keeps (too_long handed_in answer is) = inl refl
 
 -- where none does, a bound that is the least score is none
 none_least : (inst : Tables) (bound : Bound) → ((plan : List (Option ℕ)) → IsKeptPlan inst plan → ⊥)
@@ -176,31 +187,34 @@ none_least inst NoPlan none is = refl
 none_least inst (Least b) none is = absurd (none is.0.0 is.0.1)
 
 spent_status : (limits : Limits) (inst : Tables) (given : Option (List (Option ℕ))) (out : List ℕ) (turns : ℕ)
+    (part : Part)
     (cert : Option RefinedCertificate) (a : Answer) → ((plan : List (Option ℕ)) → IsKeptPlan inst plan → ⊥)
-    → AreEnough inst turns → RaisesBound limits inst given out turns cert a → (a.status ≡ 12) ⊎ (a.status ≡ 10)
-spent_status limits inst given out turns cert a none enough (raised handed_in answer is) =
-    inr (none_status answer.cert.bound (none_least inst answer.cert.bound none (is.enough enough)))
-spent_status limits inst given out turns cert a none enough (too_long handed_in answer is) = inl refl
+    → part.count ≡ 1 → AreEnough inst turns → RaisesBound limits inst given out turns part cert a
+    → (a.status ≡ 12) ⊎ (a.status ≡ 10)
+spent_status limits inst given out turns part cert a none one enough (raised handed_in answer is) =
+    inr (none_status answer.cert.bound (none_least inst answer.cert.bound none
+    (least_of_one inst handed_in cert turns part answer is.is one (is.enough enough))))
+spent_status limits inst given out turns part cert a none one enough (too_long handed_in answer is) = inl refl
 
-module _ (limits : Limits) (source : Source) (name cert_name : Option (List ℕ)) (out : List ℕ) (turns : ℕ)
+module _ (limits : Limits) (source : Source) (name cert_name : Option (List ℕ)) (out : List ℕ) (turns : ℕ) (part : Part)
     (old new : Shown) (names : TellsNames old) where
   abbrev Answering : Shown → Answer → Type 0
-  Answering at = AnswersBound limits (reading old at) source.slack source.instance name cert_name out turns
+  Answering at = AnswersBound limits (reading old at) source.slack source.instance name cert_name out turns part
 
   abbrev Due : Shown → Answer → Type 0
-  Due = DueBound limits source name cert_name out turns old
+  Due = DueBound limits source name cert_name out turns part old
 
   abbrev Stand : ℕ → Type 0
-  Stand = BehindBound limits source name cert_name out turns old new
+  Stand = BehindBound limits source name cert_name out turns part old new
 
   -- ---- what stands behind a status
 
   writes_bound : (files : ReadsBound limits source name cert_name old) (handed_in : Option (List ℕ)) (answer : Raised)
       (bound : Bound) → answer.cert.bound ≡ bound
-      → IsBounded limits files.inst files.plan files.cert turns handed_in answer
+      → IsBounded limits files.inst files.plan files.cert turns part handed_in answer
       → new.output ≡ (after_writes ((out_write files.inst out answer.cert).file ∷ []) old).output
       → Says (bound_report files.inst handed_in answer) old new
-      → WritesBound limits source name cert_name out turns bound old new
+      → WritesBound limits source name cert_name out turns part bound old new
   writes_bound files handed_in answer bound e is writes says = record {
     files = files;
     handed_in = handed_in;
@@ -209,8 +223,10 @@ module _ (limits : Limits) (source : Source) (name cert_name : Option (List ℕ)
     is = is.is;
     bound_is = e;
     bounds = subst (BoundsEveryPlan files.inst) e is.checkable.bounds;
-    spent = subst (λ (b : Bound). (answer.splits ≡ turns) ⊎ IsLeastScore files.inst b) e is.spent;
-    enough = λ enough. subst (IsLeastScore files.inst) e (is.enough enough);
+    spent = subst (λ (b : Bound). (answer.splits ≡ turns) ⊎ IsLeastScore files.inst b
+        ⊎ LeavesTheRest files.inst handed_in files.cert turns part answer is.is) e is.spent;
+    enough = λ enough. subst (λ (b : Bound). IsLeastScore files.inst b
+        ⊎ LeavesTheRest files.inst handed_in files.cert turns part answer is.is) e (is.enough enough);
     within = is.within;
     held = one_held Due old new (out_write files.inst out answer.cert).file names writes;
     accepted = stands files.reads.bytes files.inst (reply 0 (accepted_report files.inst bound None)) refl
@@ -223,7 +239,7 @@ module _ (limits : Limits) (source : Source) (name cert_name : Option (List ℕ)
 
   by_bound : (files : ReadsBound limits source name cert_name old) (handed_in : Option (List ℕ)) (answer : Raised)
       (bound : Bound) → answer.cert.bound ≡ bound
-      → IsBounded limits files.inst files.plan files.cert turns handed_in answer
+      → IsBounded limits files.inst files.plan files.cert turns part handed_in answer
       → new.output ≡ (after_writes ((out_write files.inst out answer.cert).file ∷ []) old).output
       → Says (bound_report files.inst handed_in answer) old new → Stand (bound_status bound)
   by_bound files handed_in answer (Least b) e is writes says =
@@ -232,7 +248,7 @@ module _ (limits : Limits) (source : Source) (name cert_name : Option (List ℕ)
       no_plan_exists (writes_bound files handed_in answer NoPlan e is writes says)
 
   raises_behind : (files : ReadsBound limits source name cert_name old) (a : Answer)
-      → RaisesBound limits files.inst files.plan out turns files.cert a
+      → RaisesBound limits files.inst files.plan out turns part files.cert a
       → new.output ≡ (after_writes (files_of a.writes) old).output → Says a.text old new → Stand a.status
   raises_behind files a (raised handed_in answer is) writes says =
       by_bound files handed_in answer answer.cert.bound refl is writes says
@@ -249,7 +265,7 @@ module _ (limits : Limits) (source : Source) (name cert_name : Option (List ℕ)
 
   cert_behind : (cert : Option (List ℕ)) (inst : Tables) (plan : Option (List (Option ℕ))) (a : Answer)
       → cert_name ≡ cert → ReadsInstance limits source old inst → ReadsGiven limits name inst old plan
-      → OnCert limits (reading old new) cert out turns inst plan a
+      → OnCert limits (reading old new) cert out turns part inst plan a
       → new.output ≡ (after_writes (files_of a.writes) old).output → Says a.text old new → Stand a.status
   cert_behind None inst plan a e reads reads_plan raises writes says =
       raises_behind (record {
@@ -280,7 +296,7 @@ module _ (limits : Limits) (source : Source) (name cert_name : Option (List ℕ)
       }) b raises writes says
 
   plan_behind : (plan : Option (List ℕ)) (inst : Tables) (a : Answer) → name ≡ plan
-      → ReadsInstance limits source old inst → OnPlanned limits (reading old new) plan cert_name out turns inst a
+      → ReadsInstance limits source old inst → OnPlanned limits (reading old new) plan cert_name out turns part inst a
       → new.output ≡ (after_writes (files_of a.writes) old).output → Says a.text old new → Stand a.status
   plan_behind None inst a e reads due writes says =
       cert_behind cert_name inst None a refl reads
@@ -308,10 +324,10 @@ module _ (limits : Limits) (source : Source) (name cert_name : Option (List ℕ)
   -- ---- which status comes
 
   abbrev Next : Tables → Answer → Type 0
-  Next inst = OnPlanned limits (reading old new) name cert_name out turns inst
+  Next inst = OnPlanned limits (reading old new) name cert_name out turns part inst
 
   abbrev Then : Tables → Option (List (Option ℕ)) → Answer → Type 0
-  Then inst = OnCert limits (reading old new) cert_name out turns inst
+  Then inst = OnCert limits (reading old new) cert_name out turns part inst
 
   on_plan : (inst : Tables) (plan : Option (List (Option ℕ))) (a : Answer) → TellsInstance limits old source inst
       → TellsGiven limits old name inst plan → Answering new a → (a.status ≡ 7) ⊎ Then inst plan a
@@ -321,11 +337,11 @@ module _ (limits : Limits) (source : Source) (name cert_name : Option (List ℕ)
       (on_taken limits source old new Next inst a tells due)
 
   on_files : (files : BoundFiles) (a : Answer) → TellsBoundFiles limits old source name cert_name files
-      → Answering new a → (a.status ≡ 7) ⊎ RaisesBound limits files.inst files.plan out turns files.cert a
+      → Answering new a → (a.status ≡ 7) ⊎ RaisesBound limits files.inst files.plan out turns part files.cert a
   on_files files a tells due =
-      then_more (Then files.inst files.plan a) (RaisesBound limits files.inst files.plan out turns files.cert a) a
+      then_more (Then files.inst files.plan a) (RaisesBound limits files.inst files.plan out turns part files.cert a) a
       (on_told_certificate refined_kind.texts limits files.inst 4 cert_name old new
-      (RaisesBound limits files.inst files.plan out turns) files.cert a tells.cert)
+      (RaisesBound limits files.inst files.plan out turns part) files.cert a tells.cert)
       (on_plan files.inst files.plan a tells.instance tells.plan due)
 
   bound_expects : (expected : ℕ) → ExpectsBound limits source name cert_name old expected → (a : Answer)
@@ -347,29 +363,31 @@ module _ (limits : Limits) (source : Source) (name cert_name : Option (List ℕ)
   bound_expects expected (no_certificate cert inst plan is tells tells_plan missing) a due =
       then_next (Then inst plan a) 7 a
       (λ d. inl (missing_file 4 cert old new (RefusesCertificateBy refined_kind.texts limits inst)
-      (SpellsOneBy refined_kind.texts limits inst) (λ x. RaisesBound limits inst plan out turns (Some x)) a missing
+      (SpellsOneBy refined_kind.texts limits inst) (λ x. RaisesBound limits inst plan out turns part (Some x)) a missing
       (on_named_certificate refined_kind.texts limits inst 4 cert_name cert old new
-      (RaisesBound limits inst plan out turns) a is d)))
+      (RaisesBound limits inst plan out turns part) a is d)))
       (on_plan inst plan a tells tells_plan due)
   bound_expects expected (refused_certificate cert inst plan is tells tells_plan bad) a due =
       then_next (Then inst plan a) 5 a
       (λ d. refused_file 4 cert old new (RefusesCertificateBy refined_kind.texts limits inst)
-      (SpellsOneBy refined_kind.texts limits inst) (λ x. RaisesBound limits inst plan out turns (Some x)) a
+      (SpellsOneBy refined_kind.texts limits inst) (λ x. RaisesBound limits inst plan out turns part (Some x)) a
       (IsRefusedCertificateBy refined_kind.texts limits inst) 5 bad
       (λ bytes x one. refused_apart limits inst bytes x one) (certificate_status limits inst)
       (on_named_certificate refined_kind.texts limits inst 4 cert_name cert old new
-      (RaisesBound limits inst plan out turns) a is d))
+      (RaisesBound limits inst plan out turns part) a is d))
       (on_plan inst plan a tells tells_plan due)
 
-  made_expects : (expected : ℕ) → ExpectsMade limits source name cert_name turns old expected → (a : Answer)
+  made_expects : (expected : ℕ) → ExpectsMade limits source name cert_name turns part old expected → (a : Answer)
       → Answering new a → (a.status ≡ 7) ⊎ ((a.status ≡ 12) ⊎ (a.status ≡ expected))
   made_expects expected (a_plan files plan tells keeps) a due =
-      then_more (RaisesBound limits files.inst files.plan out turns files.cert a) ((a.status ≡ 12) ⊎ (a.status ≡ 0)) a
-      (λ raises. inr (kept_status limits files.inst files.plan out turns files.cert plan a keeps raises))
+      then_more (RaisesBound limits files.inst files.plan out turns part files.cert a)
+      ((a.status ≡ 12) ⊎ (a.status ≡ 0)) a
+      (λ raises. inr (kept_status limits files.inst files.plan out turns part files.cert plan a keeps raises))
       (on_files files a tells due)
-  made_expects expected (none_keeps files tells none enough) a due =
-      then_more (RaisesBound limits files.inst files.plan out turns files.cert a) ((a.status ≡ 12) ⊎ (a.status ≡ 10)) a
-      (λ raises. inr (spent_status limits files.inst files.plan out turns files.cert a none enough raises))
+  made_expects expected (none_keeps files tells none one enough) a due =
+      then_more (RaisesBound limits files.inst files.plan out turns part files.cert a)
+      ((a.status ≡ 12) ⊎ (a.status ≡ 10)) a
+      (λ raises. inr (spent_status limits files.inst files.plan out turns part files.cert a none one enough raises))
       (on_files files a tells due)
 
   -- the statuses that come at the end
@@ -397,25 +415,26 @@ module _ (limits : Limits) (source : Source) (name cert_name : Option (List ℕ)
   bound_unopened status (done n d) opens =
       d.writes
       ∙ ap (λ (w : List Writing). (after_writes (files_of w) old).output)
-      ((due_writes limits source name cert_name out turns old new d.answer d.due).opened
+      ((due_writes limits source name cert_name out turns part old new d.answer d.due).opened
       (λ o. opens (subst OpensBound (sym d.status_is) o)))
   bound_unopened status (unsaid u) opens = absurd (opens (inr (inl refl)))
   bound_unopened status (unwritten u) opens = absurd (opens (inr (inl refl)))
 
   pub bound_runs : (status : ℕ) → Ends Due old new status
-      → RunsBound limits source name cert_name out turns old new status
+      → RunsBound limits source name cert_name out turns part old new status
   bound_runs status ends = record {
     ends = ends;
     behind = wrote_behind Answering Stand old new status answer_behind ends;
     allowed = λ expected wants. ends_allowed Answering old new status expected (bound_expects expected wants) ends;
     made = λ expected wants. made_allowed expected status (made_expects expected wants) ends;
     exact = λ instance plan cert tells tells_plan tells_cert calm.
-        ends_exact Answering (AnswersBound limits by_bytes source.slack instance plan cert out turns) old new status
+        ends_exact Answering (AnswersBound limits by_bytes source.slack instance plan cert out turns part) old new
+        status
         (λ a. bound_other limits source.slack (reading old new) by_bytes source.instance name cert_name instance plan
-        cert out turns a (exact_reading source.instance instance old new tells calm)
+        cert out turns part a (exact_reading source.instance instance old new tells calm)
         (exact_given name plan old new tells_plan calm) (exact_given cert_name cert old new tells_cert calm)) calm ends;
     others = others_kept Due old new out
-        (λ at a due. (due_writes limits source name cert_name out turns old at a due).only) status ends;
+        (λ at a due. (due_writes limits source name cert_name out turns part old at a due).only) status ends;
     unopened = bound_unopened status ends;
     quiet = ends_quiet Due old new status ends;
   }

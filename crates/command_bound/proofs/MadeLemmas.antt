@@ -10,6 +10,7 @@ use Rattle.instance_model.specs.Tables.{Tables}
 use Rattle.certificate_text.specs.Lengths.{counted}
 use Rattle.certificate_text.proofs.KeyLemmas.{below_or_not}
 use Rattle.certificate_text.proofs.CountLemmas.{counted_small, counted_large}
+use Rattle.branch_search.specs.declared.part.Part.{Part}
 use Rattle.refined_certificate.specs.declared.certificate.RefinedCertificate.{RefinedCertificate}
 use Rattle.refined_text.specs.Text.{refined_text}
 use Rattle.command_frame.specs.Lines.{write_line}
@@ -39,13 +40,14 @@ counted_within n m most e small l = at (below_or_not n (2 ^ 64 - 1))
     at (inr h) = let same = counted_large n h in absurd (omega (arith, same, e, l, small))
 
 module _ (limits : Limits) (inst : Tables) (given : Option (List (Option ℕ))) (cert : Option RefinedCertificate)
-    (out : List ℕ) (turns : ℕ) (made : Made) (is : IsMade inst given cert turns made) where
+    (out : List ℕ) (turns : ℕ) (part : Part) (made : Made) (is : IsMade inst given cert turns part made) where
   abbrev text : List ℕ
   text = refined_text inst made.raised.cert
 
   -- the text is too long, and that was said
   pub long_told : (old new : Shown) (status : ℕ) → limits.certificate_bytes < length text → KeepsFiles old new
-      → SaysOrFails 12 (long_output_line 5) old new status → TellsBound limits inst given out turns cert old new status
+      → SaysOrFails 12 (long_output_line 5) old new status
+      → TellsBound limits inst given out turns part cert old new status
   long_told old new status long keeps says =
       told (reply 12 (long_output_line 5))
       (too_long is.handed_in made.raised (record { plan = is.plan; is = is.is; long = long }))
@@ -58,7 +60,7 @@ module _ (limits : Limits) (inst : Tables) (given : Option (List (Option ℕ))) 
     writes = out_write inst out made.raised.cert ∷ [];
   }
 
-  is_answer : length text ≤ limits.certificate_bytes → RaisesBound limits inst given out turns cert answer
+  is_answer : length text ≤ limits.certificate_bytes → RaisesBound limits inst given out turns part cert answer
   is_answer within =
       let checkable = (is.acceptable limits made.raised.cert
       (record { in_range = is.is.in_range; valid = is.is.valid; within = within })).checkable in
@@ -66,8 +68,8 @@ module _ (limits : Limits) (inst : Tables) (given : Option (List (Option ℕ))) 
         plan = is.plan;
         is = is.is;
         checkable = checkable;
-        spent = least_or_spent inst is.handed_in cert turns made.raised is.is checkable.bounds;
-        enough = least_enough inst is.handed_in cert turns made.raised is.is checkable.bounds;
+        spent = least_or_spent inst is.handed_in cert turns part made.raised is.is checkable.bounds;
+        enough = least_enough inst is.handed_in cert turns part made.raised is.is checkable.bounds;
         within = within;
       })
 
@@ -81,7 +83,7 @@ module _ (limits : Limits) (inst : Tables) (given : Option (List (Option ℕ))) 
   pub written_told : {T E : Type 0} {x : T} (old mid new : Shown) (status : ℕ) → length text ≤ limits.certificate_bytes
       → PutsFile {E = E} (out_write inst out made.raised.cert).file old mid (Ok x) → KeepsFiles mid new
       → SaysOrFails made.report.status made.report.text mid new status
-      → TellsBound limits inst given out turns cert old new status
+      → TellsBound limits inst given out turns part cert old new status
   written_told {T = T} old mid new status within puts keeps says =
       told answer (is_answer within)
       (written mid (puts_more {U = Unit {0}} (out_write inst out made.raised.cert) [] old mid mid (Ok (tt {0})) puts
@@ -91,7 +93,7 @@ module _ (limits : Limits) (inst : Tables) (given : Option (List (Option ℕ))) 
   pub unwritten_told : {T E : Type 0} {e : E} (old mid new : Shown) (status : ℕ)
       → length text ≤ limits.certificate_bytes
       → PutsFile {T = T} (out_write inst out made.raised.cert).file old mid (Err e) → KeepsFiles mid new
-      → SaysOrFails 8 (write_line 5) mid new status → TellsBound limits inst given out turns cert old new status
+      → SaysOrFails 8 (write_line 5) mid new status → TellsBound limits inst given out turns part cert old new status
   unwritten_told old mid new status within puts keeps says =
       told answer (is_answer within)
       (unwritten mid 5 (puts_first (Unit {0}) (out_write inst out made.raised.cert) [] old mid puts) keeps says)

@@ -12,11 +12,12 @@ use Rattle.instance_model.specs.Values.{score_of}
 use Rattle.instance_model.specs.Rules.{KeepsRules}
 use Rattle.certificate_lines.specs.declared.line.Bound.{Bound}
 use Rattle.certificate_lines.specs.declared.line.Bound.TheVariants.{NoPlan, Least}
+use Rattle.branch_search.specs.declared.part.Part.{Part}
 use Rattle.refined_certificate.specs.declared.certificate.RefinedCertificate.{RefinedCertificate}
 use Rattle.refined_text.specs.Text.{refined_text}
 use Rattle.refined_files.specs.RefinedKind.{refined_kind}
 use Rattle.refined_search.specs.declared.raised.Raised.{Raised}
-use Rattle.refined_search.specs.Raising.{IsRaised}
+use Rattle.refined_search.specs.Raising.{LeavesToOthers, IsRaised}
 use Rattle.descent_ends.specs.Turns.{AreEnough}
 use Rattle.command_frame.specs.Sources.{Source}
 use Rattle.command_frame.specs.Lines.{numbered_line}
@@ -79,51 +80,68 @@ bound_status NoPlan = 10
 abbrev pub out_write : Tables → List ℕ → RefinedCertificate → Writing
 out_write inst out cert = record { word = 5; file = record { name = out; bytes = refined_text inst cert } }
 
--- The certificate is one that is made of the plan and the old certificate, and its text is within the limit of
--- certificate files. `check` without a plan accepts that text, and its bound holds for every plan. Exactly these turns
--- were spent, or the bound is the least score; and where they are enough for all plans it is.
+-- what is left is left to other parts, of which there are some: no leaf that stands where the tree that was gone on
+-- with had a leaf of this part may have a better plan than the best one
+abbrev pub LeavesTheRest : (inst : Tables) (handed_in : Option (List ℕ)) (cert : Option RefinedCertificate) (turns : ℕ)
+    (part : Part) (answer : Raised) → IsRaised inst handed_in cert turns part answer → Type 0
+LeavesTheRest inst handed_in cert turns part answer is =
+    LeavesToOthers inst answer part is.gone_on.given is.gone_on.by.tree
+
+-- The certificate is one that is made of the plan and the old certificate, whose leaves of this part alone were split,
+-- and its text is within the limit of certificate files. `check` without a plan accepts that text, and its bound holds
+-- for every plan. Exactly these turns were spent, or the bound is the least score, or what is left is left to other
+-- parts; and where they are enough for all plans it is one of these two.
 pub record IsBounded (limits : Limits) (inst : Tables) (given : Option (List (Option ℕ)))
-    (cert : Option RefinedCertificate) (turns : ℕ) (handed_in : Option (List ℕ)) (answer : Raised) : Type 0 where
+    (cert : Option RefinedCertificate) (turns : ℕ) (part : Part) (handed_in : Option (List ℕ)) (answer : Raised)
+    : Type 0 where
   pub plan : IsHandedIn inst given handed_in
-  pub is : IsRaised inst handed_in cert turns answer
+  pub is : IsRaised inst handed_in cert turns part answer
   pub checkable : IsCheckableBy refined_kind limits inst answer.cert
   pub spent : (answer.splits ≡ turns) ⊎ IsLeastScore inst answer.cert.bound
+      ⊎ LeavesTheRest inst handed_in cert turns part answer is
   pub enough : AreEnough inst turns → IsLeastScore inst answer.cert.bound
+      ⊎ LeavesTheRest inst handed_in cert turns part answer is
   pub within : length (refined_text inst answer.cert) ≤ limits.certificate_bytes
 
 -- Its text has more bytes than certificate files may have.
 pub record IsTooLong (limits : Limits) (inst : Tables) (given : Option (List (Option ℕ)))
-    (cert : Option RefinedCertificate) (turns : ℕ) (handed_in : Option (List ℕ)) (answer : Raised) : Type 0 where
+    (cert : Option RefinedCertificate) (turns : ℕ) (part : Part) (handed_in : Option (List ℕ)) (answer : Raised)
+    : Type 0 where
   pub plan : IsHandedIn inst given handed_in
-  pub is : IsRaised inst handed_in cert turns answer
+  pub is : IsRaised inst handed_in cert turns part answer
   pub long : limits.certificate_bytes < length (refined_text inst answer.cert)
 
 -- to an instance, a plan if one is given, and a certificate if one is: 12 where the text of the certificate that is made
 -- is too long; else that text as a file, with 10 where the bound is none, and 0 where it is a number
 pub data RaisesBound (limits : Limits) (inst : Tables) (given : Option (List (Option ℕ))) (out : List ℕ) (turns : ℕ)
+    (part : Part)
     (cert : Option RefinedCertificate) : Answer → Type 0 where
-  raised : (handed_in : Option (List ℕ)) (answer : Raised) → IsBounded limits inst given cert turns handed_in answer
-      → RaisesBound limits inst given out turns cert (record {
+  raised : (handed_in : Option (List ℕ)) (answer : Raised)
+      → IsBounded limits inst given cert turns part handed_in answer
+      → RaisesBound limits inst given out turns part cert (record {
         status = bound_status answer.cert.bound;
         text = bound_report inst handed_in answer;
         writes = out_write inst out answer.cert ∷ [];
       })
-  too_long : (handed_in : Option (List ℕ)) (answer : Raised) → IsTooLong limits inst given cert turns handed_in answer
-      → RaisesBound limits inst given out turns cert (reply 12 (long_output_line 5))
+  too_long : (handed_in : Option (List ℕ)) (answer : Raised)
+      → IsTooLong limits inst given cert turns part handed_in answer
+      → RaisesBound limits inst given out turns part cert (reply 12 (long_output_line 5))
 
 -- to the files, with a slack in 10^-12: the instance is word 2, the plan word 3, the certificate word 4, and what is
 -- written word 5
 abbrev pub AnswersBound : Limits → Meeting → ℕ → (instance : List ℕ) → (plan cert : Option (List ℕ)) → (out : List ℕ)
-    → (turns : ℕ) → Answer → Type 0
-AnswersBound limits met slack instance plan cert out turns = OnInstance limits slack met 2 instance
+    → (turns : ℕ) (part : Part) → Answer → Type 0
+AnswersBound limits met slack instance plan cert out turns part = OnInstance limits slack met 2 instance
     (λ inst. OnGiven limits inst met 3 plan
-    (λ given. OnGivenCertificateBy refined_kind.texts limits inst met 4 cert (RaisesBound limits inst given out turns)))
+    (λ given. OnGivenCertificateBy refined_kind.texts limits inst met 4 cert
+    (RaisesBound limits inst given out turns part)))
 
 -- what is due, once the desk shows `at`
-abbrev pub DueBound : Limits → Source → (plan cert : Option (List ℕ)) → (out : List ℕ) → (turns : ℕ) → (old at : Shown)
+abbrev pub DueBound : Limits → Source → (plan cert : Option (List ℕ)) → (out : List ℕ) → (turns : ℕ) (part : Part)
+    → (old at : Shown)
     → Answer → Type 0
-DueBound limits source plan cert out turns old at =
-    OrMemory (AnswersBound limits (reading old at) source.slack source.instance plan cert out turns)
+DueBound limits source plan cert out turns part old at =
+    OrMemory (AnswersBound limits (reading old at) source.slack source.instance plan cert out turns part)
 
 -- ---- what stands behind each status
 
@@ -139,19 +157,22 @@ pub record ReadsBound (limits : Limits) (source : Source) (name cert_name : Opti
 
 -- The files were read, a certificate that is made of them was written, and the report was said. Every plan that keeps
 -- the rules has a score of at least its bound, or where that is none, no plan keeps the rules; and `check` with the same
--- instance and slack accepts what was written. Exactly these turns were spent, or the bound is the least score; and where
--- they are enough for all plans it is.
-pub record WritesBound (limits : Limits) (source : Source) (name cert_name : Option (List ℕ)) (out : List ℕ) (turns : ℕ)
+-- instance and slack accepts what was written. Exactly these turns were spent, or the bound is the least score, or what
+-- is left is left to other parts; and where they are enough for all plans it is one of these two.
+pub record WritesBound (limits : Limits) (source : Source) (name cert_name : Option (List ℕ)) (out : List ℕ)
+    (turns : ℕ) (part : Part)
     (bound : Bound) (old new : Shown) : Type 0 where
   pub files : ReadsBound limits source name cert_name old
   pub handed_in : Option (List ℕ)
   pub plan : IsHandedIn files.inst files.plan handed_in
   pub answer : Raised
-  pub is : IsRaised files.inst handed_in files.cert turns answer
+  pub is : IsRaised files.inst handed_in files.cert turns part answer
   pub bound_is : answer.cert.bound ≡ bound
   pub bounds : BoundsEveryPlan files.inst bound
   pub spent : (answer.splits ≡ turns) ⊎ IsLeastScore files.inst bound
+      ⊎ LeavesTheRest files.inst handed_in files.cert turns part answer is
   pub enough : AreEnough files.inst turns → IsLeastScore files.inst bound
+      ⊎ LeavesTheRest files.inst handed_in files.cert turns part answer is
   pub within : length (refined_text files.inst answer.cert) ≤ limits.certificate_bytes
   pub held : HoldsBytes new out (refined_text files.inst answer.cert)
   pub accepted : AnswersCheckBy refined_kind limits by_bytes source.slack files.reads.bytes None
@@ -160,40 +181,42 @@ pub record WritesBound (limits : Limits) (source : Source) (name cert_name : Opt
 
 -- 12: the files were read, and the text of the certificate that is made of them is longer than the limit of certificate
 -- files
-pub record RefusesLong (limits : Limits) (source : Source) (name cert_name : Option (List ℕ)) (turns : ℕ)
+pub record RefusesLong (limits : Limits) (source : Source) (name cert_name : Option (List ℕ)) (turns : ℕ) (part : Part)
     (old new : Shown) : Type 0 where
   pub files : ReadsBound limits source name cert_name old
   pub handed_in : Option (List ℕ)
   pub plan : IsHandedIn files.inst files.plan handed_in
   pub answer : Raised
-  pub is : IsRaised files.inst handed_in files.cert turns answer
+  pub is : IsRaised files.inst handed_in files.cert turns part answer
   pub long : limits.certificate_bytes < length (refined_text files.inst answer.cert)
   pub says : Says (long_output_line 5) old new
 
 pub data BehindBound (limits : Limits) (source : Source) (name cert_name : Option (List ℕ)) (out : List ℕ) (turns : ℕ)
+    (part : Part)
     (old new : Shown) : ℕ → Type 0 where
   -- 0: the bound is a number; 10: it is none
-  bounded : (b : ℤ) → WritesBound limits source name cert_name out turns (Least b) old new
-      → BehindBound limits source name cert_name out turns old new 0
-  no_plan_exists : WritesBound limits source name cert_name out turns NoPlan old new
-      → BehindBound limits source name cert_name out turns old new 10
-  too_long : RefusesLong limits source name cert_name turns old new
-      → BehindBound limits source name cert_name out turns old new 12
+  bounded : (b : ℤ) → WritesBound limits source name cert_name out turns part (Least b) old new
+      → BehindBound limits source name cert_name out turns part old new 0
+  no_plan_exists : WritesBound limits source name cert_name out turns part NoPlan old new
+      → BehindBound limits source name cert_name out turns part old new 10
+  too_long : RefusesLong limits source name cert_name turns part old new
+      → BehindBound limits source name cert_name out turns part old new 12
   refused_instance : SaysRefusal source.instance (RefusesInstance limits) old new
-      → BehindBound limits source name cert_name out turns old new 3
+      → BehindBound limits source name cert_name out turns part old new 3
   refused_plan : (plan : List ℕ) (inst : Tables) → name ≡ Some plan → ReadsInstance limits source old inst
       → SaysRefusal plan (RefusesPlan limits inst) old new
-      → BehindBound limits source name cert_name out turns old new 4
+      → BehindBound limits source name cert_name out turns part old new 4
   refused_certificate : (cert : List ℕ) (inst : Tables) (plan : Option (List (Option ℕ))) → cert_name ≡ Some cert
       → ReadsInstance limits source old inst → ReadsGiven limits name inst old plan
       → SaysRefusal cert (RefusesCertificateBy refined_kind.texts limits inst) old new
-      → BehindBound limits source name cert_name out turns old new 5
-  unread_instance : SaysUnread 2 source.instance old new → BehindBound limits source name cert_name out turns old new 7
+      → BehindBound limits source name cert_name out turns part old new 5
+  unread_instance : SaysUnread 2 source.instance old new
+      → BehindBound limits source name cert_name out turns part old new 7
   unread_plan : (plan : List ℕ) (inst : Tables) → name ≡ Some plan → ReadsInstance limits source old inst
-      → SaysUnread 3 plan old new → BehindBound limits source name cert_name out turns old new 7
+      → SaysUnread 3 plan old new → BehindBound limits source name cert_name out turns part old new 7
   unread_certificate : (cert : List ℕ) (inst : Tables) (plan : Option (List (Option ℕ))) → cert_name ≡ Some cert
       → ReadsInstance limits source old inst → ReadsGiven limits name inst old plan → SaysUnread 4 cert old new
-      → BehindBound limits source name cert_name out turns old new 7
+      → BehindBound limits source name cert_name out turns part old new 7
 
 -- ---- which status comes, from what the files are told to hold
 
@@ -229,14 +252,15 @@ pub record TellsBoundFiles (limits : Limits) (old : Shown) (source : Source) (na
   pub cert : TellsGivenCertificateBy refined_kind.texts limits old cert_name files.inst files.cert
 
 -- where all are there, and the text that is made isn't too long: 0 where a plan keeps every rule; and with turns for all
--- plans 10 where none does
-pub data ExpectsMade (limits : Limits) (source : Source) (name cert_name : Option (List ℕ)) (turns : ℕ) (old : Shown)
+-- plans, and one part alone, 10 where none does
+pub data ExpectsMade (limits : Limits) (source : Source) (name cert_name : Option (List ℕ)) (turns : ℕ) (part : Part)
+    (old : Shown)
     : ℕ → Type 0 where
   a_plan : (files : BoundFiles) (plan : List (Option ℕ)) → TellsBoundFiles limits old source name cert_name files
-      → IsKeptPlan files.inst plan → ExpectsMade limits source name cert_name turns old 0
+      → IsKeptPlan files.inst plan → ExpectsMade limits source name cert_name turns part old 0
   none_keeps : (files : BoundFiles) → TellsBoundFiles limits old source name cert_name files
-      → ((plan : List (Option ℕ)) → IsKeptPlan files.inst plan → ⊥) → AreEnough files.inst turns
-      → ExpectsMade limits source name cert_name turns old 10
+      → ((plan : List (Option ℕ)) → IsKeptPlan files.inst plan → ⊥) → part.count ≡ 1 → AreEnough files.inst turns
+      → ExpectsMade limits source name cert_name turns part old 10
 
 -- ---- what a run promises
 
@@ -245,20 +269,21 @@ abbrev pub OpensBound : ℕ → Type 0
 OpensBound status = IsOneOf (0 ∷ 8 ∷ 10 ∷ []) status
 
 pub record RunsBound (limits : Limits) (source : Source) (name cert_name : Option (List ℕ)) (out : List ℕ) (turns : ℕ)
+    (part : Part)
     (old new : Shown) (status : ℕ) : Type 0 where
   -- what was due was written and said, or the writing or saying failed
-  pub ends : Ends (DueBound limits source name cert_name out turns old) old new status
+  pub ends : Ends (DueBound limits source name cert_name out turns part old) old new status
   -- what stands behind the status, which also is one of these
-  pub behind : Behind (BehindBound limits source name cert_name out turns old new)
-      (DueBound limits source name cert_name out turns old) old new status
+  pub behind : Behind (BehindBound limits source name cert_name out turns part old new)
+      (DueBound limits source name cert_name out turns part old) old new status
   -- which status comes
   pub allowed : (expected : ℕ) → ExpectsBound limits source name cert_name old expected → IsAllowed expected status
-  pub made : (expected : ℕ) → ExpectsMade limits source name cert_name turns old expected
+  pub made : (expected : ℕ) → ExpectsMade limits source name cert_name turns part old expected
       → (status ≡ 12) ⊎ IsAllowed expected status
   -- without a fault, the answer is one of those for the bytes of the files, or want of memory
   pub exact : (instance : List ℕ) (plan cert : Option (List ℕ)) → TellsBytes old source.instance instance
       → TellsGivenBytes old name plan → TellsGivenBytes old cert_name cert → NoFault old new
-      → IsAnswered (AnswersBound limits by_bytes source.slack instance plan cert out turns) old new status
+      → IsAnswered (AnswersBound limits by_bytes source.slack instance plan cert out turns part) old new status
   -- no file is changed but that of the certificate, and that only with these statuses
   pub others : KeepsAllBut out old new
   pub unopened : (OpensBound status → ⊥) → new.output ≡ old.output

@@ -5,6 +5,7 @@ use Rattle.plan_desk.specs.Contents.{KeepsFiles}
 use Rattle.instance_model.specs.declared.limits.Limits.{Limits}
 use Rattle.instance_model.specs.Tables.{Tables}
 use Rattle.instance_model.specs.Values.{score_of}
+use Rattle.branch_search.specs.declared.part.Part.{Part}
 use Rattle.branch_search.specs.Best.{IsFeasiblePlan}
 use Rattle.refined_certificate.specs.declared.certificate.RefinedCertificate.{RefinedCertificate}
 use Rattle.refined_certificate.specs.Ranges.{IsRefinedInRange}
@@ -48,17 +49,19 @@ pub record IsChosen (inst : Tables) (given : Option (List (Option ℕ))) (chosen
 
 -- a certificate that is made, and the report on it
 pub record IsMade (inst : Tables) (given : Option (List (Option ℕ))) (cert : Option RefinedCertificate) (turns : ℕ)
+    (part : Part)
     (made : Made) : Type 0 where
   pub handed_in : Option (List ℕ)
   pub plan : IsHandedIn inst given handed_in
-  pub is : IsRaised inst handed_in cert turns made.raised
+  pub is : IsRaised inst handed_in cert turns part made.raised
   pub acceptable : ValidWithinIsAcceptableBy refined_kind inst
   pub report : IsReport (bound_status made.raised.cert.bound) (bound_report inst handed_in made.raised) made.report
 
 -- an answer was told, or memory ran out before the file was opened
 pub data TellsBound (limits : Limits) (inst : Tables) (given : Option (List (Option ℕ))) (out : List ℕ) (turns : ℕ)
+    (part : Part)
     (cert : Option RefinedCertificate) (old new : Shown) (status : ℕ) : Type 0 where
-  told : (a : Answer) → RaisesBound limits inst given out turns cert a → TellsAnswer a old new status
-      → TellsBound limits inst given out turns cert old new status
+  told : (a : Answer) → RaisesBound limits inst given out turns part cert a → TellsAnswer a old new status
+      → TellsBound limits inst given out turns part cert old new status
   no_memory : KeepsFiles old new → SaysOrFails 11 memory_line old new status
-      → TellsBound limits inst given out turns cert old new status
+      → TellsBound limits inst given out turns part cert old new status

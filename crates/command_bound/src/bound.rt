@@ -1,8 +1,9 @@
 //! The command `bound`: the files are read, a certificate is made and written, and the report is said.
-ghost use Rattle.std.specs.Prelude.{◌≡◌, ◌≤◌, ℕ, List, option_copied, IfSome, IfOk, IfErr, OnOk, length};
+ghost use Rattle.std.specs.Prelude.{◌≡◌, ◌<◌, ◌≤◌, ℕ, List, option_copied, IfSome, IfOk, IfErr, OnOk, length};
 ghost use Rattle.instance_model.specs.Limits.{standard_limits};
 ghost use Rattle.instance_shape.specs.Ranges.{AreStandard};
 ghost use Rattle.plan_desk.specs.Contents.{OnlyReads};
+ghost use Rattle.branch_search.specs.declared.part.Part.{Part};
 ghost use Rattle.refined_certificate.specs.Ranges.{IsRefinedInRange};
 ghost use Rattle.command_frame.specs.Sources.{source_view};
 ghost use Rattle.command_frame.specs.Files.{reading};
@@ -12,6 +13,7 @@ ghost use Rattle.command_bound.specs.Made.{AreRead, IsMade, TellsBound};
 
 use crate::given::given_certificate_of;
 use crate::making::{Made, make};
+use branch_search::Part;
 use command_frame::{
     FileCertificate, MEMORY_LINE, Refusal, Source, WRITE_WORDS, given_plan_of, instance_of,
     put_certificate, refuse, refuse_long, say, say_numbered,
@@ -32,7 +34,8 @@ struct Files {
 }
 
 /// Reads the instance, then the plan if one is given, then the certificate of any version if one is, makes a certificate
-/// by refined price lists with so many turns, writes it to the file of this name, and says the report.
+/// by refined price lists with so many turns for the leaves of this part of its tree, writes it to the file of this
+/// name, and says the report.
 ///
 /// The instance file is word 2, the plan word 3, the certificate word 4, and the file that is written word 5. No memory
 /// is taken once it is opened.
@@ -44,16 +47,18 @@ pub fn bound_files<D: Desk>(
     certificate: Option<&str>,
     out: &str,
     turns: u32,
+    part: Part,
     desk: &mut D,
 ) -> u8
     requires standard { AreStandard limits.now }
     requires bytes { limits.now.certificate_bytes ≤ standard_limits.certificate_bytes }
     requires small { source.now.slack ≤ 1_000_000_000 }
+    requires part { part.number < part.count }
     ensures { RunsBound limits.now (source_view source.now) (option_copied plan.entry)
-        (option_copied certificate.entry) out.now turns (D.shows desk.old) (D.shows desk.new) result }
+        (option_copied certificate.entry) out.now turns part (D.shows desk.old) (D.shows desk.new) result }
 {
     match read_files(alloc, limits, source, plan, certificate, desk) {
-        Ok(files) => bound_read(alloc, limits, &files, out, turns, desk),
+        Ok(files) => bound_read(alloc, limits, &files, out, turns, part, desk),
         Err(refusal) => refuse(alloc, desk, &refusal),
     }
 }
@@ -71,9 +76,9 @@ fn read_files<D: Desk>(
     requires small { source.now.slack ≤ 1_000_000_000 }
     ensures ok { IfOk result (λ files. AreRead limits.now (source_view source.now) (option_copied plan.entry)
         (option_copied certificate.entry) (D.shows desk.old) files.inst files.plan files.cert) }
-    ensures err { IfErr result (λ refusal. (out : List ℕ) (turns : ℕ) → IsDueAs
+    ensures err { IfErr result (λ refusal. (out : List ℕ) (turns : ℕ) (part : Part) → IsDueAs
         (AnswersBound limits.now (reading (D.shows desk.old) (D.shows desk.new)) source.now.slack
-        source.now.instance.now (option_copied plan.entry) (option_copied certificate.entry) out turns) refusal) }
+        source.now.instance.now (option_copied plan.entry) (option_copied certificate.entry) out turns part) refusal) }
     ensures faults { OnOk result ((D.shows desk.new).faults ≡ (D.shows desk.old).faults) }
     ensures kept { IfErr result (CountsRefusal (D.shows desk.old) (D.shows desk.new)) }
     ensures only_reads { OnlyReads (D.shows desk.old) (D.shows desk.new) }
@@ -91,16 +96,18 @@ fn bound_read<D: Desk>(
     files: &Files,
     out: &str,
     turns: u32,
+    part: Part,
     desk: &mut D,
 ) -> u8
     requires bytes { limits.now.certificate_bytes ≤ standard_limits.certificate_bytes }
     requires plan { IfSome files.now.plan (λ p. length p ≡ length files.now.inst.names) }
     requires cert { IfSome files.now.cert (IsRefinedInRange files.now.inst) }
-    ensures { TellsBound limits.now files.now.inst files.now.plan out.now turns files.now.cert (D.shows desk.old)
+    requires part { part.number < part.count }
+    ensures { TellsBound limits.now files.now.inst files.now.plan out.now turns part files.now.cert (D.shows desk.old)
         (D.shows desk.new) result }
 {
-    match make(alloc, &files.inst, &files.plan, &files.cert, turns) {
-        Ok(made) => tell(limits, files, made, out, turns, desk),
+    match make(alloc, &files.inst, &files.plan, &files.cert, turns, part) {
+        Ok(made) => tell(limits, files, made, out, turns, part, desk),
         Err(_) => say(desk, 11, MEMORY_LINE.as_bytes()),
     }
 }
@@ -112,11 +119,12 @@ fn tell<D: Desk>(
     made: Made,
     out: &str,
     turns: u32,
+    part: Part,
     desk: &mut D,
 ) -> u8
     requires bytes { limits.now.certificate_bytes ≤ standard_limits.certificate_bytes }
-    requires made { IsMade files.now.inst files.now.plan files.now.cert turns made }
-    ensures { TellsBound limits.now files.now.inst files.now.plan out.now turns files.now.cert (D.shows desk.old)
+    requires made { IsMade files.now.inst files.now.plan files.now.cert turns part made }
+    ensures { TellsBound limits.now files.now.inst files.now.plan out.now turns part files.now.cert (D.shows desk.old)
         (D.shows desk.new) result }
 {
     let Made { raised, report } = made;

@@ -8,6 +8,7 @@ ghost use Rattle.command_bound.specs.Bounding.{counts_text, bound_status};
 ghost use Rattle.command_bound.specs.Made.{starts_of, IsMade};
 
 use crate::incumbent::{Incumbent, incumbent_of};
+use branch_search::Part;
 use certificate_read::Bound;
 use command_answers::valid_is_accepted;
 use command_frame::{Report, Text, push_bound_or_none, push_gap, push_numbered, push_rounded};
@@ -55,21 +56,24 @@ fn given_in(cert: &Option<VersionedCertificate>) -> Option<&RefinedCertificate>
     }
 }
 
-/// Makes a certificate of an instance, a plan if one is given, and a certificate if one is, with so many turns.
+/// Makes a certificate of an instance, a plan if one is given, and a certificate if one is, with so many turns
+/// for the leaves of this part of its tree.
 pub(crate) fn make(
     alloc: Global,
     inst: &Instance,
     plan: &Option<Plan>,
     cert: &Option<VersionedCertificate>,
     turns: u32,
+    part: Part,
 ) -> Result<Made, AllocError>
     requires plan { IfSome plan.now (λ p. length p ≡ length inst.now.names) }
     requires cert { IfSome cert.now (IsRefinedInRange inst.now) }
-    ensures { IfOk result (IsMade inst.now plan.now cert.now turns) }
+    requires part { part.number < part.count }
+    ensures { IfOk result (IsMade inst.now plan.now cert.now turns part) }
 {
     valid_is_accepted::<VersionedCertificate>(inst);
     let chosen = incumbent_of(alloc, inst, plan)?;
-    let raised = raise_bound(alloc, inst, handed_in(&chosen), given_in(cert), turns)?;
+    let raised = raise_bound(alloc, inst, handed_in(&chosen), given_in(cert), turns, part)?;
     let text = report_on(alloc, inst, score_in(&chosen), &raised)?;
     let status = status_of(raised.cert.bound);
     Ok(Made {

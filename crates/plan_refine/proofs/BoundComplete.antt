@@ -6,6 +6,7 @@ use Rattle.instance_model.specs.Limits.{standard_limits}
 use Rattle.instance_model.specs.Tables.{Tables}
 use Rattle.certificate_lines.specs.declared.line.Bound.{Bound}
 use Rattle.certificate_lines.specs.declared.line.Bound.TheVariants.{NoPlan, Least}
+use Rattle.branch_search.specs.declared.part.Part.{Part}
 use Rattle.refined_certificate.specs.declared.certificate.RefinedCertificate.{RefinedCertificate}
 use Rattle.refined_files.specs.RefinedKind.{refined_kind}
 use Rattle.command_frame.specs.Sources.{Source}
@@ -60,35 +61,35 @@ status_of : (bound : Bound) → IsOneOf (0 ∷ 10 ∷ 12 ∷ []) (bound_status b
 status_of (Least b) = inl refl
 status_of NoPlan = inr (inl refl)
 
-statuses : (inst : Tables) (given : Option (List (Option ℕ))) (out : List ℕ) (turns : ℕ)
-    (cert : Option RefinedCertificate) (a : Answer) → RaisesBound standard_limits inst given out turns cert a
+statuses : (inst : Tables) (given : Option (List (Option ℕ))) (out : List ℕ) (turns : ℕ) (part : Part)
+    (cert : Option RefinedCertificate) (a : Answer) → RaisesBound standard_limits inst given out turns part cert a
     → IsOneOf (0 ∷ 10 ∷ 12 ∷ []) a.status
-statuses inst given out turns cert a (raised handed_in answer is) = status_of answer.cert.bound
-statuses inst given out turns cert a (too_long handed_in answer is) = inr (inr (inl refl))
+statuses inst given out turns part cert a (raised handed_in answer is) = status_of answer.cert.bound
+statuses inst given out turns part cert a (too_long handed_in answer is) = inr (inr (inl refl))
 
 -- ---- a run
 
-pub bound_completes : (source : Source) (name cert_name : Option (List ℕ)) (out : List ℕ) (turns : ℕ)
+pub bound_completes : (source : Source) (name cert_name : Option (List ℕ)) (out : List ℕ) (turns : ℕ) (part : Part)
     (files : BoundFiles) (old new : Shown) (status : ℕ)
-    → RunsBound standard_limits source name cert_name out turns old new status
+    → RunsBound standard_limits source name cert_name out turns part old new status
     → TellsBoundFiles standard_limits old source name cert_name files → NoFault old new
-    → Completes (0 ∷ 10 ∷ 12 ∷ []) (RaisesBound standard_limits files.inst files.plan out turns files.cert) old new
+    → Completes (0 ∷ 10 ∷ 12 ∷ []) (RaisesBound standard_limits files.inst files.plan out turns part files.cert) old new
     status
-bound_completes source name cert_name out turns files old new status run tells calm =
+bound_completes source name cert_name out turns part files old new status run tells calm =
     let i = told_instance standard_limits old source files.inst tells.instance in
     let p = told_given standard_limits old name files.inst files.plan tells.plan in
     let c = told old cert_name files.inst files.cert tells.cert in
     completes (0 ∷ 10 ∷ 12 ∷ [])
-    (AnswersBound standard_limits by_bytes source.slack i.bytes p.bytes c.bytes out turns)
-    (RaisesBound standard_limits files.inst files.plan out turns files.cert) old new status
-    (λ a due. on_told files.inst c.bytes files.cert (RaisesBound standard_limits files.inst files.plan out turns) a
+    (AnswersBound standard_limits by_bytes source.slack i.bytes p.bytes c.bytes out turns part)
+    (RaisesBound standard_limits files.inst files.plan out turns part files.cert) old new status
+    (λ a due. on_told files.inst c.bytes files.cert (RaisesBound standard_limits files.inst files.plan out turns part) a
     c.such
     (on_given standard_limits files.inst 3 p.bytes files.plan
     (λ q. OnGivenCertificateBy refined_kind.texts standard_limits files.inst by_bytes 4 c.bytes
-    (RaisesBound standard_limits files.inst q out turns)) a p.such
+    (RaisesBound standard_limits files.inst q out turns part)) a p.such
     (on_instance standard_limits source.slack 2 i.bytes files.inst
     (λ x. OnGiven standard_limits x by_bytes 3 p.bytes
     (λ q. OnGivenCertificateBy refined_kind.texts standard_limits x by_bytes 4 c.bytes
-    (RaisesBound standard_limits x q out turns))) a i.such due)))
-    (statuses files.inst files.plan out turns files.cert)
+    (RaisesBound standard_limits x q out turns part))) a i.such due)))
+    (statuses files.inst files.plan out turns part files.cert)
     (run.exact i.bytes p.bytes c.bytes i.tells p.tells c.tells calm)

@@ -21,9 +21,9 @@ runs_complete words old new status run calm =
       rebounds = λ source cert_name out inst cert asks tells tells_cert.
           rebound_completes refined_kind standard_limits source cert_name out inst cert old new status
           (run.rebounds source cert_name out asks) tells tells_cert calm;
-      bounds = λ source name cert_name out turns files asks tells.
-          bound_completes source name cert_name out turns files old new status
-          (run.bounds source name cert_name out turns asks) tells calm;
+      bounds = λ source name cert_name out turns part files asks tells.
+          bound_completes source name cert_name out turns part files old new status
+          (run.bounds source name cert_name out turns part asks) tells calm;
       improves = λ source name out turns seed inst plan asks tells.
           improve_completes standard_limits source name out turns seed inst plan old new status
           (run.improves source name out turns seed asks) tells calm;

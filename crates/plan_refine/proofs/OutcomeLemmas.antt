@@ -56,7 +56,8 @@ outcome_refused words old new status none keeps says =
       no_command = λ is. run;
       checks = λ source plan cert asks. absurd (apart words (check source plan cert) none asks);
       rebounds = λ source cert out asks. absurd (apart words (rebound source cert out) none asks);
-      bounds = λ source plan cert out turns asks. absurd (apart words (bound source plan cert out turns) none asks);
+      bounds = λ source plan cert out turns part asks. absurd
+          (apart words (bound source plan cert out turns part) none asks);
       improves = λ source plan out turns seed asks.
           absurd (apart words (improve source plan out turns seed) none asks);
       quiet = run.quiet;

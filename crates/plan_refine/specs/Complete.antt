@@ -8,6 +8,7 @@ use Rattle.std.specs.Prelude.{ℕ, List, [], ◌∷◌, Option}
 use Rattle.plan_desk.specs.Desk.{Shown}
 use Rattle.instance_model.specs.Limits.{standard_limits}
 use Rattle.instance_model.specs.Tables.{Tables}
+use Rattle.branch_search.specs.declared.part.Part.{Part}
 use Rattle.refined_certificate.specs.declared.certificate.RefinedCertificate.{RefinedCertificate}
 use Rattle.refined_files.specs.RefinedKind.{refined_kind}
 use Rattle.command_frame.specs.Sources.{Source}
@@ -36,10 +37,11 @@ pub record IsComplete (words : List (List ℕ)) (old new : Shown) (status : ℕ)
       → Completes (0 ∷ 12 ∷ []) (RebindsBy refined_kind standard_limits inst out cert) old new status
   -- 0: the certificate is written, and its bound is a number. 10: it is written, and there is no plan. 12: its text is
   -- too long.
-  pub bounds : (source : Source) (name cert_name : Option (List ℕ)) (out : List ℕ) (turns : ℕ) (files : BoundFiles)
-      → Asks words (bound source name cert_name out turns)
+  pub bounds : (source : Source) (name cert_name : Option (List ℕ)) (out : List ℕ) (turns : ℕ) (part : Part)
+      (files : BoundFiles)
+      → Asks words (bound source name cert_name out turns part)
       → TellsBoundFiles standard_limits old source name cert_name files
-      → Completes (0 ∷ 10 ∷ 12 ∷ []) (RaisesBound standard_limits files.inst files.plan out turns files.cert)
+      → Completes (0 ∷ 10 ∷ 12 ∷ []) (RaisesBound standard_limits files.inst files.plan out turns part files.cert)
       old new status
   -- 0: a plan is written that keeps every rule. 9: none was found, and nothing is written. 10: an intervention has no
   -- allowed start, and nothing is written.

@@ -5,6 +5,7 @@ use Rattle.std.specs.Prelude.{◌≡◌, ℕ, List, Option, Some, None}
 use Rattle.plan_desk.specs.Desk.{Shown}
 use Rattle.plan_desk.specs.Contents.{Says}
 use Rattle.instance_model.specs.Limits.{standard_limits}
+use Rattle.branch_search.specs.declared.part.Part.{Part}
 use Rattle.command_frame.specs.Sources.{Source}
 use Rattle.command_frame.specs.Lines.{words_line}
 use Rattle.command_frame.specs.Ending.{Answer, reply, IsQuiet, IsUnsaid, Ends}
@@ -44,9 +45,9 @@ pub record Outcome (words : List (List ℕ)) (old new : Shown) (status : ℕ) : 
       → RunsCheckBy refined_kind standard_limits source plan cert old new status
   pub rebounds : (source : Source) (cert out : List ℕ) → Asks words (rebound source cert out)
       → RunsReboundBy refined_kind standard_limits source cert out old new status
-  pub bounds : (source : Source) (plan cert : Option (List ℕ)) (out : List ℕ) (turns : ℕ)
-      → Asks words (bound source plan cert out turns)
-      → RunsBound standard_limits source plan cert out turns old new status
+  pub bounds : (source : Source) (plan cert : Option (List ℕ)) (out : List ℕ) (turns : ℕ) (part : Part)
+      → Asks words (bound source plan cert out turns part)
+      → RunsBound standard_limits source plan cert out turns part old new status
   pub improves : (source : Source) (plan : Option (List ℕ)) (out : List ℕ) (turns seed : ℕ)
       → Asks words (improve source plan out turns seed)
       → RunsImprove standard_limits source plan out turns seed old new status

@@ -1,6 +1,9 @@
 -- The command line. A word is the list of its bytes; words count from 1, and word 1 is the name of the command.
-use Rattle.std.specs.Prelude.{◌≡◌, ℕ, List, [], ◌∷◌, codes, bytes_eq, ◌&&◌, Option, Some, None, option_map}
-use Rattle.std.specs.Prelude.{if◌then◌else◌}
+use Rattle.std.specs.Prelude.{◌≡◌, ℕ, List, [], ◌∷◌, length, codes, bytes_eq, nat_lt, ◌==◌, ◌&&◌, Option, Some, None}
+use Rattle.std.specs.Prelude.{option_map, if◌then◌else◌}
+use Rattle.std.specs.List.{position_or_len, before_first, after_first}
+use Rattle.branch_search.specs.declared.part.Part.{Part}
+use Rattle.branch_search.specs.Parts.{whole_part}
 use Rattle.command_words.specs.Files.{is_file_word, are_file_words, given_of, are_apart}
 use Rattle.command_words.specs.Numbers.{turns_of, seed_of}
 use Rattle.command_words.specs.Ends.{source_of}
@@ -9,12 +12,13 @@ use Rattle.command_frame.specs.Sources.{Source}
 
 -- What a command line asks for, with the names of its files. A check has its plan as word 3, if it has one, and its
 -- certificate as word 4. What is rebound has its certificate as word 3, and is written to word 4. A bound has a plan as
--- word 3 and a certificate that it goes on with as word 4, each if it has one, and is written to word 5. An improvement
--- has its plan as word 3, if it has one, and is written to word 4.
+-- word 3 and a certificate that it goes on with as word 4, each if it has one, and is written to word 5. It splits the
+-- leaves of one part of that certificate. An improvement has its plan as word 3, if it has one, and is written to
+-- word 4.
 pub data Command : Type 0 where
   check : (source : Source) (plan : Option (List ℕ)) (certificate : List ℕ) → Command
   rebound : (source : Source) (certificate out : List ℕ) → Command
-  bound : (source : Source) (plan certificate : Option (List ℕ)) (out : List ℕ) (turns : ℕ) → Command
+  bound : (source : Source) (plan certificate : Option (List ℕ)) (out : List ℕ) (turns : ℕ) (part : Part) → Command
   improve : (source : Source) (plan : Option (List ℕ)) (out : List ℕ) (turns seed : ℕ) → Command
 
 -- ---- the words of each command behind its name; `end` is one word `slack=D`, or none
@@ -44,14 +48,59 @@ with_given (Some name) names = name ∷ names
 abbrev pub bound_names : (instance : List ℕ) → (plan cert : Option (List ℕ)) → (out : List ℕ) → List (List ℕ)
 bound_names instance plan cert out = instance ∷ with_given plan (with_given cert (out ∷ []))
 
+-- part K of N, where K is below N
+abbrev pub part_from : (number count : Option ℕ) → Option Part
+part_from (Some k) (Some n) = if nat_lt k n then Some (record { number = k; count = n }) else None
+part_from number count = None
+
+-- the texts before the first byte of a kind and behind it
+abbrev pub halves : ℕ → List ℕ → Option (List ℕ × List ℕ)
+halves c text =
+    if nat_lt (position_or_len (λ b. b == c) text) (length text)
+    then Some (before_first (λ b. b == c) text, after_first (λ b. b == c) text)
+    else None
+
+-- `K/N`: two numerals as those of turns
+abbrev pub part_in : Option (List ℕ × List ℕ) → Option Part
+part_in None = None
+part_in (Some (number, count)) = part_from (turns_of number) (turns_of count)
+
+-- behind `part`, which stands before the first `=` (byte 61), one number, a slash (byte 47) and the other
+abbrev pub named_part : Option (List ℕ × List ℕ) → Option Part
+named_part None = None
+named_part (Some (name, numbers)) = if bytes_eq name (codes "part") then part_in (halves 47 numbers) else None
+
+-- a word `part=K/N`
+unfoldable pub part_of : List ℕ → Option Part
+part_of word = named_part (halves 61 word)
+
+-- one word alone says the part, or else the slack
+abbrev pub one_end : List ℕ → Option Part → List (List ℕ) × Part
+one_end word None = (word ∷ [], whole_part)
+one_end word (Some part) = ([], part)
+
+-- the words behind all others, without the last one where that says the part, and the part: the whole tree where none
+-- is said
+abbrev pub split_end : List (List ℕ) → Option (List (List ℕ) × Part)
+split_end [] = Some ([], whole_part)
+split_end (word ∷ []) = Some (one_end word (part_of word))
+split_end (slack ∷ word ∷ []) = option_map (λ part. (slack ∷ [], part)) (part_of word)
+split_end words = None
+
+-- the bound of these words
+abbrev pub bound_by : (instance : List ℕ) → (plan cert : Option (List ℕ)) → (out turns : List ℕ)
+    → Option (List (List ℕ) × Part) → Option Command
+bound_by instance plan cert out turns None = None
+bound_by instance plan cert out turns (Some (end, part)) =
+    of_both (λ source count. bound source plan cert out count part) (source_of instance end) (turns_of turns)
+
 -- `bound INSTANCE PLAN CERTIFICATE OUT TURNS`, where PLAN and CERTIFICATE may be `-`, for none; the names of the files
--- that are given differ
+-- that are given differ. Behind `end` may stand one word `part=K/N`.
 abbrev pub bound_of : List (List ℕ) → Option Command
 bound_of (instance ∷ plan ∷ cert ∷ out ∷ turns ∷ end) =
     if are_file_words (plan ∷ cert ∷ out ∷ [])
     && are_apart (bound_names instance (given_of plan) (given_of cert) out)
-    then of_both (λ source count. bound source (given_of plan) (given_of cert) out count) (source_of instance end)
-    (turns_of turns)
+    then bound_by instance (given_of plan) (given_of cert) out turns (split_end end)
     else None
 bound_of words = None
 

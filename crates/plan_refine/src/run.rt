@@ -1,5 +1,5 @@
 //! The top call.
-ghost use Rattle.std.specs.Prelude.{◌≤◌, map, string_bytes, option_copied};
+ghost use Rattle.std.specs.Prelude.{◌<◌, ◌≤◌, map, string_bytes, option_copied};
 ghost use Rattle.instance_model.specs.Limits.{standard_limits};
 ghost use Rattle.command_frame.specs.Sources.{source_view};
 ghost use Rattle.refined_files.specs.RefinedKind.{refined_kind};
@@ -8,6 +8,7 @@ ghost use Rattle.command_bound.specs.Bounding.{RunsBound};
 ghost use Rattle.plan_refine.specs.Outcome.{Outcome};
 
 use crate::words::{Command, command_of};
+use branch_search::Part;
 use command_bound::bound_files;
 use command_check::check_files_by;
 use command_frame::{Source, WORDS_LINE, say};
@@ -53,8 +54,9 @@ pub fn run_refine<D: Desk>(alloc: Global, words: &[String], desk: &mut D) -> u8
                 certificate,
                 out,
                 turns,
+                part,
             },
-        ) => bound_standard(alloc, &source, plan, certificate, out, turns, desk),
+        ) => bound_standard(alloc, &source, plan, certificate, out, turns, part, desk),
         Some(
             Command::Improve {
                 source,
@@ -88,15 +90,17 @@ fn bound_standard<D: Desk>(
     alloc: Global,
     source: &Source<'_>,
     plan: Option<&str>,
-    certificate: Option<&str>,
+    cert: Option<&str>,
     out: &str,
     turns: u32,
+    part: Part,
     desk: &mut D,
 ) -> u8
     requires small { source.now.slack ≤ 1_000_000_000 }
+    requires part { part.number < part.count }
     ensures { RunsBound standard_limits (source_view source.now) (option_copied plan.entry)
-        (option_copied certificate.entry) out.now turns (D.shows desk.old) (D.shows desk.new) result }
+        (option_copied cert.entry) out.now turns part (D.shows desk.old) (D.shows desk.new) result }
 {
     let limits = Limits::standard();
-    bound_files(alloc, &limits, source, plan, certificate, out, turns, desk)
+    bound_files(alloc, &limits, source, plan, cert, out, turns, part, desk)
 }

@@ -2,6 +2,7 @@
 ghost use Rattle.std.specs.Prelude.{◌≤◌};
 
 use crate::run_refine;
+use branch_search::Part;
 use command_bound::bound_files;
 use command_frame::Source;
 use command_rebound::rebound_files_by;
@@ -494,7 +495,8 @@ fn bounded(alloc: Global, bytes: u64, desk: &mut MemDesk) -> u8
         instance: "I",
         slack: 0,
     };
-    bound_files(alloc, &limits, &source, None, None, "O", 0, desk)
+    let part = Part::whole();
+    bound_files(alloc, &limits, &source, None, None, "O", 0, part, desk)
 }
 
 /// The status where the certificate C is rebound, and a certificate file may have so many bytes.
@@ -586,6 +588,16 @@ fn words_are_refused(rt: HostRuntime) -> Result<(), Fail> {
         &["bound", "I", "-", "-", "O", "01"],
         &["bound", "I", "-", "-", "O", "1000001"],
         &["bound", "I", "-", "-", "O", "1", "slack=1"],
+        &["bound", "I", "-", "-", "O", "1", "part=1/1"],
+        &["bound", "I", "-", "-", "O", "1", "part=0/0"],
+        &["bound", "I", "-", "-", "O", "1", "part=0/1000001"],
+        &["bound", "I", "-", "-", "O", "1", "part=01/2"],
+        &["bound", "I", "-", "-", "O", "1", "part=1"],
+        &["bound", "I", "-", "-", "O", "1", "part=/2"],
+        &["bound", "I", "-", "-", "O", "1", "part=0/2/3"],
+        &["bound", "I", "-", "-", "O", "1", "part=0/2", "part=0/2"],
+        &["bound", "I", "-", "-", "O", "1", "part=0/2", "slack=0"],
+        &["rebound", "I", "C", "O", "part=0/1"],
         &["bound", "I", "", "-", "O", "1"],
         &["bound", "I", "-", "-", "I", "1"],
         &["bound", "I", "I", "-", "O", "1"],

@@ -4,9 +4,11 @@ ghost use Rattle.plan_refine.specs.Words.{command_of, command_named, check_of, r
 ghost use Rattle.plan_refine.specs.Asked.{IsAsked};
 
 mod bound;
+mod ending;
 mod improve;
 
 use bound::bound_of;
+use branch_search::Part;
 use command_frame::Source;
 use command_words::{are_apart, are_file_words, given_of, source_of};
 use improve::improve_of;
@@ -27,13 +29,14 @@ pub enum Command<'a> {
         out: &'a str,
     },
     /// A bound has a plan, word 3, and a certificate that it goes on with, word 4, each if it has one; it is written to
-    /// word 5, and has turns, word 6.
+    /// word 5, and has turns, word 6, for the leaves of a part of that certificate.
     Bound {
         source: Source<'a>,
         plan: Option<&'a str>,
         certificate: Option<&'a str>,
         out: &'a str,
         turns: u32,
+        part: Part,
     },
     /// An improvement has a plan, word 3, if it has one; it is written to word 4, and has turns, word 5, and a seed,
     /// word 6.

@@ -1,13 +1,13 @@
 -- What is made is the answer: the statement, from what its steps came to.
-use Rattle.std.proofs.Common.{◌≡◌, inl, inr, ℕ, zero, suc, ◌+◌, ◌-◌, ◌*◌, ◌<◌, ◌≤◌, ◌^◌, refl, sym, ◌∙◌, ap, subst, arith}
+use Rattle.std.proofs.Common.{◌≡◌, ◌⊎◌, inl, inr, ℕ, zero, suc, ◌+◌, ◌-◌, ◌*◌, ◌<◌, ◌≤◌, ◌^◌, refl, sym, ◌∙◌, ap, subst}
+use Rattle.std.proofs.Common.{arith}
 use Rattle.std.proofs.Common.{ℤ, pos, ◌-ℤ◌, ◌≤ℤ◌, unsigned_abs, List, [], ◌++◌, length, length-append, get_or}
-use Rattle.std.proofs.Common.{Option, Some, None, IsTrue, false}
+use Rattle.std.proofs.Common.{Option, Some, None, IsTrue}
 use Rattle.std.specs.Int.{int_min}
 use Rattle.std.proofs.lemmas.Bool.{OnFalse_at, OnFalse_from}
 use Rattle.std.proofs.lemmas.List.{get_or_append_left}
 use Rattle.fixed_num.proofs.SignedLemmas.{signed_arith}
-use Rattle.instance_model.specs.Naturals.{count_product}
-use Rattle.instance_model.specs.Tables.{Tables, tmax, is_allowed}
+use Rattle.instance_model.specs.Tables.{Tables, is_allowed}
 use Rattle.instance_model.proofs.EntryLemmas.{is_allowed_facts}
 use Rattle.duration_calendar.specs.Calendar.{IsAllowedIn}
 use Rattle.instance_model.specs.Fitting.{IsFitting}
@@ -31,12 +31,14 @@ use Rattle.certificate_tree.proofs.RootLemmas.{root_at, root_is_box}
 use Rattle.certificate_tree.proofs.StartLemmas.{has_start_from, start_found}
 use Rattle.certificate_tree.proofs.LeafLemmas.{IsLeafOver, leaves_in_range}
 use Rattle.certificate_tree.proofs.Refuting.{feasible_allowed}
+use Rattle.branch_search.specs.declared.part.Part.{Part}
 use Rattle.branch_search.specs.declared.search_end.SearchEnd.{SearchEnd}
 use Rattle.branch_search.specs.Best.{IsBestOver, Reaches, bound_of}
 use Rattle.branch_search.specs.Splits.{split_boxes, split_count}
 use Rattle.branch_search.specs.Searched.{IsBounding, IsCostLeaf, IsAmong, IsLeastOf, IsSearchedBy}
+use Rattle.branch_search.specs.Parts.{IsLeftToOthers, IsGoneOnBy}
 use Rattle.branch_search.proofs.LeafLemmas.{at_most_trans}
-use Rattle.branch_search.proofs.SameLemmas.{searched_same}
+use Rattle.branch_search.proofs.SamePartLemmas.{gone_on_same}
 use Rattle.branch_search.proofs.SplitLemmas.{tree_splits, given_nodes}
 use Rattle.band_rebound.specs.declared.rebounded.ReboundTree.{ReboundTree}
 use Rattle.band_rebound.specs.Rebinding.{IsNoLower, ReachLeastBound}
@@ -54,7 +56,8 @@ use Rattle.refined_search.specs.declared.raised.Raised.{Raised}
 use Rattle.refined_search.specs.Lists.{lists_of, AreListsFor}
 use Rattle.refined_search.specs.Raising.{most_bound, within_range, BeginsWith, IsRaised}
 use Rattle.refined_search.specs.Steps.{IsBegun}
-use Rattle.refined_search.proofs.TreeLemmas.{nodes_wider, min_small, cut_proved, cut_reaches, cut_no_lower, leaves_counted}
+use Rattle.refined_search.proofs.TreeLemmas.{nodes_wider, min_small, cut_proved, cut_reaches, cut_no_lower}
+use Rattle.refined_search.proofs.TreeLemmas.{leaves_counted}
 use Rattle.refined_search.proofs.TreeLemmas.{min_within}
 
 -- ---- worths by lists that begin alike
@@ -246,20 +249,19 @@ small_bound bound b range e = at_most (subst IsBoundInRange e range)
 
 -- what the steps came to
 pub record IsEnded (inst : Tables) (incumbent : Option (List ℕ)) (cert : Option RefinedCertificate) (turns : ℕ)
-    (lists : List RefinedList) (tables : List PriceRows) (begun : ReboundTree) (ended : SearchEnd) (splits : ℕ)
+    (part : Part) (lists : List RefinedList) (tables : List PriceRows) (begun : ReboundTree) (ended : SearchEnd)
+    (splits : ℕ)
     : Type 0 where
   pub old_ok : (old : RefinedCertificate) → cert ≡ Some old → IsRefinedInRange inst old
   pub lists_are : AreListsFor inst incumbent (lists_of cert) lists
   pub tables_are : AreRefinedTables inst lists tables
   pub begun_is : IsBegun inst tables cert begun
   pub proved : IsProved risk_value inst (claim_by ended.bound tables ended.nodes)
-  pub searched : IsSearchedBy risk_value inst (length tables - 1) (table_worths tables) incumbent
-      (split_count begun.nodes) turns ended
+  pub gone_on : IsGoneOnBy risk_value inst (length tables - 1) (table_worths tables) incumbent begun.nodes part turns
+      ended
   pub floor : (j : ℕ) → j ≤ length tables - 1 → Reaches ended.bound (table_worths tables (root_box inst) j)
   pub no_lower : (b : ℤ) → IsProved risk_value inst (claim_by (Least b) tables begun.nodes) → Reaches ended.bound b
   pub no_plan : IsProved risk_value inst (claim_by NoPlan tables begun.nodes) → ended.bound ≡ NoPlan
-  pub enough : count_product (length inst.names) (tmax inst) ≤ split_count begun.nodes + turns + 1
-      → ended.unfinished ≡ false
   pub splits_is : split_count ended.nodes ≡ split_count begun.nodes + splits
 
 -- the laws that they rest on
@@ -272,20 +274,20 @@ pub record Laws (inst : Tables) : Type 0 where
   pub worths : WorthsAreSmall risk_base
   pub values : ValuesAreSmall risk_value
 
-module _ (inst : Tables) (incumbent : Option (List ℕ)) (cert : Option RefinedCertificate) (turns : ℕ)
+module _ (inst : Tables) (incumbent : Option (List ℕ)) (cert : Option RefinedCertificate) (turns : ℕ) (part : Part)
     (lists : List RefinedList) (tables : List PriceRows) (begun : ReboundTree) (ended : SearchEnd) (splits : ℕ)
-    (laws : Laws inst) (is : IsEnded inst incumbent cert turns lists tables begun ended splits) where
+    (laws : Laws inst) (is : IsEnded inst incumbent cert turns part lists tables begun ended splits) where
   abbrev worths : Worths
   worths = refined_worths inst lists
 
   one_less : length tables - 1 ≡ length lists
   one_less = one_table_more inst lists tables laws.fit is.tables_are laws.same_proved
 
-  searched : IsSearchedBy risk_value inst (length lists) worths incumbent (split_count begun.nodes) turns ended
-  searched =
-      subst (λ (n : ℕ). IsSearchedBy risk_value inst n worths incumbent (split_count begun.nodes) turns ended) one_less
-      (searched_same risk_value inst (length tables - 1) (table_worths tables) worths incumbent (split_count begun.nodes)
-      turns ended laws.fit (table_same inst lists tables laws.fit is.tables_are laws.same_proved) is.searched)
+  gone_on : IsGoneOnBy risk_value inst (length lists) worths incumbent begun.nodes part turns ended
+  gone_on =
+      subst (λ (n : ℕ). IsGoneOnBy risk_value inst n worths incumbent begun.nodes part turns ended) one_less
+      (gone_on_same risk_value inst (length tables - 1) (table_worths tables) worths incumbent begun.nodes part turns
+      ended laws.fit (table_same inst lists tables laws.fit is.tables_are laws.same_proved) is.gone_on)
 
   begins : BeginsWith inst (length lists) worths cert begun
   begins = at cert is.begun_is.begins
@@ -306,12 +308,12 @@ module _ (inst : Tables) (incumbent : Option (List ℕ)) (cert : Option RefinedC
 
   in_range : IsRefinedInRange inst (record { bound = within_range ended.bound; lists = lists; nodes = ended.nodes })
   in_range = record {
-    bound = cut_in_range inst (length lists) worths incumbent (split_count begun.nodes) turns ended laws.fit laws.values
-        searched (reach_least inst lists laws.fit laws.worths);
+    bound = cut_in_range inst (length lists) worths incumbent (split_count begun.nodes) gone_on.splits ended laws.fit
+        laws.values gone_on.by (reach_least inst lists laws.fit laws.worths);
     few = is.lists_are.few;
     lists = is.lists_are.in_range;
     in_order = is.lists_are.in_order;
-    tree = (searched.tree, searched.of_nodes);
+    tree = (gone_on.by.tree, gone_on.by.of_nodes);
   }
 
   leaves_are : (old : RefinedCertificate) → cert ≡ Some old
@@ -319,11 +321,15 @@ module _ (inst : Tables) (incumbent : Option (List ℕ)) (cert : Option RefinedC
   leaves_are old e =
       let w : IsReboundBy inst (length lists) worths old.nodes begun =
       subst (λ (c : Option RefinedCertificate). BeginsWith inst (length lists) worths c begun) e begins in
-      leaves_counted inst (length lists) (root_box inst) w.old w.new old.nodes begun.kept begun.changed w.of_old w.counts
+      leaves_counted inst (length lists) (root_box inst) w.old w.new old.nodes begun.kept begun.changed w.of_old
+      w.counts
 
-  counted : split_count ended.nodes ≡ length (split_boxes (root_box inst) searched.tree)
-  counted = splits_counted inst (length lists) worths incumbent (split_count begun.nodes) turns ended laws.fit laws.values
-      searched
+  counted : splits ≡ gone_on.splits
+  counted =
+      let boxes = splits_counted inst (length lists) worths incumbent (split_count begun.nodes) gone_on.splits ended
+      laws.fit laws.values gone_on.by in
+      let made = gone_on.made in
+      omega (arith, is.splits_is, boxes, made)
 
   floor : (j : ℕ) → j ≤ length lists
       → Reaches (within_range ended.bound) (int_min (worths (root_box inst) j) most_bound)
@@ -336,8 +342,8 @@ module _ (inst : Tables) (incumbent : Option (List ℕ)) (cert : Option RefinedC
           → Reaches (within_range bound) (int_min (worths (root_box inst) j) most_bound)
       at NoPlan e = tt
       at (Least b) e =
-          let starts = bound_starts inst (length lists) worths incumbent (split_count begun.nodes) turns ended laws.fit
-          laws.values searched b e in
+          let starts = bound_starts inst (length lists) worths incumbent (split_count begun.nodes) gone_on.splits ended
+          laws.fit laws.values gone_on.by b e in
           cut_reaches (Least b) (worths (root_box inst) j)
           (subst (λ (z : ℤ). Reaches (Least b) z)
           (is.tables_are.same (root_box inst) j l (root_is_box inst laws.fit) starts)
@@ -367,7 +373,17 @@ module _ (inst : Tables) (incumbent : Option (List ℕ)) (cert : Option RefinedC
     changed = begun.changed;
   }
 
-  is_raised : IsRaised inst incumbent cert turns (answer (within_range ended.bound) lists)
+  spent : IsTrue ended.unfinished → (splits ≡ turns)
+      ⊎ IsLeftToOthers risk_value inst worths ended.best part gone_on.given gone_on.by.tree
+  spent t = at (gone_on.spent t)
+    where
+      at : (gone_on.splits ≡ turns) ⊎ IsLeftToOthers risk_value inst worths ended.best part gone_on.given
+          gone_on.by.tree
+          → (splits ≡ turns) ⊎ IsLeftToOthers risk_value inst worths ended.best part gone_on.given gone_on.by.tree
+      at (inl e) = inl (counted ∙ e)
+      at (inr o) = inr o
+
+  is_raised : IsRaised inst incumbent cert turns part (answer (within_range ended.bound) lists)
   is_raised = record {
     in_range = in_range;
     valid = valid;
@@ -380,7 +396,7 @@ module _ (inst : Tables) (incumbent : Option (List ℕ)) (cert : Option RefinedC
     begun = begun;
     begins = begins;
     ended = ended;
-    searched = searched;
+    gone_on = gone_on;
     nodes = refl;
     best = refl;
     unfinished = refl;
@@ -389,23 +405,23 @@ module _ (inst : Tables) (incumbent : Option (List ℕ)) (cert : Option RefinedC
     kept = refl;
     changed = refl;
     leaves = leaves_are;
-    few = omega (arith, is.splits_is, counted, searched.few);
-    spent = λ t. let e = searched.spent t in omega (arith, is.splits_is, counted, e);
+    few = let most = gone_on.few in omega (arith, counted, most);
+    spent = spent;
     finished = OnFalse_from ended.unfinished
         (within_range ended.bound ≡ bound_of risk_value inst ended.best) (λ e.
-        ap within_range (OnFalse_at e searched.finished)
-        ∙ best_not_cut inst incumbent ended.best laws.fit laws.values searched.best);
-    enough = λ l. is.enough (omega (arith, l));
+        ap within_range (OnFalse_at e gone_on.by.finished)
+        ∙ best_not_cut inst incumbent ended.best laws.fit laws.values gone_on.by.best);
+    enough = λ l. gone_on.enough (omega (arith, l));
     floor = floor;
     no_lower = no_lower;
   }
 
   -- with the bound and the lists as they are made
   pub is_raised_as : (bound : Bound) (made : List RefinedList) → bound ≡ within_range ended.bound → made ≡ lists
-      → IsRaised inst incumbent cert turns (answer bound made)
+      → IsRaised inst incumbent cert turns part (answer bound made)
   is_raised_as bound made b l =
-      subst (λ (x : Bound). IsRaised inst incumbent cert turns (answer x made)) (sym b)
-      (subst (λ (ls : List RefinedList). IsRaised inst incumbent cert turns (answer (within_range ended.bound) ls))
+      subst (λ (x : Bound). IsRaised inst incumbent cert turns part (answer x made)) (sym b)
+      (subst (λ (ls : List RefinedList). IsRaised inst incumbent cert turns part (answer (within_range ended.bound) ls))
       (sym l) is_raised)
 
 -- ---- the splits that were made
@@ -418,19 +434,19 @@ pub record GrowsBy (old new : List Node) (turns : ℕ) : Type 0 where
   pub few : split_count new ≤ split_count old + turns
 
 pub grows_by : (inst : Tables) (incumbent : Option (List ℕ)) (cert : Option RefinedCertificate) (turns : ℕ)
-    (tables : List PriceRows) (begun : ReboundTree) (ended : SearchEnd) → IsBegun inst tables cert begun
-    → IsSearchedBy risk_value inst (length tables - 1) (table_worths tables) incumbent (split_count begun.nodes) turns
-    ended → GrowsBy begun.nodes ended.nodes turns
-grows_by inst incumbent cert turns tables begun ended start is =
+    (part : Part) (tables : List PriceRows) (begun : ReboundTree) (ended : SearchEnd) → IsBegun inst tables cert begun
+    → IsGoneOnBy risk_value inst (length tables - 1) (table_worths tables) incumbent begun.nodes part turns ended
+    → GrowsBy begun.nodes ended.nodes turns
+grows_by inst incumbent cert turns part tables begun ended start is =
     let lists = length tables - 1 in
     let root = root_box inst in
-    let boxes = tree_splits inst lists root is.tree is.of_nodes.in_range in
-    let count : split_count (pre_order is.tree) ≡ split_count ended.nodes = ap split_count is.of_nodes.order in
-    let stay = is.stay in
+    let boxes = tree_splits inst lists root is.by.tree is.by.of_nodes.in_range in
+    let count : split_count (pre_order is.by.tree) ≡ split_count ended.nodes = ap split_count is.by.of_nodes.order in
+    let made = is.made in
     let few = is.few in
     record {
       odd_old = given_nodes inst lists root start.tree.0 begun.nodes start.tree.1;
-      odd_new = given_nodes inst lists root is.tree ended.nodes is.of_nodes;
-      more = omega (arith, boxes, count, stay);
-      few = omega (arith, boxes, count, few);
+      odd_new = given_nodes inst lists root is.by.tree ended.nodes is.by.of_nodes;
+      more = omega (arith, boxes, count, made);
+      few = omega (arith, boxes, count, made, few);
     }

@@ -1,8 +1,7 @@
 -- A certificate by refined price lists that is made, or gone on with: this is the statement.
 --
 -- Worths, values and bounds are in parts of 10^-18.
-use Rattle.std.specs.Prelude.{◌≡◌, ◌^◌, ℕ, ◌+◌, ◌≤◌, ℤ, pos, List, [], ◌∷◌, length, Option, Some, None, IsTrue}
-use Rattle.std.specs.Prelude.{false}
+use Rattle.std.specs.Prelude.{◌≡◌, ◌⊎◌, ◌^◌, ℕ, ◌+◌, ◌≤◌, ℤ, pos, List, [], ◌∷◌, length, Option, Some, None, IsTrue}
 use Rattle.std.specs.Int.{int_min}
 use Rattle.std.specs.Bool.{OnFalse}
 use Rattle.instance_model.specs.Naturals.{count_product}
@@ -11,13 +10,14 @@ use Rattle.lagrange_bound.specs.Goals.{risk_value}
 use Rattle.certificate_lines.specs.declared.line.Bound.{Bound}
 use Rattle.certificate_lines.specs.declared.line.Bound.TheVariants.{NoPlan, Least}
 use Rattle.certificate_tree.specs.declared.node.Node.TheVariants.{Cost}
-use Rattle.certificate_tree.specs.Trees.{root_box}
+use Rattle.certificate_tree.specs.Trees.{Tree, root_box}
 use Rattle.certificate_tree.specs.Holding.{Worths}
 use Rattle.certificate_tree.specs.Validity.{BoundsPlans}
+use Rattle.branch_search.specs.declared.part.Part.{Part}
 use Rattle.branch_search.specs.declared.search_end.SearchEnd.{SearchEnd}
 use Rattle.branch_search.specs.Best.{Reaches, bound_of}
 use Rattle.branch_search.specs.Splits.{split_count}
-use Rattle.branch_search.specs.Searched.{IsSearchedBy}
+use Rattle.branch_search.specs.Parts.{IsLeftToOthers, IsGoneOnBy}
 use Rattle.band_rebound.specs.declared.rebounded.ReboundTree.{ReboundTree}
 use Rattle.band_rebound.specs.Rebinding.{IsNoLower}
 use Rattle.band_rebound.specs.Rebounds.{IsReboundBy}
@@ -44,9 +44,16 @@ abbrev pub BeginsWith : Tables → ℕ → Worths → Option RefinedCertificate 
 BeginsWith inst lists worths None begun = (begun.nodes ≡ Cost 0 ∷ []) × (begun.kept ≡ 0) × (begun.changed ≡ 0)
 BeginsWith inst lists worths (Some cert) begun = IsReboundBy inst lists worths cert.nodes begun
 
--- the answer to a feasible plan or none and a certificate in range or none, with so many turns
+-- what is left of the tree that the search went on from, as it is at last, is left to other parts: no leaf that stands
+-- where it had a leaf of this part may have a better plan than the best one
+abbrev pub LeavesToOthers : Tables → Raised → Part → (given tree : Tree) → Type 0
+LeavesToOthers inst answer part given tree =
+    IsLeftToOthers risk_value inst (refined_worths inst answer.cert.lists) answer.best part given tree
+
+-- the answer to a feasible plan or none and a certificate in range or none, with so many turns for the leaves of a part
+-- of its tree
 pub record IsRaised (inst : Tables) (incumbent : Option (List ℕ)) (cert : Option RefinedCertificate) (turns : ℕ)
-    (answer : Raised) : Type 0 where
+    (part : Part) (answer : Raised) : Type 0 where
   -- the new certificate is in range and valid, and bounds every feasible plan
   pub in_range : IsRefinedInRange inst answer.cert
   pub valid : IsRefinedValid inst answer.cert
@@ -57,8 +64,8 @@ pub record IsRaised (inst : Tables) (incumbent : Option (List ℕ)) (cert : Opti
   pub begun : ReboundTree
   pub begins : BeginsWith inst (length answer.cert.lists) (refined_worths inst answer.cert.lists) cert begun
   pub ended : SearchEnd
-  pub searched : IsSearchedBy risk_value inst (length answer.cert.lists) (refined_worths inst answer.cert.lists)
-      incumbent (split_count begun.nodes) turns ended
+  pub gone_on : IsGoneOnBy risk_value inst (length answer.cert.lists) (refined_worths inst answer.cert.lists) incumbent
+      begun.nodes part turns ended
   pub nodes : answer.cert.nodes ≡ ended.nodes
   pub best : answer.best ≡ ended.best
   pub unfinished : answer.unfinished ≡ ended.unfinished
@@ -72,11 +79,14 @@ pub record IsRaised (inst : Tables) (incumbent : Option (List ℕ)) (cert : Opti
   pub changed : answer.changed ≡ begun.changed
   pub leaves : (old : RefinedCertificate) → cert ≡ Some old
       → answer.kept + answer.changed + split_count old.nodes ≡ length old.nodes
-  -- when the search stopped: after these turns, or at the value of the best plan; with enough turns at that
+  -- when the search stopped: after these turns, or at the value of the best plan, or where only what is left to other
+  -- parts was left; with enough turns at one of these two
   pub few : answer.splits ≤ turns
-  pub spent : IsTrue answer.unfinished → answer.splits ≡ turns
+  pub spent : IsTrue answer.unfinished
+      → (answer.splits ≡ turns) ⊎ LeavesToOthers inst answer part gone_on.given gone_on.by.tree
   pub finished : OnFalse answer.unfinished (answer.cert.bound ≡ bound_of risk_value inst answer.best)
-  pub enough : count_product (length inst.names) (tmax inst) ≤ turns + 1 → answer.unfinished ≡ false
+  pub enough : count_product (length inst.names) (tmax inst) ≤ turns + 1 → IsTrue answer.unfinished
+      → LeavesToOthers inst answer part gone_on.given gone_on.by.tree
   -- the bound is none, or at least the worth of each list over all starts, as far as a bound may be that
   pub floor : (j : ℕ) → j ≤ length answer.cert.lists
       → Reaches answer.cert.bound (int_min (refined_worths inst answer.cert.lists (root_box inst) j) most_bound)

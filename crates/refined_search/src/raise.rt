@@ -1,5 +1,5 @@
 //! A certificate is made, or gone on with: the contract is `IsRaised`.
-ghost use Rattle.std.specs.Prelude.{◌≡◌, IfOk, IfSome, option_map};
+ghost use Rattle.std.specs.Prelude.{◌≡◌, ◌<◌, IfOk, IfSome, option_map};
 ghost use Rattle.branch_search.specs.Best.{IsFeasiblePlan};
 ghost use Rattle.refined_certificate.specs.Ranges.{IsRefinedInRange};
 ghost use Rattle.refined_search.specs.Raising.{within_range, IsRaised};
@@ -7,7 +7,7 @@ ghost use Rattle.refined_search.specs.Raising.{within_range, IsRaised};
 use crate::Raised;
 use crate::begin::{begin, new_splits};
 use crate::lists::lists_for;
-use branch_search::go_on;
+use branch_search::{Part, go_on_part};
 use certificate_tree::{
     Bound, nodes_are_one_tree, proved_bounds_plans, same_worths_prove_the_same, tables_bound_boxes,
 };
@@ -31,7 +31,7 @@ fn within_range(bound: Bound) -> Bound
 }
 
 /// Makes a certificate by refined price lists for the scores of all plans, or goes on with one: given a feasible plan
-/// or none, a certificate in range or none, and how many splits to make at most.
+/// or none, a certificate in range or none, how many splits to make at most, and of which leaves of its tree.
 ///
 /// Takes memory for a table of each list, for each node and each leaf that waits, and for the search of two new lists.
 pub fn raise_bound(
@@ -40,11 +40,13 @@ pub fn raise_bound(
     incumbent: Option<&[u32]>,
     cert: Option<&RefinedCertificate>,
     turns: u32,
+    part: Part,
 ) -> Result<Raised, AllocError>
     requires incumbent { IfSome incumbent (λ given. IsFeasiblePlan inst.now given.now) }
     requires cert { IfSome cert (λ old. IsRefinedInRange inst.now old.now) }
+    requires part { part.number < part.count }
     ensures raised { IfOk result (IsRaised inst.now (option_map (λ given. given.now) incumbent.entry)
-        (option_map (λ old. old.now) cert.entry) turns) }
+        (option_map (λ old. old.now) cert.entry) turns part) }
 {
     inst.fits();
     nodes_are_one_tree();
@@ -58,7 +60,7 @@ pub fn raise_bound(
     let rows = tables.as_slice();
     let begun = begin(alloc, inst, cert, rows)?;
     let nodes = begun.nodes.as_slice();
-    let end = go_on(alloc, &RiskGoal, inst, rows, nodes, incumbent, turns)?;
+    let end = go_on_part(alloc, &RiskGoal, inst, rows, nodes, incumbent, part, turns)?;
     let splits = new_splits(nodes, end.nodes.as_slice(), turns);
     Ok(Raised {
         cert: RefinedCertificate {

@@ -1,6 +1,6 @@
 //! The first state of a search: the tree that it goes on from is laid out, and each of its leaves becomes the leaf of
 //! its box.
-ghost use Rattle.std.specs.Prelude.{◌≡◌, ◌+◌, ◌-◌, ◌<◌, List, [], ◌∷◌, length, IfOk, OnOk, IfSome, option_map};
+ghost use Rattle.std.specs.Prelude.{◌≡◌, ◌+◌, ◌-◌, ◌<◌, List, [], ◌∷◌, length, None, IfOk, OnOk, IfSome, option_map};
 ghost use Rattle.lagrange_bound.specs.declared.span.Span.{Span};
 ghost use Rattle.certificate_tree.specs.Trees.{Tree, root_box};
 ghost use Rattle.certificate_tree.specs.Ranges.{AreNodesOf, IsLeafInRange};
@@ -16,11 +16,13 @@ ghost use Rattle.branch_search.specs.Valued.{plan_in, IsValued};
 ghost use Rattle.branch_search.specs.Begun.{IsLaid};
 ghost use Rattle.branch_search.specs.States.{IsGrowth};
 
+use crate::Part;
 use crate::best::Best;
 use crate::choosing::Chooser;
+use crate::part::is_of_part;
 use crate::splitting::current_box::CurrentBox;
 use crate::splitting::settling::settle_again;
-use crate::tree::{Cell, Growth, Waiting, await_leaf, box_of, set_leaf, split_cell};
+use crate::tree::{Cell, Growth, Waiting, box_of, file_leaf, set_leaf, split_cell};
 use certificate_tree::{BoxPath, Node, nodes_are_one_tree};
 use instance_model::{Instance, Starts};
 use lagrange_bound::{Goal, PriceTable};
@@ -62,6 +64,7 @@ fn new_growth(alloc: Global, inst: &Instance, best: Option<Best>) -> Result<Grow
     ensures cells { IfOk result (λ growth.
         growth.cells.items ≡ (record { node = Node.Point; parent = 0; left = 0 }) ∷ []) }
     ensures waiting { IfOk result (λ growth. growth.waiting ≡ []) }
+    ensures aside { IfOk result (λ growth. growth.aside ≡ None) }
     ensures best { IfOk result (λ growth. growth.best ≡ best) }
     ensures splits { IfOk result (λ growth. growth.splits ≡ 0) }
     ensures current { IfOk result (λ growth. IsCurrentBox inst.now growth.current) }
@@ -77,6 +80,7 @@ fn new_growth(alloc: Global, inst: &Instance, best: Option<Best>) -> Result<Grow
     Ok(Growth {
         cells,
         waiting: Waiting::new(alloc),
+        aside: None,
         best,
         splits: 0,
         current,
@@ -84,7 +88,7 @@ fn new_growth(alloc: Global, inst: &Instance, best: Option<Best>) -> Result<Grow
     })
 }
 
-/// Gives a number the leaf of its box in the place of a given one.
+/// Gives a number the leaf of its box in the place of a given one, which may be split or not.
 fn lay_leaf<G: Goal>(
     alloc: Global,
     goal: &G,
@@ -93,6 +97,7 @@ fn lay_leaf<G: Goal>(
     growth: &mut Growth,
     number: usize,
     given: Node,
+    may_split: bool,
 ) -> Result<(), AllocError>
     requires tables { AreSearchTables inst.now tables.now }
     requires number { number < length growth.old.cells.items }
@@ -101,7 +106,7 @@ fn lay_leaf<G: Goal>(
     requires valued { IsValued (G.value_gives goal.now) inst.now growth.old.best }
     requires current { IsCurrentBox inst.now growth.old.current }
     ensures laid { OnOk result
-        (IsLaid (G.value_gives goal.now) inst.now tables.now number growth.old growth.new) }
+        (IsLaid (G.value_gives goal.now) inst.now tables.now number may_split growth.old growth.new) }
     ensures valued { OnOk result (IsValued (G.value_gives goal.now) inst.now growth.new.best) }
     ensures current { OnOk result (IsCurrentBox inst.now growth.new.current) }
 {
@@ -111,11 +116,12 @@ fn lay_leaf<G: Goal>(
     let best = &mut growth.best;
     let leaf = settle_again(alloc, goal, inst, tables, current, given, best)?;
     set_leaf(&mut growth.cells, number, leaf.node);
-    await_leaf(&mut growth.waiting, leaf.worth, number)?;
+    let (waiting, aside) = (&mut growth.waiting, &mut growth.aside);
+    file_leaf(waiting, aside, may_split, leaf.worth, number)?;
     Ok(())
 }
 
-/// The state before any split of the search's own.
+/// The state before any split of the search's own, where the leaves of this part may be split.
 pub(crate) fn begin<G: Goal>(
     alloc: Global,
     goal: &G,
@@ -123,13 +129,15 @@ pub(crate) fn begin<G: Goal>(
     tables: &[PriceTable],
     nodes: &[Node],
     incumbent: Option<&[u32]>,
+    part: Part,
 ) -> Result<Growth, AllocError>
     requires tables { AreSearchTables inst.now tables.now }
     requires lawful { BoundBoxes (G.value_gives goal.now) inst.now (length tables.now - 1) (table_worths tables.now) }
     requires tree { (t : Tree) × AreNodesOf inst.now (length tables.now - 1) (root_box inst.now) t nodes.now }
     requires incumbent { IfSome incumbent (λ given. IsFeasiblePlan inst.now given.now) }
+    requires part { part.number < part.count }
     ensures state { IfOk result (λ begun. IsGrowth (task_of (G.value_gives goal.now) inst.now tables.now nodes.now
-        (option_map (λ given. given.now) incumbent.entry)) begun) }
+        (option_map (λ given. given.now) incumbent.entry)) part begun) }
     ensures none { IfOk result (λ begun. begun.splits ≡ 0) }
 {
     inst.fits();
@@ -138,6 +146,7 @@ pub(crate) fn begin<G: Goal>(
     let mut growth = new_growth(alloc, inst, best)?;
     let mut stack = Vec::new(alloc);
     stack.push(0usize)?;
+    let mut seen: usize = 0;
     for node in nodes {
         let Some(number) = stack.pop() else {
             break;
@@ -149,7 +158,20 @@ pub(crate) fn begin<G: Goal>(
                 stack.push(left + 1)?;
                 stack.push(left)?;
             }
-            leaf => lay_leaf(alloc, goal, inst, tables, &mut growth, number, leaf)?,
+            leaf => {
+                let may_split = is_of_part(part, seen);
+                lay_leaf(
+                    alloc,
+                    goal,
+                    inst,
+                    tables,
+                    &mut growth,
+                    number,
+                    leaf,
+                    may_split,
+                )?;
+                seen += 1;
+            }
         }
     }
     Ok(growth)

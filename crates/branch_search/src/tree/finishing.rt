@@ -1,12 +1,13 @@
 //! The answer of a search, of what is kept.
-ghost use Rattle.std.specs.Prelude.{◌≡◌, IfOk};
+ghost use Rattle.std.specs.Prelude.{◌≡◌, ℕ, ℤ, List, IfOk};
 ghost use Rattle.branch_search.specs.Shapes.{Shape, IsShapeOf};
 ghost use Rattle.branch_search.specs.Valued.{plan_in};
+ghost use Rattle.branch_search.specs.Aside.{IsLeastWorth};
 ghost use Rattle.branch_search.specs.States.{IsKept, bound_with, IsAnswerOf};
 
 use crate::SearchEnd;
 use crate::best::Best;
-use crate::splitting::left_worth;
+use crate::splitting::open_worth;
 use crate::tree::growth::Growth;
 use crate::tree::nodes::nodes_of;
 use certificate_tree::{Bound, Nodes};
@@ -36,13 +37,14 @@ fn starts_of(best: Option<Best>) -> Option<Starts>
     }
 }
 
-/// The bound, the nodes and the best plan. All that waits is given up as `cost` leaves.
+/// The bound, the nodes and the best plan. All that waits or is set aside is given up as `cost` leaves.
 pub(crate) fn finish(alloc: Global, growth: Growth) -> Result<SearchEnd, AllocError>
     requires kept { IsKept growth }
     requires shape { (shape : Shape) × IsShapeOf growth.cells.items shape }
-    ensures { IfOk result (IsAnswerOf growth) }
+    ensures { IfOk result (λ answer.
+        (aside : List (ℤ × ℕ)) → IsLeastWorth growth.aside aside → IsAnswerOf growth aside answer) }
 {
-    let left = left_worth(&growth);
+    let left = open_worth(&growth);
     let nodes = nodes_of(alloc, growth.cells.as_slice())?;
     let bound = bound_of(left, &growth.best);
     Ok(SearchEnd {

@@ -5,6 +5,7 @@ ghost use Rattle.plan_refine.specs.Words.{bound_names, bound_of};
 ghost use Rattle.plan_refine.specs.Asked.{IsAsked};
 
 use crate::words::Command;
+use crate::words::ending::split_end;
 use command_words::{are_apart, are_file_words, given_of, source_of, turns_of};
 
 /// `bound` of these words.
@@ -22,6 +23,7 @@ pub fn bound_of(words: &[String]) -> Option<Command<'_>>
     if !are_names_apart(instance.as_str(), plan, certificate, out) {
         return None;
     }
+    let (end, part) = split_end(end)?;
     let source = source_of(instance.as_str(), end)?;
     let turns = turns_of(turns.as_str())?;
     Some(Command::Bound {
@@ -30,6 +32,7 @@ pub fn bound_of(words: &[String]) -> Option<Command<'_>>
         certificate,
         out,
         turns,
+        part,
     })
 }
 

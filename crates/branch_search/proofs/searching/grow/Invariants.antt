@@ -7,7 +7,7 @@ use Rattle.branch_search.proofs.searching.grow.Given as goal
 abbrev pub invariant-loop-growth : goal.invariant-loop-growth
 invariant-loop-growth g l = record {
   state : IsGrowth (task_of (g.G.Goal.value_gives l.goal) l.inst l.tables l.given
-      (option_map (λ given. given.now) l.incumbent)) l.growth;
+      (option_map (λ given. given.now) l.incumbent)) l.part l.growth;
   few : l.growth.splits ≤ l.turns;
 }
 

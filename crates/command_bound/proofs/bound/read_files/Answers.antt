@@ -17,8 +17,9 @@ returns-in_err-inst-clause-err g c =
     let cert = option_copied c.args.certificate in
     let p = err_from_is_err_and c.from_residual.result c.from_residual.ensures.1 in
     rw (p.1, p.2)
-    (λ out turns. refuses_instance limits (source_view c.args.source.now) old new
-    (λ i. OnGiven limits i (reading old new) 3 (option_copied c.args.plan) (OnOld limits cert out turns i old new)) _
+    (λ out turns part. refuses_instance limits (source_view c.args.source.now) old new
+    (λ i. OnGiven limits i (reading old new) 3 (option_copied c.args.plan)
+    (OnOld limits cert out turns part i old new)) _
     c.in_err-inst.ensures.err)
 
 pub returns-in_err-plan-clause-err : goal.returns-in_err-plan-clause-err
@@ -27,8 +28,9 @@ returns-in_err-plan-clause-err g c =
     let mid = g.D.Desk.shows c.instance_of.new.desk in
     let p = err_from_is_err_and c.from_residual-in_err-plan.result c.from_residual-in_err-plan.ensures.1 in
     rw (p.1, p.2)
-    (λ out turns. refuses_plan c.args.limits.now (source_view c.args.source.now) (option_copied c.args.plan)
-    (option_copied c.args.certificate) out turns old mid (g.D.Desk.shows c.given_plan_of.new.desk) c.in_ok-inst.inst _
+    (λ out turns part. refuses_plan c.args.limits.now (source_view c.args.source.now) (option_copied c.args.plan)
+    (option_copied c.args.certificate) out turns part old mid (g.D.Desk.shows c.given_plan_of.new.desk)
+    c.in_ok-inst.inst _
     c.in_ok-inst.ensures.ok
     (is_read c.args.source.now.instance.now old mid c.in_ok-inst.ensures.read c.in_ok-inst.ensures.faults)
     c.in_err-plan.ensures.err)
@@ -47,8 +49,8 @@ returns-in_err-cert-clause-err g c =
     let last = g.D.Desk.shows c.given_plan_of.new.desk in
     let p = err_from_is_err_and c.from_residual-in_err-cert.result c.from_residual-in_err-cert.ensures.1 in
     rw (p.1, p.2)
-    (λ out turns. refuses_certificate c.args.limits.now (source_view c.args.source.now) (option_copied c.args.plan)
-    (option_copied c.args.certificate) out turns old mid last (g.D.Desk.shows c.given_certificate_of.new.desk)
+    (λ out turns part. refuses_certificate c.args.limits.now (source_view c.args.source.now) (option_copied c.args.plan)
+    (option_copied c.args.certificate) out turns part old mid last (g.D.Desk.shows c.given_certificate_of.new.desk)
     c.in_ok-inst.inst c.in_ok-plan.plan _ c.in_ok-inst.ensures.ok
     (is_read c.args.source.now.instance.now old mid c.in_ok-inst.ensures.read c.in_ok-inst.ensures.faults)
     c.in_ok-plan.ensures.ok c.in_ok-plan.ensures.faults c.in_ok-plan.ensures.read c.in_err-cert.ensures.err)

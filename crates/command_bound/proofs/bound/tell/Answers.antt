@@ -15,7 +15,7 @@ returns-then-limits-text_length g c =
     let files = c.args.files.now in
     let made = c.args.made in
     let limits = c.args.limits.now in
-    long_told limits files.inst files.plan files.cert c.args.out.now c.args.turns made c.requires.made
+    long_told limits files.inst files.plan files.cert c.args.out.now c.args.turns c.args.part made c.requires.made
     (g.D.Desk.shows c.args.desk.now) (g.D.Desk.shows c.refuse_long.new.desk) c.refuse_long.result
     (counted_above (length (refined_text files.inst made.raised.cert)) c.text_length.result limits.certificate_bytes
     (rw c.from_refined-cert.ensures at c.text_length.ensures) (omega (arith, c.if-limits-text_length.true)))
@@ -29,7 +29,7 @@ returns-in-Ok g c =
     let mid = g.D.Desk.shows c.put_certificate.new.desk in
     let new = g.D.Desk.shows c.say.new.desk in
     let most : limits.certificate_bytes ≤ 2 ^ 32 = omega (arith, c.requires.bytes) in
-    written_told limits files.inst files.plan files.cert c.args.out.now c.args.turns made c.requires.made
+    written_told limits files.inst files.plan files.cert c.args.out.now c.args.turns c.args.part made c.requires.made
     (g.D.Desk.shows c.args.desk.now) mid new c.say.result
     (counted_within (length (refined_text files.inst made.raised.cert)) c.text_length.result limits.certificate_bytes
     (rw c.from_refined-cert.ensures at c.text_length.ensures) most (omega (arith, c.if-limits-text_length.false)))
@@ -43,7 +43,7 @@ returns g c =
     let made = c.args.made in
     let limits = c.args.limits.now in
     let most : limits.certificate_bytes ≤ 2 ^ 32 = omega (arith, c.requires.bytes) in
-    unwritten_told limits files.inst files.plan files.cert c.args.out.now c.args.turns made c.requires.made
+    unwritten_told limits files.inst files.plan files.cert c.args.out.now c.args.turns c.args.part made c.requires.made
     (g.D.Desk.shows c.args.desk.now) (g.D.Desk.shows c.put_certificate.new.desk)
     (g.D.Desk.shows c.say_numbered.new.desk) c.say_numbered.result
     (counted_within (length (refined_text files.inst made.raised.cert)) c.text_length.result limits.certificate_bytes

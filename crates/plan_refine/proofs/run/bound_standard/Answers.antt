@@ -12,6 +12,7 @@ returns g c =
     let new = g.D.Desk.shows c.bound_files.new.desk in
     let source = source_view c.args.source.now in
     let plan = option_copied c.args.plan in
-    let cert = option_copied c.args.certificate in
-    subst (λ (l : Limits). RunsBound l source plan cert c.args.out.now c.args.turns old new c.bound_files.result)
+    let cert = option_copied c.args.cert in
+    subst (λ (l : Limits). RunsBound l source plan cert c.args.out.now c.args.turns c.args.part old new
+    c.bound_files.result)
     c.standard-limits.ensures c.bound_files.ensures

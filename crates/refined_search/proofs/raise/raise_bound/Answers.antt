@@ -38,8 +38,8 @@ begin-requires c =
           c.requires.cert;
     }
 
-pub go_on-requires : goal.go_on-requires
-go_on-requires c =
+pub go_on_part-requires : goal.go_on_part-requires
+go_on_part-requires c =
     let inst = c.args.inst.now in
     let lists = c.in_ok-lists.lists.items in
     let rows = c.as_slice-rows.result.now in
@@ -57,13 +57,15 @@ go_on-requires c =
       tree = subst (λ (ns : List Node). (t : Tree) × IsTreeOfClaim inst (claim_by NoPlan rows ns) t)
           (sym c.as_slice-nodes.ensures) c.in_ok-begun.ensures.tree;
       incumbent = c.requires.incumbent;
+      part = c.requires.part;
     }
 
 pub new_splits-splits-requires : goal.new_splits-splits-requires
 new_splits-splits-requires c =
     let ends = rw c.as_slice-nodes.ensures at c.in_ok-end.ensures in
     let grows = grows_by c.args.inst.now (option_map (λ given. given.now) c.args.incumbent) (seen c.args.cert)
-    c.args.turns c.as_slice-rows.result.now c.in_ok-begun.begun c.in_ok-end.end c.in_ok-begun.ensures ends.searched in
+    c.args.turns c.args.part c.as_slice-rows.result.now c.in_ok-begun.begun c.in_ok-end.end c.in_ok-begun.ensures
+    ends.gone_on in
     rw (c.as_slice-nodes.ensures, c.as_slice-2.ensures)
     (record { old = grows.odd_old; new = grows.odd_new; more = grows.more; few = grows.few })
 
@@ -86,22 +88,21 @@ returns c =
       worths = c.worths_are_small.ensures.worths;
       values = c.worths_are_small.ensures.values;
     } in
-    let is : IsEnded inst (option_map (λ given. given.now) c.args.incumbent) (seen c.args.cert) c.args.turns lists rows
-    begun end c.new_splits-splits.result = record {
+    let is : IsEnded inst (option_map (λ given. given.now) c.args.incumbent) (seen c.args.cert) c.args.turns c.args.part
+    lists rows begun end c.new_splits-splits.result = record {
       old_ok = lent_ok inst c.args.cert c.requires.cert;
       lists_are = c.in_ok-lists.ensures;
       tables_are = subst (AreRefinedTables inst lists) (sym c.as_slice-rows.ensures.value) made;
       begun_is = c.in_ok-begun.ensures;
       proved = ends.proved;
-      searched = ends.searched;
+      gone_on = ends.gone_on;
       floor = ends.floor;
       no_lower = ends.no_lower;
       no_plan = ends.no_plan;
-      enough = ends.enough;
       splits_is = rw (c.as_slice-nodes.ensures, c.as_slice-2.ensures) at c.new_splits-splits.ensures;
     } in
     record {
       raised = is_raised_as inst (option_map (λ given. given.now) c.args.incumbent) (seen c.args.cert) c.args.turns
-          lists rows begun end c.new_splits-splits.result laws is c.within_range.result c.from_vec.result
+          c.args.part lists rows begun end c.new_splits-splits.result laws is c.within_range.result c.from_vec.result
           c.within_range.ensures c.from_vec.ensures;
     }

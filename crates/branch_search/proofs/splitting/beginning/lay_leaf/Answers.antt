@@ -17,7 +17,7 @@ returns-clause-laid g c =
     record {
       leaf = c.in_ok-leaf.leaf;
       cells = c.set_leaf.ensures;
-      waits = c.in_ok-await_leaf.ensures;
+      filed = c.in_ok-file_leaf.ensures;
       leaf_is = λ boxes w. subst (λ (b : List Span). IsLeafOf (free_task value inst c.args.tables.now)
           (plan_in c.settle_again.new.best) b c.in_ok-leaf.leaf) (here boxes w) c.in_ok-leaf.ensures.leaf;
       improved = λ boxes w. subst (λ (b : List Span). IsImprovedIn value inst b (plan_in c.args.growth.now.best)
