@@ -26,7 +26,7 @@ commands=(
     plan_repair 'audit INSTANCE PLAN CERTIFICATE [slack=D]'
     'checks how many starts of the plan have to change'
     plan_refine 'bound INSTANCE PLAN|- CERTIFICATE|- >OUT TURNS [slack=D] [part=K/N]'
-    'makes a certificate, or goes on with one; - for none'
+    'makes a certificate or goes on with one; - for none'
     plan_refine 'improve INSTANCE PLAN|- >OUT TURNS SEED [slack=D]'
     'makes a better plan from the plan, or from none (-)'
 )
