@@ -82,6 +82,9 @@ const NEW: &str =
 const UNBOUNDED: &str =
     "mpcert 1\nbound none\nlists 0\ntree\nsplit 1 1\nsplit 2 1\nband 1 1 over\ncost 0\ncost 0\n";
 
+/// A certificate of two leaves, each of two plans.
+const HALVES: &str = "mpcert 3\nbound 0\nlists 0\ntree\nsplit 1 1\ncost 0\ncost 0\n";
+
 const ACCEPTED: &str =
     "accepted\nbound 2000000000000000000\nbound-cost 1.000000000000\nrounded 0\n";
 
@@ -298,6 +301,50 @@ fn a_bound_that_goes_on_does_not_fall(rt: HostRuntime) -> Result<(), Fail> {
             said.as_slice().ends_with(ACCEPTED_PLAN.as_bytes()),
             "{certificate}"
         );
+    }
+    Ok(())
+}
+
+/// Each part splits its own leaf, and the other one stays; what is written is valid.
+#[test]
+fn a_part_is_split_alone(rt: HostRuntime) -> Result<(), Fail> {
+    let alloc = rt.alloc();
+    for (part, tree) in [
+        (
+            "part=0/2",
+            "tree\nsplit 1 1\nsplit 2 1\nband 1 1 over\npoint\ncost ",
+        ),
+        ("part=1/2", "\nsplit 2 1\npoint\nband 1 2 over\n"),
+    ] {
+        let mut desk = desk(alloc, BANDED, APART, HALVES)?;
+        let words = ["bound", "I", "-", "C", "O", "1", "slack=0", part];
+        let (status, said) = ran(alloc, &words, &mut desk)?;
+        assert_eq!(rt; status, 0, "{part}");
+        assert!(rt;
+            said.as_slice()
+                .ends_with(b"splits 1\nkept 2\nchanged 0\nrounded 0\n"),
+            "{part}"
+        );
+        let text = desk.file("O").unwrap_or(b"");
+        assert!(rt; str::from_utf8(text).unwrap_or("").contains(tree), "{part}");
+        let (status, _) = ran(alloc, &["check", "I", "-", "O"], &mut desk)?;
+        assert_eq!(rt; status, 0, "{part}");
+    }
+    Ok(())
+}
+
+/// A part without a leaf that may be split stops at once, whatever its turns are.
+#[test]
+fn a_part_may_have_nothing_to_split(rt: HostRuntime) -> Result<(), Fail> {
+    let alloc = rt.alloc();
+    for (certificate, part) in [("-", "part=1/2"), ("C", "part=2/1000000")] {
+        let mut desk = desk(alloc, BANDED, APART, HALVES)?;
+        let words = ["bound", "I", "-", certificate, "O", "1000", part];
+        let (status, said) = ran(alloc, &words, &mut desk)?;
+        assert_eq!(rt; status, 0, "{part}");
+        let kept = if certificate == "C" { 2 } else { 0 };
+        let end = format!(in alloc; "splits 0\nkept {kept}\nchanged 0\nrounded 0\n")?;
+        assert!(rt; said.as_slice().ends_with(end.as_bytes()), "{part}");
     }
     Ok(())
 }
