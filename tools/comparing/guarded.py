@@ -1,13 +1,12 @@
 """Runs a method within its time, and leaves nothing of it behind: no process, however it was started, and no output.
 
-Whatever a method starts stays below this process, which takes orphans in (the kernel's child subreaper), so all of it
-is found in /proc and killed; so it is where there come to be too many. What it prints is read and dropped, but for its
+Whatever a method starts stays below this process, which takes orphans in, and is killed with it; so it is where there
+come to be too many. What it prints is read and dropped, but for its
 beginning and its end. While it runs, its plan is looked at: each new text of it is kept with its time.
 
 Processes are counted a few times a second, so what forks faster than that may fill a machine before it is ended, above
 all where this runs as root, whom no limit of the system holds. What isn't trusted so far belongs into a container.
 """
-import ctypes
 import hashlib
 import os
 import resource
@@ -18,15 +17,14 @@ import time
 from dataclasses import dataclass, field
 from typing import Optional
 
-SUBREAPER, DEATH_SIGNAL = 36, 1
-LIBRARY = ctypes.CDLL(None, use_errno=True)
+from processes import end_all, end_with_parent, reap
+
 # How much of the plan file, and of each end of the output, is kept; the largest file that a method may write.
 LONGEST_PLAN, LONGEST_SAID, LARGEST_FILE = 1 << 24, 1 << 13, 1 << 33
 # Seconds between two looks, and their part of the time that has passed, so that long runs aren't looked at too often.
 LOOK, PART = 0.05, 0.02
 # Seconds between two counts of the processes.
 COUNT = 0.2
-MOST_ROUNDS = 1000
 
 
 @dataclass
@@ -57,71 +55,6 @@ class Interrupted(BaseException):
     """The run is to be given up: a signal came, or who asked for it is gone."""
 
 
-def take_orphans():
-    """Whatever is started below this process, and loses its parent, becomes a child of this process."""
-    LIBRARY.prctl(SUBREAPER, 1, 0, 0, 0)
-
-
-def below():
-    """The processes below this one, with their states."""
-    parents, states = {}, {}
-    for name in os.listdir("/proc"):
-        if name.isdigit():
-            try:
-                with open(f"/proc/{name}/stat", "rb") as file:
-                    words = file.read().rpartition(b")")[2].split()
-            except OSError:
-                continue
-            states[int(name)] = words[0].decode()
-            parents.setdefault(int(words[1]), []).append(int(name))
-    found, ahead = {}, [os.getpid()]
-    while ahead:
-        for pid in parents.get(ahead.pop(), ()):
-            found[pid] = states[pid]
-            ahead.append(pid)
-    return found
-
-
-def send(pids, number):
-    for pid in pids:
-        try:
-            os.kill(pid, number)
-        except (ProcessLookupError, PermissionError):
-            pass
-
-
-def reap(besides=()):
-    """Takes note of children that have ended, but of those whose status somebody waits for; answers how many run."""
-    found = below()
-    for pid, state in found.items():
-        if state == "Z" and pid not in besides:
-            try:
-                os.waitpid(pid, os.WNOHANG)
-            except ChildProcessError:
-                pass
-    return sum(state != "Z" for state in found.values())
-
-
-def end_all():
-    """Kills all processes below this one; answers how many there were."""
-    count = set()
-    for _ in range(MOST_ROUNDS):
-        alive = {pid for pid, state in below().items() if state != "Z"}
-        if not alive - count:
-            break
-        # (what is stopped starts nothing more)
-        send(alive, signal.SIGSTOP)
-        count |= alive
-    for _ in range(MOST_ROUNDS):
-        alive = {pid for pid, state in below().items() if state != "Z"}
-        if not alive:
-            break
-        count |= alive
-        send(alive, signal.SIGKILL)
-        time.sleep(0.005)
-    return len(count)
-
-
 def processes_of_user():
     """How many threads the user of this process has, which is what the system's limit of processes counts."""
     count = 0
@@ -136,7 +69,7 @@ def processes_of_user():
 
 def prepare(most):
     """Limits what a method may write and start, and ends it where this process is killed."""
-    LIBRARY.prctl(DEATH_SIGNAL, signal.SIGKILL, 0, 0, 0)
+    end_with_parent(signal.SIGKILL)
     soft, hard = resource.getrlimit(resource.RLIMIT_NPROC)
     limit = most if hard == resource.RLIM_INFINITY else min(most, hard)
     resource.setrlimit(resource.RLIMIT_NPROC, (limit, limit))

@@ -19,20 +19,13 @@ HERE = os.path.dirname(os.path.abspath(__file__))
 sys.path[:0] = [os.path.join(HERE, ".."), os.path.join(HERE, "..", "..", "python")]
 import gadvresa
 from comparing import guarded
-from comparing.tasks import place, record_of, write_whole
+from comparing.tasks import place, record_of
+from processes import started, take_orphans
+from whole_files import write_whole
 
 GIVEN_UP = 75
 # The seconds that `evaluate` and `check` may take.
 JUDGING = 3600
-
-
-def started(pid):
-    """When a process was started, as the system counts it; none where it is gone."""
-    try:
-        with open(f"/proc/{pid}/stat", "rb") as file:
-            return int(file.read().rpartition(b")")[2].split()[19])
-    except (OSError, IndexError):
-        return None
 
 
 def is_there(owner):
@@ -127,7 +120,7 @@ def main(out, key):
         fcntl.flock(lock, fcntl.LOCK_EX)
         if record_of(out, key, task) is not None:
             return 0
-        guarded.take_orphans()
+        take_orphans()
         for one in (signal.SIGTERM, signal.SIGINT, signal.SIGHUP):
             signal.signal(one, give_up)
         try:

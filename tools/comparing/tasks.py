@@ -10,7 +10,8 @@ import json
 import os
 import re
 import shlex
-import tempfile
+
+from whole_files import sum_of
 
 METHOD = re.compile(r"[A-Za-z0-9][A-Za-z0-9_.+-]{0,39}")
 PLACES = ("instance", "plan", "seconds", "seed", "folder")
@@ -52,14 +53,6 @@ def read_instances(folder):
     return found
 
 
-def sum_of(path):
-    total = hashlib.sha256()
-    with open(path, "rb") as file:
-        for part in iter(lambda: file.read(1 << 20), b""):
-            total.update(part)
-    return total.hexdigest()
-
-
 def key_of(*words):
     """A name for files, in which each word can be seen, and no two lists of words have the same one."""
     seen = ".".join(re.sub("[^A-Za-z0-9_+-]+", "_", str(word))[:40] for word in words)
@@ -94,20 +87,3 @@ def record_of(out, key, task):
     except (OSError, ValueError):
         return None
     return record if isinstance(record, dict) and record.get("task") == task else None
-
-
-def write_whole(path, data):
-    """Puts a file in the place of what stands there, once all of it is on the disk."""
-    data = data if isinstance(data, bytes) else data.encode("utf-8", "surrogateescape")
-    os.makedirs(os.path.dirname(path), exist_ok=True)
-    number, beside = tempfile.mkstemp(prefix=".part-", dir=os.path.dirname(path))
-    try:
-        with os.fdopen(number, "wb") as file:
-            file.write(data)
-            file.flush()
-            os.fsync(file.fileno())
-        os.chmod(beside, 0o644)
-        os.replace(beside, path)
-    except BaseException:
-        os.unlink(beside)
-        raise

@@ -1,0 +1,363 @@
+"""A run of `plan`: what stands, and how it gets better.
+
+First `solve` makes a plan and a certificate, or what stands in the folder is judged. Then there are two lanes, which go
+on side by side, each in rounds: in one `improve` looks for better plans, with as many seeds as it has processors; in
+the other `bound` goes on with the certificate, on parts of the tree where the program knows parts. What comes of a
+round is believed once `check` has accepted it, and takes the place of what stood.
+
+A lane is a generator: it hands out the calls of programs that it waits for, and gets them back once they have ended.
+"""
+import hashlib
+import os
+import time
+
+from planning import reports
+from planning.pace import Pace, round_seconds
+from planning.reports import gap_of, gap_shown, is_accepted, says_no_plan, whole
+from planning.running import Task
+from planning.telling import BEAT, clock, standing
+
+# The turns of `solve`, and of the first rounds.
+SOLVE, FIRST_IMPROVE, FIRST_BOUND, LEAST_BOUND = 1000, 200, 0, 100
+# After how many rounds without any call that succeeded a lane is given up.
+MOST_FAILURES = 3
+# Statuses: of a program that finds no plan, and where none exists; where the instance can't be read.
+NOTHING_FOUND, NO_PLAN, HOPELESS = 9, 10, (2, 3, 7)
+REFUSED_PLAN, REFUSED_CERTIFICATE, MEMORY = (1, 4), 5, 11
+
+
+class Ended(Exception):
+    """The run can't go on: with a status of a program, and what it said."""
+
+    def __init__(self, status, said):
+        super().__init__(status)
+        self.status, self.said = status, said
+
+
+class Lane:
+    """One of the two kinds of steps: its pace, how many processors it has, and may have at most, where memory is short,
+    and how often it failed in a row.
+    """
+
+    def __init__(self, name, pace, slots, most):
+        self.name, self.pace, self.slots, self.most = name, pace, slots, most
+        self.rounds = self.failures = 0
+        self.is_at_rest = False
+
+
+class Run:
+    """`programs` are the files of `planner_cli` and `plan_refine`."""
+
+    def __init__(self, words, folder, programs, runner, teller):
+        self.words, self.folder, self.programs = words, folder, programs
+        self.runner, self.teller = runner, teller
+        self.instance = os.path.abspath(words.instance)
+        self.slack = [f"slack={words.slack}"] if words.slack is not None else []
+        self.score = self.bound = self.periods = None
+        self.has_certificate = self.has_no_plan = False
+        self.reading, self.batches = 0.0, {}
+        self.began, self.before = time.monotonic(), float(folder.state["seconds"])
+        self.improving = Lane("improve", Pace(FIRST_IMPROVE, 1), 1, words.jobs)
+        self.bounding = Lane("bound", Pace(FIRST_BOUND, LEAST_BOUND), 1, words.jobs)
+        for lane in (self.improving, self.bounding):
+            if lane.name in folder.state["turns"]:
+                lane.pace.turns, lane.pace.seconds = folder.state["turns"][lane.name]
+
+    # What stands, and when it is over.
+
+    def passed(self):
+        return time.monotonic() - self.began
+
+    def left(self):
+        return float("inf") if self.words.seconds is None else self.words.seconds - self.passed()
+
+    def gap(self):
+        return gap_of(self.score, self.bound)
+
+    def is_over(self):
+        """Why no more is to be done; nothing while there is."""
+        if self.runner.signals:
+            return "a signal came"
+        if self.has_no_plan:
+            return "no plan keeps the rules"
+        if self.gap() is not None and self.gap() <= self.words.gap:
+            return f"the gap is {gap_shown(self.gap(), 2)} %"
+        if self.left() <= 0:
+            return "the time is over"
+        if self.improving.is_at_rest and self.bounding.is_at_rest:
+            return "nothing more can be done"
+        return ""
+
+    # The calls of programs.
+
+    def refine(self, kind, *words, **more):
+        return Task(kind, [self.programs["plan_refine"], kind, self.instance, *map(str, words), *self.slack], **more)
+
+    def judge(self, plan, certificate):
+        """`check` of a plan and a certificate, or of one of them; `evaluate` of a plan alone."""
+        if certificate:
+            return self.refine("check", plan or "-", certificate)
+        return Task("evaluate", [self.programs["planner_cli"], "evaluate", self.instance, plan, *self.slack])
+
+    def solve(self, name, turns):
+        place = os.path.join(self.folder.work, name)
+        files = [f"{place}.plan", f"{place}.cert", f"{place}.trail"]
+        return Task("solve", [self.programs["planner_cli"], "solve", self.instance, *files, str(turns), *self.slack],
+                    out=files[0], turns=turns)
+
+    def certificate(self):
+        return self.folder.certificate if self.has_certificate else None
+
+    def plan(self):
+        return self.folder.plan if self.score is not None else None
+
+    def seed(self, number):
+        """The seed of a call: another one for each."""
+        text = f"{self.words.seed} {self.folder.state['rounds']} {self.improving.rounds} {number}"
+        return int.from_bytes(hashlib.sha256(text.encode()).digest()[:8], "big")
+
+    # Driving the lanes.
+
+    def drive(self, *lanes):
+        """Goes on with the lanes until they end, or it is over."""
+        for lane in lanes:
+            self.advance(lane, None)
+        while self.batches and not self.is_over():
+            for task in self.runner.wait(min(BEAT, self.left())):
+                lane, batch = self.batches[id(task)]
+                del self.batches[id(task)]
+                if all(it.status is not None for it in batch):
+                    self.advance(lane, batch)
+            self.show()
+        self.runner.stop()
+        self.batches.clear()
+
+    def advance(self, lane, done):
+        try:
+            batch = lane.send(done)
+        except StopIteration:
+            return
+        for task in batch:
+            self.batches[id(task)] = (lane, batch)
+        self.runner.add(batch, is_urgent=batch[0].kind in ("check", "evaluate", "join"))
+
+    def show(self):
+        running = {}
+        for task, *_ in self.runner.running.values():
+            running.setdefault(f"{task.kind} {task.turns}" if task.turns else task.kind, []).append(task)
+        runs = ", ".join(f"{len(tasks)} x {name}" if len(tasks) > 1 else name for name, tasks in running.items())
+        left = f"{clock(self.left())} left" if self.words.seconds is not None else clock(self.passed())
+        self.teller.rewrite(f"{left}  {standing(self.score, self.bound, self.gap(), self.periods)}  {runs}")
+
+    # Taking what the programs made.
+
+    def take(self, task, plan=None, certificate=None):
+        """Takes a plan and a certificate that were judged, where they are better than what stands."""
+        if not (is_accepted(task) or task.kind == "evaluate" and task.status == 0):
+            return False
+        score, bound = whole(task.said, "score"), whole(task.said, "bound")
+        self.reading = task.seconds
+        self.periods = self.periods or reports.periods_of(task.said)
+        is_taken = False
+        if plan and score is not None and (self.score is None or score < self.score):
+            if plan != self.folder.plan:
+                self.folder.take_plan(plan)
+            self.score, is_taken = score, True
+        if certificate and (says_no_plan(task.said) or bound is not None and (self.bound is None or bound > self.bound)):
+            if certificate != self.folder.certificate:
+                self.folder.take_certificate(certificate)
+            self.bound, self.has_no_plan, self.has_certificate = bound, says_no_plan(task.said), True
+            is_taken = True
+        return is_taken
+
+    def end_round(self, step, turns, lane=None, seconds=None):
+        """Notes a round in the folder, and tells of it."""
+        state = self.folder.state
+        state["rounds"] += 1
+        state["seconds"] = round(self.before + self.passed(), 3)
+        if lane:
+            lane.pace.took(seconds)
+            lane.rounds += 1
+            state["turns"][lane.name] = [lane.pace.turns, round(seconds, 3)]
+        self.folder.keep_state()
+        known = lambda number: "" if number is None else number
+        self.folder.note([f"{state['seconds']:.3f}", known(self.score), "none" if self.has_no_plan else known(self.bound),
+                          gap_shown(self.gap(), 4), state["rounds"], turns, step])
+        if not self.teller.is_terminal:
+            text = standing(self.score, self.bound, self.gap(), self.periods)
+            self.teller.remark(f"{state['seconds']:.1f} s, round {state['rounds']}: {text}  {step} {turns}")
+
+    def tell_failures(self, done):
+        """Says which calls failed, and how."""
+        failed = [task for task in done if task.status not in (0, NOTHING_FOUND, NO_PLAN)]
+        for how in sorted({self.fault_of(task) for task in failed}):
+            count = sum(self.fault_of(task) == how for task in failed)
+            self.teller.remark(f"{count} of {len(done)} calls of {done[0].kind} failed: {how}")
+        return failed
+
+    def fault_of(self, task):
+        if task.status < 0:
+            return f"ended by signal {-task.status}"
+        return f"{reports.first_line(task.said) or 'it said nothing'} (status {task.status})"
+
+    def note_failures(self, lane, done):
+        """Takes note of calls that failed; answers whether the lane may go on."""
+        failed = self.tell_failures(done)
+        lane.failures = lane.failures + 1 if len(failed) == len(done) else 0
+        if any(task.status == MEMORY or task.status < 0 for task in failed) and lane.slots > 1:
+            lane.most = lane.slots // 2
+            self.teller.remark(f"from now on {lane.most} at a time")
+        if lane.failures >= MOST_FAILURES:
+            lane.is_at_rest = True
+            self.teller.remark(f"{lane.name} is given up, as it failed in {MOST_FAILURES} rounds")
+
+    # The first step.
+
+    def begin(self):
+        """Judges what stands in the folder and what an earlier run left in its work, and has `solve` make the rest."""
+        yield from self.judge_standing()
+        yield from self.take_left_over()
+        self.folder.clear_work()
+        if not (self.has_certificate and self.score is not None) and not self.is_over():
+            task = self.solve("solve", SOLVE)
+            yield [task]
+            if task.status in HOPELESS:
+                raise Ended(task.status, task.said)
+            yield from self.take_solved(task)
+            self.tell_failures([task])
+            self.end_round("solve", SOLVE)
+
+    def judge_standing(self):
+        plan, certificate = (it if os.path.exists(it) else None for it in (self.folder.plan, self.folder.certificate))
+        while plan or certificate:
+            task = self.judge(plan, certificate)
+            yield [task]
+            if task.status == 0:
+                self.take(task, plan, certificate)
+                self.teller.remark("goes on with " + standing(self.score, self.bound, self.gap(), self.periods))
+                return
+            if plan and task.status in REFUSED_PLAN:
+                self.put_aside(plan, task)
+                plan = None
+            elif certificate and task.status == REFUSED_CERTIFICATE:
+                self.put_aside(certificate, task)
+                certificate = None
+            else:
+                raise Ended(task.status, task.said)
+
+    def put_aside(self, path, task):
+        kept = self.folder.put_aside(path)
+        said = " ".join(task.said.split("\n")[:2])
+        self.teller.remark(f"{path} isn't what `check` accepts ({said.strip()}), and is kept as {kept}")
+
+    def take_left_over(self):
+        """Takes what the calls of an earlier run wrote and that run didn't live to take, where it is better."""
+        plans, certificates, _ = self.folder.left_over()
+        for plan in plans:
+            task = self.judge(plan, self.certificate())
+            yield [task]
+            self.take(task, plan=plan)
+        for certificate in certificates:
+            task = self.judge(self.plan(), certificate)
+            yield [task]
+            self.take(task, certificate=certificate)
+
+    def take_solved(self, task):
+        """Takes what `solve` made."""
+        place = task.out[:-len(".plan")]
+        plan, certificate = (it if os.path.exists(it) else None for it in (f"{place}.plan", f"{place}.cert"))
+        if task.status not in (0, NOTHING_FOUND, NO_PLAN) or not certificate:
+            return
+        judged = self.judge(plan if task.status == 0 else None, certificate)
+        yield [judged]
+        self.take(judged, plan if task.status == 0 else None, certificate)
+
+    # Better plans.
+
+    def improve(self):
+        lane = self.improving
+        while self.may_go_on(lane):
+            lane.slots = self.slots_of(lane, self.bounding)
+            self.set_turns(lane)
+            done = yield self.improve_tasks(lane)
+            self.note_failures(lane, done)
+            yield from self.take_plans(done)
+            self.end_round("improve", sum(task.turns for task in done), lane, max(task.seconds for task in done))
+
+    def improve_tasks(self, lane):
+        """Calls with different seeds; while there is no plan, one that looks for it, and beside it one of `solve`."""
+        turns, name = lane.pace.turns, f"improve-{self.folder.state['rounds']}"
+        place = lambda number: os.path.join(self.folder.work, f"{name}-{number}.plan")
+        call = lambda number: self.refine("improve", self.plan() or "-", place(number), turns, self.seed(number),
+                                          out=place(number), turns=turns)
+        if self.score is None:
+            return [call(1), self.solve(f"{name}-2", turns)][:lane.slots]
+        return [call(number) for number in range(1, lane.slots + 1)]
+
+    def take_plans(self, done):
+        """Takes the best plan of a round, which is the one of the least score that `check` accepts."""
+        found = [(whole(task.said, "score"), at, task) for at, task in enumerate(done) if task.status == 0]
+        for score, _, task in sorted(it for it in found if it[0] is not None):
+            if self.score is not None and score >= self.score:
+                break
+            judged = self.judge(task.out, self.certificate())
+            yield [judged]
+            if self.take(judged, plan=task.out):
+                break
+            self.tell_failures([judged])
+        self.remove(done)
+
+    # Better bounds.
+
+    def raise_bound(self):
+        lane = self.bounding
+        # (a certificate of `solve` is gone on with where one from nothing isn't better)
+        old = self.certificate() if lane.pace.seconds is not None else None
+        while self.may_go_on(lane):
+            self.set_turns(lane)
+            task = self.refine("bound", self.plan() or "-", old or "-", self.place_of_bound(), lane.pace.turns,
+                               out=self.place_of_bound(), turns=lane.pace.turns)
+            yield [task]
+            self.note_failures(lane, [task])
+            is_taken = yield from self.take_bound(task)
+            self.end_round("bound", task.turns, lane, task.seconds)
+            if old and task.turns and task.status == 0 and not is_taken and not whole(task.said, "splits"):
+                lane.is_at_rest = True
+            old = self.certificate()
+
+    def place_of_bound(self):
+        return os.path.join(self.folder.work, f"bound-{self.bounding.rounds}.cert")
+
+    def take_bound(self, task):
+        is_taken = False
+        if task.status in (0, NO_PLAN):
+            bound = whole(task.said, "bound")
+            if bound is None or self.bound is None or bound > self.bound:
+                judged = self.judge(self.plan(), task.out)
+                yield [judged]
+                is_taken = self.take(judged, certificate=task.out)
+                self.tell_failures([judged])
+        self.remove([task])
+        return is_taken
+
+    # What both lanes need.
+
+    def may_go_on(self, lane):
+        return not (lane.is_at_rest or self.words.rounds is not None and lane.rounds >= self.words.rounds)
+
+    def slots_of(self, lane, other):
+        """How many processors a lane has, beside another one."""
+        return max(1, min(lane.most, self.words.jobs - (0 if other.is_at_rest else other.slots)))
+
+    def set_turns(self, lane):
+        if self.words.rounds is not None:
+            lane.pace.doubled()
+            return
+        alone = self.words.jobs > 1 or self.improving.is_at_rest or self.bounding.is_at_rest
+        passed = self.before + self.passed()
+        lane.pace.next(round_seconds(passed, self.left(), self.reading, 1.0 if alone else 0.5), self.reading)
+
+    def remove(self, tasks):
+        for task in tasks:
+            if task.out and os.path.exists(task.out):
+                os.remove(task.out)

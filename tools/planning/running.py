@@ -1,0 +1,137 @@
+"""Starts programs, as many at a time as there are processors for, and waits for what comes next: the end of one, a
+signal, or a time.
+
+Each program is in a process group of its own, so that Ctrl-C reaches this script alone, which then ends them. Where
+this script is killed, the system kills them.
+"""
+import contextlib
+import os
+import selectors
+import signal
+import subprocess
+import time
+from dataclasses import dataclass, field
+from typing import Optional
+
+from processes import end_all, ended_with_this, take_orphans
+
+SIGNALS = (signal.SIGINT, signal.SIGTERM, signal.SIGHUP)
+# How much of what a program says is kept.
+LONGEST_SAID = 1 << 20
+# The status of what couldn't be started, as a shell has it.
+NOT_STARTED = 127
+
+
+@dataclass
+class Task:
+    """A call of a program: what it is for, its words, the file that it writes, and once it has ended its status (below
+    0: the signal), what it said, and the seconds that it took.
+    """
+
+    kind: str
+    words: list
+    out: Optional[str] = None
+    turns: int = 0
+    status: Optional[int] = None
+    said: str = ""
+    seconds: float = 0.0
+    slots: int = 1
+    details: dict = field(default_factory=dict)
+
+
+class Runner:
+    """What runs, and what waits for a processor."""
+
+    def __init__(self, jobs):
+        self.jobs, self.waiting, self.running = jobs, [], {}
+        self.signals = []
+        self.selector = selectors.DefaultSelector()
+        take_orphans()
+
+    def take_signals(self):
+        """From now on signals are noted, and wake up what waits; those that are ignored stay so."""
+        self.awake, wake = os.pipe2(os.O_NONBLOCK | os.O_CLOEXEC)
+        signal.set_wakeup_fd(wake, warn_on_full_buffer=False)
+        self.selector.register(self.awake, selectors.EVENT_READ)
+        for number in SIGNALS:
+            if signal.getsignal(number) != signal.SIG_IGN:
+                signal.signal(number, lambda it, _: self.signals.append(it))
+
+    def add(self, tasks, is_urgent=False):
+        """Has tasks run as soon as there are processors for them; urgent ones before all others."""
+        self.waiting[:0 if is_urgent else len(self.waiting)] = tasks
+        self.start_waiting()
+
+    def start_waiting(self):
+        while self.waiting and (not self.running or self.used() + self.waiting[0].slots <= self.jobs):
+            self.start(self.waiting.pop(0))
+
+    def used(self):
+        return sum(task.slots for task, *_ in self.running.values())
+
+    def start(self, task):
+        began = time.monotonic()
+        try:
+            process = subprocess.Popen(task.words, stdin=subprocess.DEVNULL, stdout=subprocess.PIPE,
+                                       stderr=subprocess.DEVNULL, cwd=task.details.get("folder"),
+                                       start_new_session=True, preexec_fn=ended_with_this(signal.SIGKILL))
+        except (OSError, subprocess.SubprocessError):
+            # (its end is found by the next wait)
+            process = NotStarted()
+        pipe = process.stdout.fileno()
+        os.set_blocking(pipe, False)
+        self.running[pipe] = (task, process, began, bytearray())
+        self.selector.register(pipe, selectors.EVENT_READ)
+
+    def wait(self, seconds):
+        """The tasks that have ended, once one has, or a signal came, or the seconds are over."""
+        end, ended = time.monotonic() + max(0.0, seconds), []
+        while not ended and not self.signals:
+            for key, _ in self.selector.select(max(0.0, end - time.monotonic())):
+                if key.fd == self.awake:
+                    with contextlib.suppress(BlockingIOError):
+                        os.read(self.awake, 4096)
+                elif not self.drain(key.fd):
+                    ended.append(self.finish(key.fd))
+            if time.monotonic() >= end:
+                break
+        self.start_waiting()
+        return ended
+
+    def drain(self, pipe):
+        """Reads what a program has said; answers whether more may come."""
+        said = self.running[pipe][3]
+        with contextlib.suppress(BlockingIOError):
+            for _ in range(16):
+                data = os.read(pipe, 1 << 16)
+                if not data:
+                    return False
+                said += data[:max(0, LONGEST_SAID - len(said))]
+        return True
+
+    def finish(self, pipe):
+        task, process, began, said = self.running.pop(pipe)
+        self.selector.unregister(pipe)
+        task.status = process.wait()
+        process.stdout.close()
+        task.said, task.seconds = said.decode("utf-8", "replace"), time.monotonic() - began
+        return task
+
+    def stop(self):
+        """Ends all that runs, and forgets what waits."""
+        self.waiting.clear()
+        end_all()
+        for pipe in list(self.running):
+            self.finish(pipe)
+
+
+class NotStarted:
+    """Stands in the place of a process that couldn't be started: one that said nothing."""
+
+    def __init__(self):
+        read, write = os.pipe()
+        os.close(write)
+        self.stdout = os.fdopen(read, "rb")
+
+    def wait(self):
+        return NOT_STARTED
