@@ -2,6 +2,7 @@
 import contextlib
 import hashlib
 import os
+import shutil
 import tempfile
 
 
@@ -34,6 +35,18 @@ def put_whole(beside, path):
     os.chmod(beside, 0o644)
     os.replace(beside, path)
     flush_folder(os.path.dirname(path))
+
+
+def place_copy(source, path):
+    """Has what a file holds stand under another name too, without a copy where that can be. Files are replaced whole
+    and never changed, so the two stay apart.
+    """
+    if os.path.lexists(path):
+        os.remove(path)
+    try:
+        os.link(os.path.realpath(source), path)
+    except OSError:
+        shutil.copy2(source, path)
 
 
 def flush_folder(folder):

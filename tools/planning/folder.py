@@ -11,11 +11,13 @@ import os
 import re
 import shutil
 
-from whole_files import put_whole, write_whole
+from whole_files import place_copy, put_whole, write_whole
 
 COLUMNS = "seconds\tscore\tbound\tgap_percent\trounds\tturns\tstep\n"
 OURS = ("plan.txt", "plan.cert", "progress.tsv", "work")
 PART = re.compile(r"part-([0-9]{1,6})-of-([0-9]{1,6})\.cert")
+# The certificate that parts are of, in the work.
+COMMON = "common.cert"
 # More than this of the end of `progress.tsv` is no line.
 LONGEST_LINE = 4096
 
@@ -77,6 +79,12 @@ class Folder:
     def take_certificate(self, path):
         put_whole(path, self.certificate)
 
+    def keep_in_work(self, path, name):
+        """Has what a file holds now stand in the work, whatever becomes of the file; answers its place there."""
+        kept = os.path.join(self.work, name)
+        place_copy(path, kept)
+        return kept
+
     def put_aside(self, path):
         """Keeps a file that can't be used under another name, which is answered."""
         number = 1
@@ -86,14 +94,14 @@ class Folder:
         return f"{path}.refused-{number}"
 
     def left_over(self):
-        """What an earlier run left in the work: files of plans, of certificates, and of parts of a tree as (path, K,
-        N).
+        """What an earlier run, or a queue of jobs, left in the work: files of plans, of certificates, and those of parts
+        of a tree by (K, N).
         """
         names = sorted(name for name in os.listdir(self.work) if os.path.isfile(os.path.join(self.work, name)))
-        parts = [(os.path.join(self.work, name), *map(int, PART.fullmatch(name).groups()))
-                 for name in names if PART.fullmatch(name)]
+        parts = {tuple(map(int, PART.fullmatch(name).groups())): os.path.join(self.work, name)
+                 for name in names if PART.fullmatch(name)}
         with_ending = lambda ending: [os.path.join(self.work, name) for name in names
-                                      if name.endswith(ending) and not PART.fullmatch(name) and name != "common.cert"]
+                                      if name.endswith(ending) and not PART.fullmatch(name) and name != COMMON]
         return with_ending(".plan"), with_ending(".cert"), parts
 
     def clear_work(self):

@@ -32,13 +32,13 @@ class Pace:
         """Notes how long the round took that had these turns."""
         self.seconds = seconds
 
-    def next(self, wanted, reading):
+    def next(self, wanted, reading, step=STEP):
         """The turns of the next round, which is to take so many seconds."""
         if self.seconds is None:
             return self.turns
         # (the reading has no turns)
         ratio = max(wanted - reading, 0.05 * wanted) / max(self.seconds - reading, 0.05 * self.seconds, 1e-3)
-        ratio = min(max(ratio, 1 / STEP), STEP)
+        ratio = min(max(ratio, 1 / step), step)
         return self.set(max(self.least, int(max(self.turns, self.least) * ratio)))
 
     def doubled(self):

@@ -9,16 +9,24 @@ A lane is a generator: it hands out the calls of programs that it waits for, and
 """
 import hashlib
 import os
+import shlex
+import sys
 import time
 
 from planning import reports
-from planning.pace import Pace, round_seconds
+from planning.folder import COMMON
+from planning.pace import LEAST, MOST_TURNS, Pace, round_seconds
 from planning.reports import gap_of, gap_shown, is_accepted, says_no_plan, whole
 from planning.running import Task
 from planning.telling import BEAT, clock, standing
 
 # The turns of `solve`, and of the first rounds.
 SOLVE, FIRST_IMPROVE, FIRST_BOUND, LEAST_BOUND = 1000, 200, 0, 100
+JOIN = os.path.join(os.path.dirname(os.path.dirname(os.path.abspath(__file__))), "join")
+# How many leaves a part of a tree has at least, and how many price lists there can be.
+LEAVES_OF_PART, MOST_LISTS = 4, 16
+# What `bound` answers where it knows the words of a call of which there is no instance.
+NO_INSTANCE, UNREAD = os.path.join(os.devnull, "none"), 7
 # After how many rounds without any call that succeeded a lane is given up.
 MOST_FAILURES = 3
 # Statuses: of a program that finds no plan, and where none exists; where the instance can't be read.
@@ -45,11 +53,28 @@ class Lane:
         self.is_at_rest = False
 
 
-class Run:
-    """`programs` are the files of `planner_cli` and `plan_refine`."""
+class Tree:
+    """What is known of the tree of the certificate: how many leaves and price lists it has, and whether `bound` added
+    lists to it the last time.
+    """
 
-    def __init__(self, words, folder, programs, runner, teller):
-        self.words, self.folder, self.programs = words, folder, programs
+    def __init__(self):
+        self.leaves = self.lists = 0
+        self.is_growing = True
+
+    def note(self, said):
+        counts = [whole(said, name) for name in ("splits", "kept", "changed", "lists")]
+        if None not in counts:
+            splits, kept, changed, lists = counts
+            self.leaves = splits + max(1, kept + changed)
+            self.is_growing, self.lists = lists != self.lists and lists < MOST_LISTS, lists
+
+
+class Run:
+    """`programs` are the files of `planner_cli` and `plan_refine`, `machines` the other ones, if there are any."""
+
+    def __init__(self, words, folder, programs, runner, teller, machines=None):
+        self.words, self.folder, self.programs, self.machines = words, folder, programs, machines
         self.runner, self.teller = runner, teller
         self.instance = os.path.abspath(words.instance)
         self.slack = [f"slack={words.slack}"] if words.slack is not None else []
@@ -59,6 +84,8 @@ class Run:
         self.began, self.before = time.monotonic(), float(folder.state["seconds"])
         self.improving = Lane("improve", Pace(FIRST_IMPROVE, 1), 1, words.jobs)
         self.bounding = Lane("bound", Pace(FIRST_BOUND, LEAST_BOUND), 1, words.jobs)
+        self.tree, self.knows_parts, self.made, self.printed = Tree(), False, None, []
+        self.tree.leaves, self.tree.lists = folder.state.get("leaves", 0), folder.state.get("lists", 0)
         for lane in (self.improving, self.bounding):
             if lane.name in folder.state["turns"]:
                 lane.pace.turns, lane.pace.seconds = folder.state["turns"][lane.name]
@@ -90,8 +117,9 @@ class Run:
 
     # The calls of programs.
 
-    def refine(self, kind, *words, **more):
-        return Task(kind, [self.programs["plan_refine"], kind, self.instance, *map(str, words), *self.slack], **more)
+    def refine(self, kind, *words, part=(), **more):
+        words = [self.programs["plan_refine"], kind, self.instance, *map(str, words), *self.slack, *part]
+        return Task(kind, words, **more)
 
     def judge(self, plan, certificate):
         """`check` of a plan and a certificate, or of one of them; `evaluate` of a plan alone."""
@@ -123,10 +151,10 @@ class Run:
         for lane in lanes:
             self.advance(lane, None)
         while self.batches and not self.is_over():
+            self.runner.start_waiting()
             for task in self.runner.wait(min(BEAT, self.left())):
-                lane, batch = self.batches[id(task)]
-                del self.batches[id(task)]
-                if all(it.status is not None for it in batch):
+                lane, batch = self.batches.pop(id(task))
+                if not any(id(it) in self.batches for it in batch):
                     self.advance(lane, batch)
             self.show()
         self.runner.stop()
@@ -179,6 +207,7 @@ class Run:
             lane.pace.took(seconds)
             lane.rounds += 1
             state["turns"][lane.name] = [lane.pace.turns, round(seconds, 3)]
+        state["leaves"], state["lists"] = self.tree.leaves, self.tree.lists
         self.folder.keep_state()
         known = lambda number: "" if number is None else number
         self.folder.note([f"{state['seconds']:.3f}", known(self.score), "none" if self.has_no_plan else known(self.bound),
@@ -225,6 +254,7 @@ class Run:
                 raise Ended(task.status, task.said)
             yield from self.take_solved(task)
             self.tell_failures([task])
+            self.folder.clear_work()
             self.end_round("solve", SOLVE)
 
     def judge_standing(self):
@@ -252,15 +282,27 @@ class Run:
 
     def take_left_over(self):
         """Takes what the calls of an earlier run wrote and that run didn't live to take, where it is better."""
-        plans, certificates, _ = self.folder.left_over()
+        plans, certificates, parts = self.folder.left_over()
         for plan in plans:
             task = self.judge(plan, self.certificate())
             yield [task]
             self.take(task, plan=plan)
+        common = os.path.join(self.folder.work, COMMON)
+        if parts and os.path.exists(common):
+            whole_ones = {}
+            for (number, count), path in parts.items():
+                task = self.judge(None, path)
+                yield [task]
+                if task.status == 0:
+                    whole_ones.setdefault(count, {})[(number, count)] = path
+            for count in sorted(whole_ones, key=lambda it: -len(whole_ones[it]))[:1]:
+                yield from self.join(common, whole_ones[count], count)
         for certificate in certificates:
             task = self.judge(self.plan(), certificate)
             yield [task]
             self.take(task, certificate=certificate)
+        if plans or certificates or parts:
+            self.end_round("taken", 0)
 
     def take_solved(self, task):
         """Takes what `solve` made."""
@@ -279,7 +321,7 @@ class Run:
         while self.may_go_on(lane):
             lane.slots = self.slots_of(lane, self.bounding)
             self.set_turns(lane)
-            done = yield self.improve_tasks(lane)
+            done = yield from self.spread(lane, self.improve_tasks(lane))
             self.note_failures(lane, done)
             yield from self.take_plans(done)
             self.end_round("improve", sum(task.turns for task in done), lane, max(task.seconds for task in done))
@@ -288,11 +330,27 @@ class Run:
         """Calls with different seeds; while there is no plan, one that looks for it, and beside it one of `solve`."""
         turns, name = lane.pace.turns, f"improve-{self.folder.state['rounds']}"
         place = lambda number: os.path.join(self.folder.work, f"{name}-{number}.plan")
-        call = lambda number: self.refine("improve", self.plan() or "-", place(number), turns, self.seed(number),
-                                          out=place(number), turns=turns)
+        given = self.given("improve")
+        call = lambda number: self.refine("improve", given, place(number), turns, self.seed(number), out=place(number),
+                                          turns=turns)
         if self.score is None:
             return [call(1), self.solve(f"{name}-2", turns)][:lane.slots]
-        return [call(number) for number in range(1, lane.slots + 1)]
+        count = lane.slots * (self.machines.count if self.machines else 1)
+        return [call(number) for number in range(1, count + 1)]
+
+    def given(self, name):
+        """The plan that the calls of a round begin with; elsewhere all with the same one, whatever becomes of it here."""
+        if (self.machines or self.words.is_dry) and self.score is not None:
+            return self.folder.keep_in_work(self.folder.plan, f"{name}.given")
+        return self.plan() or "-"
+
+    def spread(self, lane, tasks):
+        """Has the calls of a round made here, or on the machines, and answers them."""
+        if not self.machines or self.score is None:
+            return (yield tasks)
+        batch = self.machines.batch(tasks, lane.slots, lane.pace.seconds or 0)
+        yield [batch]
+        return self.machines.take(batch)
 
     def take_plans(self, done):
         """Takes the best plan of a round, which is the one of the least score that `check` accepts."""
@@ -311,26 +369,85 @@ class Run:
 
     def raise_bound(self):
         lane = self.bounding
+        yield from self.ask_for_parts()
         # (a certificate of `solve` is gone on with where one from nothing isn't better)
         old = self.certificate() if lane.pace.seconds is not None else None
         while self.may_go_on(lane):
+            lane.slots = self.slots_of_bound(lane)
             self.set_turns(lane)
-            task = self.refine("bound", self.plan() or "-", old or "-", self.place_of_bound(), lane.pace.turns,
-                               out=self.place_of_bound(), turns=lane.pace.turns)
-            yield [task]
-            self.note_failures(lane, [task])
-            is_taken = yield from self.take_bound(task)
-            self.end_round("bound", task.turns, lane, task.seconds)
-            if old and task.turns and task.status == 0 and not is_taken and not whole(task.said, "splits"):
+            count = lane.slots * (self.machines.count if self.machines else 1)
+            is_taken = yield from (self.raise_parts(lane, count) if lane.slots > 1 else self.raise_whole(lane, old))
+            if old and lane.pace.turns and not is_taken and self.made == 0:
                 lane.is_at_rest = True
             old = self.certificate()
 
-    def place_of_bound(self):
-        return os.path.join(self.folder.work, f"bound-{self.bounding.rounds}.cert")
+    def ask_for_parts(self):
+        """Finds out whether the program goes on with a part of a tree."""
+        words = ["bound", NO_INSTANCE, "-", "-", os.path.join(self.folder.work, "none"), "0", "part=0/1"]
+        task = Task("ask", [self.programs["plan_refine"], *words])
+        yield [task]
+        self.knows_parts = task.status == UNREAD
+
+    def slots_of_bound(self, lane):
+        """How many processors `bound` has: half of them, where the tree is large enough for parts."""
+        jobs = self.words.jobs if self.improving.is_at_rest else max(1, self.words.jobs // 2)
+        machines = self.machines.count if self.machines else 1
+        may = self.knows_parts and not self.tree.is_growing and self.has_certificate
+        return max(1, min(lane.most, jobs, self.tree.leaves // (LEAVES_OF_PART * machines))) if may else 1
+
+    def raise_whole(self, lane, old):
+        """A round on the whole tree; answers whether its bound is better."""
+        task = self.whole_tree(lane, self.plan() or "-", old or "-")
+        yield [task]
+        self.note_failures(lane, [task])
+        self.made = whole(task.said, "splits") if task.status == 0 else None
+        is_taken = yield from self.take_bound(task)
+        self.end_round("bound", task.turns, lane, task.seconds)
+        return is_taken
+
+    def whole_tree(self, lane, given, old):
+        out = os.path.join(self.folder.work, f"bound-{lane.rounds}.cert")
+        return self.refine("bound", given, old, out, lane.pace.turns, out=out, turns=lane.pace.turns)
+
+    def raise_parts(self, lane, count):
+        """A round on parts of the tree side by side."""
+        common, given = self.folder.keep_in_work(self.folder.certificate, COMMON), self.given("bound")
+        done = yield from self.spread(lane, [self.part(lane, given, common, number, count) for number in range(count)])
+        self.note_failures(lane, done)
+        made = {(number, count): task.out for number, task in enumerate(done) if task.status in (0, NO_PLAN)}
+        self.made = sum(whole(task.said, "splits") or 0 for task in done) if made else None
+        is_taken = yield from self.join(common, made, lane.rounds)
+        self.remove(done)
+        self.end_round("bound", sum(task.turns for task in done), lane, max(task.seconds for task in done))
+        return is_taken
+
+    def part(self, lane, given, common, number, count):
+        out = os.path.join(self.folder.work, f"part-{number}-of-{count}.cert")
+        return self.refine("bound", given, common, out, lane.pace.turns, part=[f"part={number}/{count}"], out=out,
+                           turns=lane.pace.turns)
+
+    def join(self, common, parts, number):
+        """Puts parts together that were made of a common certificate, and takes what that comes to."""
+        if not parts:
+            return False
+        joined, out = (os.path.join(self.folder.work, f"{name}-{number}.cert") for name in ("joined", "bound"))
+        words = [f"{one}/{count}={path}" for (one, count), path in parts.items()]
+        task = Task("join", [sys.executable, JOIN, common, joined, *words], out=joined)
+        yield [task]
+        self.tell_failures([task])
+        if task.status != 0:
+            return False
+        # (the leaves prove more than what the parts claim together)
+        better = self.refine("bound", self.plan() or "-", joined, out, 0, out=out)
+        yield [better]
+        self.tell_failures([better])
+        self.remove([task])
+        return (yield from self.take_bound(better))
 
     def take_bound(self, task):
         is_taken = False
         if task.status in (0, NO_PLAN):
+            self.tree.note(task.said)
             bound = whole(task.said, "bound")
             if bound is None or self.bound is None or bound > self.bound:
                 judged = self.judge(self.plan(), task.out)
@@ -339,6 +456,25 @@ class Run:
                 self.tell_failures([judged])
         self.remove([task])
         return is_taken
+
+    # A queue of jobs.
+
+    def commands(self):
+        """The calls of a round, as commands of a shell, each with files of its own in the work."""
+        yield from self.ask_for_parts()
+        if self.is_over():
+            return
+        for lane in (self.improving, self.bounding):
+            lane.pace.next(self.left() if self.words.seconds is not None else LEAST, self.reading, MOST_TURNS)
+        bounds = min(self.words.jobs // 2, self.tree.leaves // LEAVES_OF_PART) if self.knows_parts else 1
+        self.improving.slots = max(1, self.words.jobs - bounds)
+        tasks, given = self.improve_tasks(self.improving), self.given("improve")
+        common = self.folder.keep_in_work(self.folder.certificate, COMMON) if self.has_certificate else "-"
+        if bounds > 1:
+            tasks += [self.part(self.bounding, given, common, number, bounds) for number in range(bounds)]
+        elif self.words.jobs > 1:
+            tasks.append(self.whole_tree(self.bounding, given, common))
+        self.printed = [shlex.join(task.words) for task in tasks]
 
     # What both lanes need.
 

@@ -58,11 +58,12 @@ class Runner:
                 signal.signal(number, lambda it, _: self.signals.append(it))
 
     def add(self, tasks, is_urgent=False):
-        """Has tasks run as soon as there are processors for them; urgent ones before all others."""
-        self.waiting[:0 if is_urgent else len(self.waiting)] = tasks
-        self.start_waiting()
+        """Has tasks wait for processors; urgent ones before all others."""
+        at = 0 if is_urgent else len(self.waiting)
+        self.waiting[at:at] = tasks
 
     def start_waiting(self):
+        """Starts what there are processors for."""
         while self.waiting and (not self.running or self.used() + self.waiting[0].slots <= self.jobs):
             self.start(self.waiting.pop(0))
 
@@ -74,6 +75,7 @@ class Runner:
         try:
             process = subprocess.Popen(task.words, stdin=subprocess.DEVNULL, stdout=subprocess.PIPE,
                                        stderr=subprocess.DEVNULL, cwd=task.details.get("folder"),
+                                       env={**os.environ, **task.details.get("environment", {})},
                                        start_new_session=True, preexec_fn=ended_with_this(signal.SIGKILL))
         except (OSError, subprocess.SubprocessError):
             # (its end is found by the next wait)
@@ -95,7 +97,6 @@ class Runner:
                     ended.append(self.finish(key.fd))
             if time.monotonic() >= end:
                 break
-        self.start_waiting()
         return ended
 
     def drain(self, pipe):

@@ -30,6 +30,7 @@ class Words:
     slack: Optional[str]
     hosts: Optional[str]
     rounds: Optional[int]
+    is_dry: bool
 
 
 def processors():
@@ -38,6 +39,8 @@ def processors():
 
 def read_words(given):
     """The call that the words stand for."""
+    is_dry = "--dry-run" in given
+    given = [word for word in given if word != "--dry-run"]
     files = [word for word in given if not is_option(word)]
     if len(files) != 2 or given[:2] != files or not all(files):
         raise Fault("INSTANCE and FOLDER come first, and then options as minutes=10")
@@ -46,14 +49,16 @@ def read_words(given):
         raise Fault("an option is given twice")
     if "minutes" in options and "rounds" in options:
         raise Fault("minutes and rounds are two ways to end: give one of them")
+    if options.get("hosts") == "":
+        raise Fault("hosts is '', and not the name of a file")
     minutes = between("minutes", options, MINUTES, 0, MOST_MINUTES)
     if not minutes:
         raise Fault("minutes is above 0")
     return Words(
         instance=files[0], folder=files[1], seconds=None if "rounds" in options else 60 * float(minutes),
         jobs=whole("jobs", options, processors(), 1, MOST_JOBS), gap=between("gap", options, 0, 0, 100),
-        seed=whole("seed", options, SEED, 0, 2 ** 64 - 1), slack=slack(options), hosts=options.get("hosts") or None,
-        rounds=whole("rounds", options, None, 1, MOST_ROUNDS))
+        seed=whole("seed", options, SEED, 0, 2 ** 64 - 1), slack=slack(options), hosts=options.get("hosts"),
+        rounds=whole("rounds", options, None, 0, MOST_ROUNDS), is_dry=is_dry)
 
 
 def is_option(word):
