@@ -58,9 +58,11 @@ class Tree:
     lists to it the last time.
     """
 
-    def __init__(self):
-        self.leaves = self.lists = 0
-        self.is_growing = True
+    def __init__(self, leaves=0, lists=0, is_growing=True):
+        self.leaves, self.lists, self.is_growing = leaves, lists, is_growing
+
+    def kept(self):
+        return [self.leaves, self.lists, self.is_growing]
 
     def note(self, said):
         counts = [whole(said, name) for name in ("splits", "kept", "changed", "lists")]
@@ -84,8 +86,8 @@ class Run:
         self.began, self.before = time.monotonic(), float(folder.state["seconds"])
         self.improving = Lane("improve", Pace(FIRST_IMPROVE, 1), 1, words.jobs)
         self.bounding = Lane("bound", Pace(FIRST_BOUND, LEAST_BOUND), 1, words.jobs)
-        self.tree, self.knows_parts, self.made, self.printed = Tree(), False, None, []
-        self.tree.leaves, self.tree.lists = folder.state.get("leaves", 0), folder.state.get("lists", 0)
+        self.tree = Tree(*folder.state.get("tree", ()))
+        self.knows_parts, self.made, self.printed = False, None, []
         for lane in (self.improving, self.bounding):
             if lane.name in folder.state["turns"]:
                 lane.pace.turns, lane.pace.seconds = folder.state["turns"][lane.name]
@@ -207,7 +209,7 @@ class Run:
             lane.pace.took(seconds)
             lane.rounds += 1
             state["turns"][lane.name] = [lane.pace.turns, round(seconds, 3)]
-        state["leaves"], state["lists"] = self.tree.leaves, self.tree.lists
+        state["tree"] = self.tree.kept()
         self.folder.keep_state()
         known = lambda number: "" if number is None else number
         self.folder.note([f"{state['seconds']:.3f}", known(self.score), "none" if self.has_no_plan else known(self.bound),
