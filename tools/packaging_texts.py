@@ -109,6 +109,7 @@ _planner() {{
 {rows}
     explain) kinds=(file none file file slack=) ;;
     view) kinds=(file file file other= certificate= progress= slack=) ;;
+    plan) kinds=(file file minutes= jobs= gap= seed= slack= hosts=) ;;
     esac
     kind=${{kinds[COMP_CWORD - 2]-none}}
     case $kind in
