@@ -2,7 +2,7 @@
 """Writes the mixed-integer program of an instance, or has a solver solve it.
 
     bench/mip.py INSTANCE --write MODEL.lp [--variant exact|mean|cvar] [--linear]
-    bench/mip.py INSTANCE --solve SECONDS [--solver cbc|glpk|highs] [--plan PLAN] [the same options]
+    bench/mip.py INSTANCE --solve SECONDS [--solver cbc|glpk|highs] [--plan PLAN] [--threads N] [the same options]
 
 The solvers are Debian's: `coinor-cbc`, `glpk-utils`, and `python3-scipy` for its HiGHS. It prints a line for each
 figure: how large the model is; the solver's status, seconds of the clock and of a processor, and peak memory; `bound`
@@ -36,6 +36,7 @@ def read_words():
     parser.add_argument("--linear", action="store_true", help="binaries from 0 to 1")
     parser.add_argument("--plan", default=os.devnull, help="where to write the plan")
     parser.add_argument("--largest", type=int, default=8_000_000, help="terms of the model")
+    parser.add_argument("--threads", type=int, default=1, help="of cbc")
     words = parser.parse_args()
     if not words.write and words.solve is None:
         parser.error("--write or --solve")
@@ -92,7 +93,7 @@ def main():
         return
     with tempfile.TemporaryDirectory() as folder:
         try:
-            answer = solvers.solve(words.solver, built, words.solve, folder, words.linear)
+            answer = solvers.solve(words.solver, built, words.solve, folder, words.linear, words.threads)
         except solvers.Absent as fault:
             sys.exit(str(fault))
     say_answer(words, plain, built, answer)

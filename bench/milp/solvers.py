@@ -61,10 +61,11 @@ def run(words, limit, said_path):
         return Ran(status, wall, user + system, kilobytes * 1024 / 1e6, said.read())
 
 
-def solve(name, model, seconds, folder, linear=False):
-    """The answer of the solver of this name; of the linear relaxation without a plan."""
+def solve(name, model, seconds, folder, linear=False, threads=1):
+    """The answer of the solver of this name; of the linear relaxation without a plan. Of the three cbc takes threads."""
     path, said = os.path.join(folder, "model"), os.path.join(folder, "said")
-    answer = {"cbc": cbc, "glpk": glpk, "highs": highs}[name](model, seconds, path, said, linear)
+    more = {"threads": threads} if name == "cbc" else {}
+    answer = {"cbc": cbc, "glpk": glpk, "highs": highs}[name](model, seconds, path, said, linear, **more)
     if linear:
         answer.columns = None
     return answer
@@ -97,11 +98,11 @@ def lines_of(path):
 
 # ---- cbc
 
-def cbc(model, seconds, path, said, linear):
+def cbc(model, seconds, path, said, linear, threads=1):
     lp, solution = fresh(path + ".lp"), fresh(path + ".sol")
     write_lp(model, lp, linear=linear)
-    words = [program("cbc", "coinor-cbc"), lp, "-timeMode", "elapsed", "-sec", str(seconds), "-ratio", "0", "-solve",
-             "-solution", solution]
+    words = [program("cbc", "coinor-cbc"), lp, "-timeMode", "elapsed", "-sec", str(seconds), "-ratio", "0",
+             *(["-threads", str(threads)] if threads > 1 else []), "-solve", "-solution", solution]
     ran = run(words, seconds + GRACE, said)
     lines = lines_of(solution)
     head = lines[0] if lines else ""

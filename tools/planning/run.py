@@ -156,6 +156,8 @@ class Run:
             self.runner.start_waiting()
             for task in self.runner.wait(min(BEAT, self.left())):
                 lane, batch = self.batches.pop(id(task))
+                spent = self.folder.state.setdefault("processor_seconds", {})
+                spent[task.kind] = round(spent.get(task.kind, 0) + task.processor, 3)
                 if not any(id(it) in self.batches for it in batch):
                     self.advance(lane, batch)
             self.show()

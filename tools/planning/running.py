@@ -6,6 +6,7 @@ this script is killed, the system kills them.
 """
 import contextlib
 import os
+import resource
 import selectors
 import signal
 import subprocess
@@ -25,7 +26,7 @@ NOT_STARTED = 127
 @dataclass
 class Task:
     """A call of a program: what it is for, its words, the file that it writes, and once it has ended its status (below
-    0: the signal), what it said, and the seconds that it took.
+    0: the signal), what it said, and the seconds that it took, of the clock and of a processor.
     """
 
     kind: str
@@ -35,6 +36,7 @@ class Task:
     status: Optional[int] = None
     said: str = ""
     seconds: float = 0.0
+    processor: float = 0.0
     slots: int = 1
     details: dict = field(default_factory=dict)
 
@@ -113,9 +115,11 @@ class Runner:
     def finish(self, pipe):
         task, process, began, said = self.running.pop(pipe)
         self.selector.unregister(pipe)
+        before = processor_seconds()
         task.status = process.wait()
         process.stdout.close()
         task.said, task.seconds = said.decode("utf-8", "replace"), time.monotonic() - began
+        task.processor = processor_seconds() - before
         return task
 
     def stop(self):
@@ -124,6 +128,12 @@ class Runner:
         end_all()
         for pipe in list(self.running):
             self.finish(pipe)
+
+
+def processor_seconds():
+    """What all that was started and has ended took of processors."""
+    used = resource.getrusage(resource.RUSAGE_CHILDREN)
+    return used.ru_utime + used.ru_stime
 
 
 class NotStarted:
