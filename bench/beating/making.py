@@ -26,16 +26,19 @@ LONGEST_AGAIN = 120
 
 @dataclass
 class Work:
-    """One of the two kinds of calls: its next turns, what these are multiplied by, what all calls took and the last."""
+    """One of the two kinds of calls: its next turns, what these are multiplied by, how many calls there were, and what
+    all of them took and the last one.
+    """
 
     kind: str
     turns: int
     factor: int
+    calls: int = 0
     total: float = 0.0
     last: float = 0.0
 
     def note(self, seconds, turns, first):
-        self.total, self.last = self.total + seconds, seconds
+        self.calls, self.total, self.last = self.calls + 1, self.total + seconds, seconds
         self.turns = min(MOST_TURNS, max(first, turns * self.factor))
 
 
@@ -107,7 +110,7 @@ class Maker:
             works = [it for it in (self.improving, self.bounding) if turns[it.kind] is not None]
             if not works:
                 break
-            work = min(works, key=lambda it: it.total)
+            work = min(works, key=lambda it: (it.total, it.calls))
             (self.improve if work is self.improving else self.make_bound)(turns[work.kind])
         made = self.certificate
         if made and made.plan != self.plan.data and not self.is_closed():
