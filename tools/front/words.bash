@@ -105,7 +105,7 @@ statuses=(
     12 'roll, rebound, bound: the text to be written is too long'
     13 'the system refused to give the words'
     64 'words of this script itself are wrong'
-    65 'explain: no such line, or the file has not what it says; view, --json, --csv: no report; plan: FOLDER of another'
+    65 'explain: no such line, or the file has not what it says; view, --json, --csv: no report; plan: other FOLDER'
     66 'a file of the repository, or of the package, is missing; explain, view, plan: a file cannot be read'
     67 'an output is another file of the call, under another name'
     69 'a tool is missing: rt, python3, readlink, or parallel for hosts'
