@@ -38,6 +38,7 @@ use Rattle.command_frame.proofs.OutputLemmas.{WritesOnly, writes_none, writes_on
 use Rattle.command_answers.specs.Check.{IsKeptPlan, BoundsEveryPlan, ChecksBy}
 use Rattle.command_bound.specs.Given.{OnGivenCertificateBy, ReadsGivenCertificateBy}
 use Rattle.command_bound.specs.Bounding.{IsLeastScore, bound_status, bound_report, out_write, IsBounded, RaisesBound}
+use Rattle.command_bound.specs.Bounding.{LeavesTheRest}
 use Rattle.command_bound.specs.Bounding.{AnswersBound, DueBound, ReadsBound, WritesBound, BehindBound, ExpectsBound}
 use Rattle.command_bound.specs.Bounding.{BoundFiles, TellsBoundFiles, ExpectsMade, OpensBound, RunsBound}
 use Rattle.command_bound.specs.Bounding.RaisesBound.{raised, too_long}
@@ -51,6 +52,7 @@ use Rattle.command_bound.specs.Bounding.ExpectsBound.{no_certificate, refused_ce
 use Rattle.command_bound.specs.Bounding.ExpectsMade.{a_plan, none_keeps}
 use Rattle.command_bound.proofs.GivenLemmas.{on_given_certificate_other, on_told_certificate, on_named_certificate}
 use Rattle.command_bound.proofs.GivenLemmas.{on_told_plan, on_named_plan}
+use Rattle.command_bound.proofs.LeastLemmas.{least_of_one}
 
 -- ---- from one way of meeting the files to another
 
