@@ -2,7 +2,8 @@
 //! and less.
 //!
 //! What is found is a plan of allowed starts and no more: who calls judges it from scratch. So sums of the search wrap,
-//! and places are looked up where nothing says that they are there; what the search counts in is said in `units`.
+//! and places are looked up where nothing says that they are there; what the search counts in is said in `units`. For
+//! tests alone, `trial` shows what it judges.
 #![tactic(auto)]
 
 mod annealing;
@@ -18,6 +19,7 @@ mod runs;
 mod scan;
 mod seasons;
 mod state;
+pub mod trial;
 mod tries;
 mod units;
 mod words;

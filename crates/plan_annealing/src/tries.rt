@@ -1,6 +1,7 @@
 //! Tries: a change that is drawn, made where it keeps the rules and raises the score by less than a limit.
 
 use crate::change::Change;
+use crate::run::Run;
 use crate::state::State;
 use crate::words::Words;
 
@@ -25,6 +26,19 @@ impl<'a> State<'a> {
         }
     }
 
+    /// Whether a move keeps the rules.
+    #[inline]
+    pub(crate) fn keeps_move(&self, gone: Run, come: Run) -> bool {
+        !self.seasons.clashes(&self.present, come) && self.bands.keeps_move(gone, come)
+    }
+
+    /// Makes a move.
+    #[inline]
+    pub(crate) fn make_move(&mut self, change: &Change) {
+        self.bands.make_change(change);
+        self.make_change(change);
+    }
+
     /// Tries to move an intervention.
     #[inline]
     fn try_move(&mut self, words: &mut Words, limit: i64) {
@@ -37,20 +51,19 @@ impl<'a> State<'a> {
         let Some(come) = self.runs.at(work, start) else {
             return;
         };
-        if self.seasons.clashes(&self.present, come) || !self.bands.keeps_move(gone, come) {
+        if !self.keeps_move(gone, come) {
             return;
         }
         let change = Change::one(gone, come);
         if self.rise_below(&change, limit).is_some() {
-            self.bands.make_change(&change);
-            self.make_change(&change);
+            self.make_move(&change);
             self.note_best();
         }
     }
 
     /// The exchange of the starts of two interventions, if they are two, and both are allowed there.
     #[inline]
-    fn exchange(&self, first: usize, second: usize) -> Option<Change> {
+    pub(crate) fn exchange(&self, first: usize, second: usize) -> Option<Change> {
         let gone = self.run(first);
         let second_gone = self.run(second);
         if gone.from == second_gone.from {
@@ -67,7 +80,7 @@ impl<'a> State<'a> {
     }
 
     /// Makes an exchange in plan and loads, if it keeps the rules.
-    fn keeps_exchange(&mut self, change: &Change) -> bool {
+    pub(crate) fn keeps_exchange(&mut self, change: &Change) -> bool {
         if !self.bands.may_exchange(change) {
             return false;
         }
@@ -81,6 +94,13 @@ impl<'a> State<'a> {
             self.set(change.second_gone);
         }
         kept
+    }
+
+    /// Takes an exchange back in plan and loads.
+    pub(crate) fn undo_exchange(&mut self, change: &Change) {
+        self.bands.undo_change(change);
+        self.set(change.gone);
+        self.set(change.second_gone);
     }
 
     /// Tries to exchange the starts of two interventions.
@@ -98,9 +118,7 @@ impl<'a> State<'a> {
             self.make_change(&change);
             self.note_best();
         } else {
-            self.bands.undo_change(&change);
-            self.set(change.gone);
-            self.set(change.second_gone);
+            self.undo_exchange(&change);
         }
     }
 

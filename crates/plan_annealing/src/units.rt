@@ -97,6 +97,11 @@ impl Units {
         }
     }
 
+    /// How many bits are dropped of a value, counted in 10^-18.
+    pub(crate) fn dropped_bits(&self) -> u32 {
+        self.risk.wrapping_add(self.value)
+    }
+
     /// Whether the mean alone counts.
     #[inline]
     pub(crate) fn has_mean_alone(&self) -> bool {
