@@ -1,5 +1,5 @@
-//! The tries of an annealing: first those that take what doesn't raise the score, then those under limits that are drawn
-//! about a threshold, which falls from level to level.
+//! The tries of an annealing: first those that take what doesn't raise the score, then those under limits that are
+//! drawn about a threshold, which falls from level to level.
 
 use crate::state::State;
 use crate::words::Words;

@@ -13,8 +13,8 @@ pub(crate) struct Period {
     pub(crate) value: i64,
 }
 
-/// What a change would make of a period: the total of its sums, by how much a sum rises at most, and a value that it has
-/// at least.
+/// What a change would make of a period: the total of its sums, by how much a sum rises at most, and a value that it
+/// has at least.
 #[derive(Clone, Copy)]
 pub(crate) struct Outlook {
     pub(crate) total: i64,

@@ -25,8 +25,8 @@ impl Span {
     }
 }
 
-/// An intervention in progress from period `from` to `past - 1`, and where its own things stand. Where `past` is 0 there
-/// is no run.
+/// An intervention in progress from period `from` to `past - 1`, and where its own things stand. Where `past` is 0
+/// there is no run.
 #[derive(Clone, Copy)]
 pub(crate) struct Run {
     pub(crate) work: u32,

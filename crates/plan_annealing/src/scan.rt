@@ -112,7 +112,7 @@ fn last_of(numbers: &[i64]) -> i64 {
     }
 }
 
-/// The sum that has rank `high` from the greatest on, after a change. The sums fall, and none rises by more than `rise`.
+/// The sum of rank `high` from the greatest on, after a change. The sums fall, and none rises by more than `rise`.
 #[inline]
 pub(crate) fn sum_after(
     ranked: &[Ranked],

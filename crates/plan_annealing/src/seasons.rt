@@ -1,7 +1,7 @@
 //! Exclusions: whether a run would be in progress with one that it excludes, in a period of the season.
 //!
 //! For each season and period the least period of the season from there on is kept: two runs clash where that of the
-//! first period that they share is one of the last ones. It takes two bytes for what masks would take a bit of each run.
+//! first period that they share is one of the last ones. That takes two bytes for what masks take a bit of each run.
 
 ghost use Rattle.std.specs.Prelude.{◌<◌, length};
 
