@@ -1,5 +1,5 @@
--- The command `bound`: the answers to an instance, a plan that may be left out and a certificate that may be, what stands
--- behind each, and what a run promises.
+-- The command `bound`: the answers to an instance, a plan that may be left out and a certificate that may be, what
+-- stands behind each, and what a run promises.
 --
 -- `old` and `new` are what the desk shows before and after a run. Worths, scores and bounds are in parts of 10^-18.
 use Rattle.std.specs.Prelude.{◌≡◌, ◌⊎◌, ℕ, ◌<◌, ◌≤◌, ℤ, ◌≤ℤ◌, List, [], ◌∷◌, ◌++◌, length, map, Option, Some, None}
@@ -111,8 +111,8 @@ pub record IsTooLong (limits : Limits) (inst : Tables) (given : Option (List (Op
   pub is : IsRaised inst handed_in cert turns part answer
   pub long : limits.certificate_bytes < length (refined_text inst answer.cert)
 
--- to an instance, a plan if one is given, and a certificate if one is: 12 where the text of the certificate that is made
--- is too long; else that text as a file, with 10 where the bound is none, and 0 where it is a number
+-- to an instance, a plan if one is given, and a certificate if one is: 12 where the text of the certificate that is
+-- made is too long; else that text as a file, with 10 where the bound is none, and 0 where it is a number
 pub data RaisesBound (limits : Limits) (inst : Tables) (given : Option (List (Option ℕ))) (out : List ℕ) (turns : ℕ)
     (part : Part)
     (cert : Option RefinedCertificate) : Answer → Type 0 where
@@ -156,8 +156,8 @@ pub record ReadsBound (limits : Limits) (source : Source) (name cert_name : Opti
   pub reads_cert : ReadsGivenCertificateBy refined_kind.texts limits cert_name inst old cert
 
 -- The files were read, a certificate that is made of them was written, and the report was said. Every plan that keeps
--- the rules has a score of at least its bound, or where that is none, no plan keeps the rules; and `check` with the same
--- instance and slack accepts what was written. Exactly these turns were spent, or the bound is the least score, or what
+-- the rules has a score of at least its bound, or where that is none, no plan keeps the rules; and `check` with the
+-- same instance and slack accepts what was written. Exactly these turns were spent, or the bound is the least score, or what
 -- is left is left to other parts; and where they are enough for all plans it is one of these two.
 pub record WritesBound (limits : Limits) (source : Source) (name cert_name : Option (List ℕ)) (out : List ℕ)
     (turns : ℕ) (part : Part)
@@ -251,8 +251,8 @@ pub record TellsBoundFiles (limits : Limits) (old : Shown) (source : Source) (na
   pub plan : TellsGiven limits old name files.inst files.plan
   pub cert : TellsGivenCertificateBy refined_kind.texts limits old cert_name files.inst files.cert
 
--- where all are there, and the text that is made isn't too long: 0 where a plan keeps every rule; and with turns for all
--- plans, and one part alone, 10 where none does
+-- where all are there, and the text that is made isn't too long: 0 where a plan keeps every rule; and with turns for
+-- all plans, and one part alone, 10 where none does
 pub data ExpectsMade (limits : Limits) (source : Source) (name cert_name : Option (List ℕ)) (turns : ℕ) (part : Part)
     (old : Shown)
     : ℕ → Type 0 where

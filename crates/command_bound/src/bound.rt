@@ -33,8 +33,8 @@ struct Files {
     cert: Option<VersionedCertificate>,
 }
 
-/// Reads the instance, then the plan if one is given, then the certificate of any version if one is, makes a certificate
-/// by refined price lists with so many turns for the leaves of this part of its tree, writes it to the file of this
+/// Reads the instance, then the plan if one is given, then the certificate of any version if one is, makes a
+/// certificate by refined price lists with so many turns for the leaves of this part of its tree, writes it to the file of this
 /// name, and says the report.
 ///
 /// The instance file is word 2, the plan word 3, the certificate word 4, and the file that is written word 5. No memory

@@ -68,7 +68,7 @@ part_in (Some (number, count)) = part_from (turns_of number) (turns_of count)
 -- behind `part`, which stands before the first `=` (byte 61), one number, a slash (byte 47) and the other
 abbrev pub named_part : Option (List ℕ × List ℕ) → Option Part
 named_part None = None
-named_part (Some (name, numbers)) = if bytes_eq name (codes "part") then part_in (halves 47 numbers) else None
+named_part (Some (key, numbers)) = if bytes_eq key (codes "part") then part_in (halves 47 numbers) else None
 
 -- a word `part=K/N`
 unfoldable pub part_of : List ℕ → Option Part
