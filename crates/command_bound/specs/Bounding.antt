@@ -157,8 +157,8 @@ pub record ReadsBound (limits : Limits) (source : Source) (name cert_name : Opti
 
 -- The files were read, a certificate that is made of them was written, and the report was said. Every plan that keeps
 -- the rules has a score of at least its bound, or where that is none, no plan keeps the rules; and `check` with the
--- same instance and slack accepts what was written. Exactly these turns were spent, or the bound is the least score, or what
--- is left is left to other parts; and where they are enough for all plans it is one of these two.
+-- same instance and slack accepts what was written. Exactly these turns were spent, or the bound is the least score, or
+-- what is left is left to other parts; and where they are enough for all plans it is one of these two.
 pub record WritesBound (limits : Limits) (source : Source) (name cert_name : Option (List ℕ)) (out : List ℕ)
     (turns : ℕ) (part : Part)
     (bound : Bound) (old new : Shown) : Type 0 where
