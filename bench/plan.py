@@ -173,7 +173,8 @@ def main():
     words = parser.parse_args()
     for name, drawn in cases.listed(words.cases.split()).items():
         with contextlib.ExitStack() as stack:
-            folder = os.path.join(words.keep, name) if words.keep else stack.enter_context(tempfile.TemporaryDirectory())
+            folder = words.keep or stack.enter_context(tempfile.TemporaryDirectory())
+            folder = os.path.join(folder, name)
             os.makedirs(folder, exist_ok=True)
             instance, runs = os.path.join(folder, "instance.json"), []
             cases.draw(drawn, instance)

@@ -8,8 +8,8 @@ RETRIES = 3
 
 
 def parallel_words(jobs, hosts=None, workdir=None):
-    """The first words of a call of GNU parallel with so many jobs at a time on each machine. A line of `hosts` is one of
-    its --sshlogin. Ends the script where parallel isn't there.
+    """The first words of a call of GNU parallel with so many jobs at a time on each machine. A line of the file `hosts`
+    is one of its --sshlogin. Ends the script where parallel isn't there.
     """
     parallel = shutil.which("parallel")
     if not parallel:

@@ -94,8 +94,8 @@ class Folder:
         return f"{path}.refused-{number}"
 
     def left_over(self):
-        """What an earlier run, or a queue of jobs, left in the work: files of plans, of certificates, and those of parts
-        of a tree by (K, N).
+        """What an earlier run, or a queue of jobs, left in the work: files of plans, of certificates, and of parts of a
+        tree by (K, N).
         """
         names = sorted(name for name in os.listdir(self.work) if os.path.isfile(os.path.join(self.work, name)))
         parts = {tuple(map(int, PART.fullmatch(name).groups())): os.path.join(self.work, name)

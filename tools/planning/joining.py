@@ -111,8 +111,8 @@ def joined_lists(common, parts):
             numbers.append(lists.index(one) + 1)
         renumbered[part.path] = numbers
     if len(lists) > MOST_LISTS:
-        raise Misfit(f"there are {len(lists)} price lists in all parts, and a certificate has {MOST_LISTS} at most: have "
-                     f"`bound` add lists to the common one first")
+        raise Misfit(f"there are {len(lists)} price lists in all parts, and a certificate has {MOST_LISTS} at most: "
+                     f"have `bound` add lists to the common one first")
     return lists, renumbered
 
 

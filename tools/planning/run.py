@@ -31,6 +31,8 @@ NO_INSTANCE, UNREAD = os.path.join(os.devnull, "none"), 7
 MOST_FAILURES = 3
 # Statuses: of a program that finds no plan, and where none exists; where the instance can't be read.
 NOTHING_FOUND, NO_PLAN, HOPELESS = 9, 10, (2, 3, 7)
+# What ends a round, or begins the first one, and so doesn't wait behind other rounds.
+URGENT = ("ask", "check", "evaluate", "join")
 REFUSED_PLAN, REFUSED_CERTIFICATE, MEMORY = (1, 4), 5, 11
 
 
@@ -171,7 +173,7 @@ class Run:
             return
         for task in batch:
             self.batches[id(task)] = (lane, batch)
-        self.runner.add(batch, is_urgent=batch[0].kind in ("check", "evaluate", "join"))
+        self.runner.add(batch, is_urgent=batch[0].kind in URGENT)
 
     def show(self):
         running = {}
@@ -195,7 +197,8 @@ class Run:
             if plan != self.folder.plan:
                 self.folder.take_plan(plan)
             self.score, is_taken = score, True
-        if certificate and (says_no_plan(task.said) or bound is not None and (self.bound is None or bound > self.bound)):
+        is_higher = bound is not None and (self.bound is None or bound > self.bound)
+        if certificate and (says_no_plan(task.said) or is_higher):
             if certificate != self.folder.certificate:
                 self.folder.take_certificate(certificate)
             self.bound, self.has_no_plan, self.has_certificate = bound, says_no_plan(task.said), True
@@ -214,8 +217,9 @@ class Run:
         state["tree"] = self.tree.kept()
         self.folder.keep_state()
         known = lambda number: "" if number is None else number
-        self.folder.note([f"{state['seconds']:.3f}", known(self.score), "none" if self.has_no_plan else known(self.bound),
-                          gap_shown(self.gap(), 4), state["rounds"], turns, step])
+        bound = "none" if self.has_no_plan else known(self.bound)
+        self.folder.note([f"{state['seconds']:.3f}", known(self.score), bound, gap_shown(self.gap(), 4),
+                          state["rounds"], turns, step])
         if not self.teller.is_terminal:
             text = standing(self.score, self.bound, self.gap(), self.periods)
             self.teller.remark(f"{state['seconds']:.1f} s, round {state['rounds']}: {text}  {step} {turns}")
@@ -343,7 +347,7 @@ class Run:
         return [call(number) for number in range(1, count + 1)]
 
     def given(self, name):
-        """The plan that the calls of a round begin with; elsewhere all with the same one, whatever becomes of it here."""
+        """The plan that the calls of a round begin with; elsewhere all with the same one, whatever comes of it here."""
         if (self.machines or self.words.is_dry) and self.score is not None:
             return self.folder.keep_in_work(self.folder.plan, f"{name}.given")
         return self.plan() or "-"
