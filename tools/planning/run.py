@@ -33,15 +33,17 @@ MOST_FAILURES = 3
 NOTHING_FOUND, NO_PLAN, HOPELESS = 9, 10, (2, 3, 7)
 # What ends a round, or begins the first one, and so doesn't wait behind other rounds.
 URGENT = ("ask", "check", "evaluate", "join")
-REFUSED_PLAN, REFUSED_CERTIFICATE, MEMORY = (1, 4), 5, 11
+MEMORY = 11
+# How a report begins where a plan or a certificate isn't as it should be.
+REFUSED_PLAN, REFUSED_CERTIFICATE = ("infeasible\n", "refused plan "), "refused certificate "
 
 
 class Ended(Exception):
-    """The run can't go on: with a status of a program, and what it said."""
+    """The run can't go on, as a call failed on which all rests."""
 
-    def __init__(self, status, said):
-        super().__init__(status)
-        self.status, self.said = status, said
+    def __init__(self, task):
+        super().__init__(task.status)
+        self.task = task
 
 
 class Lane:
@@ -259,7 +261,7 @@ class Run:
             task = self.solve("solve", SOLVE)
             yield [task]
             if task.status in HOPELESS:
-                raise Ended(task.status, task.said)
+                raise Ended(task)
             yield from self.take_solved(task)
             self.tell_failures([task])
             self.folder.clear_work()
@@ -274,14 +276,14 @@ class Run:
                 self.take(task, plan, certificate)
                 self.teller.remark("goes on with " + standing(self.score, self.bound, self.gap(), self.periods))
                 return
-            if plan and task.status in REFUSED_PLAN:
+            if plan and task.said.startswith(REFUSED_PLAN):
                 self.put_aside(plan, task)
                 plan = None
-            elif certificate and task.status == REFUSED_CERTIFICATE:
+            elif certificate and task.said.startswith(REFUSED_CERTIFICATE):
                 self.put_aside(certificate, task)
                 certificate = None
             else:
-                raise Ended(task.status, task.said)
+                raise Ended(task)
 
     def put_aside(self, path, task):
         kept = self.folder.put_aside(path)
@@ -381,10 +383,9 @@ class Run:
         # (a certificate of `solve` is gone on with where one from nothing isn't better)
         old = self.certificate() if lane.pace.seconds is not None else None
         while self.may_go_on(lane):
-            lane.slots = self.slots_of_bound(lane)
+            count = self.parts_for(lane)
             self.set_turns(lane)
-            count = lane.slots * (self.machines.count if self.machines else 1)
-            is_taken = yield from (self.raise_parts(lane, count) if lane.slots > 1 else self.raise_whole(lane, old))
+            is_taken = yield from (self.raise_parts(lane, count) if count > 1 else self.raise_whole(lane, old))
             if old and lane.pace.turns and not is_taken and self.made == 0:
                 lane.is_at_rest = True
             old = self.certificate()
@@ -396,12 +397,17 @@ class Run:
         yield [task]
         self.knows_parts = task.status == UNREAD
 
-    def slots_of_bound(self, lane):
-        """How many processors `bound` has: half of them, where the tree is large enough for parts."""
-        jobs = self.words.jobs if self.improving.is_at_rest else max(1, self.words.jobs // 2)
+    def parts_for(self, lane):
+        """How many parts the next round has: one a processor, of half of them, where the tree is large enough."""
         machines = self.machines.count if self.machines else 1
-        may = self.knows_parts and not self.tree.is_growing and self.has_certificate
-        return max(1, min(lane.most, jobs, self.tree.leaves // (LEAVES_OF_PART * machines))) if may else 1
+        if self.knows_parts and not self.tree.is_growing and self.has_certificate:
+            jobs = self.words.jobs if self.improving.is_at_rest else max(1, self.words.jobs // 2)
+            lane.slots = min(lane.most, jobs, self.tree.leaves // (LEAVES_OF_PART * machines))
+            if lane.slots * machines > 1:
+                return lane.slots * machines
+        # (where there are other machines this one has nothing else to do)
+        lane.slots = 0 if self.machines else 1
+        return 1
 
     def raise_whole(self, lane, old):
         """A round on the whole tree; answers whether its bound is better."""
