@@ -30,7 +30,7 @@ function tipLines(target, t) {
     const it = NOW.works[work.place];
     const before = WAS && WAS.works[it.place].start !== it.start ? [`before: ${runText(WAS.works[it.place])}`] : [];
     return [it.title, it.duration > 1 ? `periods ${runText(it)}` : `period ${runText(it)}`, ...before,
-      ...(NOW.table ? [`risk brought ${shown(it.brought, 3)}`] : [])];
+      ...(NOW.table ? [`risk ${shown(it.brought, 3)}, which adds ${shown(costAdded(it))} to the cost`] : [])];
   }
   if (t === null || !NOW.table) return null;
   const row = target.closest(".row");

@@ -100,6 +100,13 @@ function valueOf(plan, it, key) {
 }
 const NOW = known(PLAN);
 const WAS = OTHER ? known(OTHER) : null;
+// What a work adds to the cost by its mean risk: Alpha times its mean risks, over the number of periods.
+const ALPHA_PARTS = BigInt(Math.round(ALPHA * 1e6));
+const costAdded = (it) => T ? ALPHA_PARTS * it.brought / (10n ** 6n * BigInt(T)) : 0n;
+const COST = valueOf(PLAN, NOW, "cost");
+const shareOfCost = (it) => COST > 0n ? percent(float(costAdded(it)) / float(COST)) : "\u2013";
+const weights = [ALPHA_PARTS, 10n ** 6n - ALPHA_PARTS].map((it) => shown(it * 10n ** 6n));
+const COST_MADE = `${weights[0]} \u00d7 mean risk + ${weights[1]} \u00d7 expected excess`;
 // The period in which a resource is fullest: nearest to its upper limit, or farthest above it.
 function fullest(cells, resource) {
   const part = (it) => it.upper > 0n ? float(it.load) / float(it.upper) : float(it.load - it.upper) + 1;

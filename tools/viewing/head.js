@@ -19,12 +19,13 @@ function figures() {
   const report = PLAN.report;
   const found = [];
   const given = report.verdict === "feasible";
-  for (const [key, label, note] of [["cost", "Cost", given ? "mean and excess, weighted" : "its periods, added up"],
+  for (const [key, label, note] of [["cost", "Cost", COST_MADE],
     ["mean", "Mean risk", "of a period"], ["excess", "Expected excess", "quantile above mean"]]) {
     const [now, was] = [valueOf(PLAN, NOW, key), OTHER ? valueOf(OTHER, WAS, key) : null];
-    if (now !== null) found.push({ label, value: shown(now),
-      note: was === null ? note : `${signed(now - was)} against ${shown(was)}`,
-      hint: given ? `at least ${report[key + "_low"]}, at most ${report[key + "_high"]}` : null });
+    if (now === null) continue;
+    const ends = given ? `at least ${report[key + "_low"]}, at most ${report[key + "_high"]}` : "";
+    found.push({ label, value: shown(now), note: was === null ? note : `${signed(now - was)} against ${shown(was)}`,
+      hint: [key === "cost" ? COST_MADE : "", ends].filter(Boolean).join("; ") });
   }
   if (D.check) {
     const none = D.check.bound === "none";

@@ -58,9 +58,10 @@ function overview() {
     D.resources.length ? [el("h3", {}, "Busiest period of each resource"),
       tableOf(["Resource", n("Period"), n("Load"), n("Limit"), n("Full")], busiest)] : null,
     costly.length
-      ? [el("h3", {}, "Works that cost most"),
-      tableOf(["Work", n("Periods"), n("Risk"), n("Of the mean")], costly.map((it) =>
-      [workButton(it.place), n(runText(it)), n(shown(it.brought, 3)), n(shareOfMean(it))]))] : null,
+      ? [el("h3", {}, "Works that cost most by their mean risk"),
+      tableOf(["Work", n("Periods"), n("Risk"), n("Adds to cost"), n("Of it")], costly.map((it) =>
+      [workButton(it.place), n(runText(it)), n(shown(it.brought, 3)), n(shown(costAdded(it))), n(shareOfCost(it))])),
+      costMade()] : null,
     el("h3", {}, "Periods that cost most"),
     tableOf([n("Period"), n("Mean"), n("Excess"), n("Of the cost")], periods.map(([share, t]) =>
       [n(periodButton(t)), n(shown(low(NOW.table.mean[t - 1]), 3)), n(shown(low(NOW.table.excess[t - 1]), 3)),
@@ -68,6 +69,13 @@ function overview() {
     el("p", { class: "hint-text" },
       "Choose a work, a period or a load in the drawing for more. Arrow keys move, Enter chooses, Escape lets go."),
   ];
+}
+// How cost is made, and which part of it is that of single works.
+function costMade() {
+  return el("p", { class: "hint-text", id: "cost-made" }, `Cost is ${COST_MADE}. A work\u2019s risk is the sum of its `
+    + `mean risks over its periods; what it adds to the cost is ${weights[0]} \u00d7 its risk over `
+    + `${plural(T, "period")}. The excess is that of all works together and no single one\u2019s, so it isn\u2019t `
+    + "split among them.");
 }
 const shareOfMean = (it) => NOW.brought > 0n ? percent(float(it.brought) / float(NOW.brought)) : "\u2013";
 
@@ -90,8 +98,9 @@ function workDetails(it) {
       ["Duration", it.start === null ? "\u2013" : plural(it.duration, "period")],
       it.duration ? ["In progress", `period${it.duration > 1 ? "s" : ""} ${runText(it)}`] : null,
       before ? ["Before", before.start === it.start ? "the same" : `${runText(before)} (${moveText(it)})`] : null,
-      NOW.table ? ["Risk it brings",
-        `${shown(it.brought)}, ${shareOfMean(it)} of the mean risk, rank ${rank} of ${D.works.length}`] : null),
+      NOW.table ? ["Risk it brings", `${shown(it.brought)} over its periods, ${shareOfMean(it)} of the mean risk`] : null,
+      NOW.table ? ["Adds to cost", `${shown(costAdded(it))} by its mean risk, ${shareOfCost(it)} of the cost, `
+        + `rank ${rank} of ${D.works.length}`] : null),
     days.length ? [el("h3", {}, "By period"),
       tableOf([n("Period"), n("Risk"), ...used.map((resource) => n(resourceButton(resource)))], days)] : null,
     el("h3", {}, `Must not meet (${partners[it.place].length})`),

@@ -47,17 +47,19 @@ function drawWorks() {
     rows[it.place] = el("div",
       { class: "work", role: "option", tabindex: "-1", id: "work-" + it.place, "aria-selected": "false" },
       el("span", { class: "name" }, name(it.title)), el("span", { class: "plot" }, ghost, bar),
-      el("span", { class: "tail" }, NOW.table ? shown(it.brought, 3) : "", el("b", { vars: { "--share": share } })));
+      el("span", { class: "tail", title: NOW.table ? `risk ${shown(it.brought)}` : null },
+        NOW.table ? [shown(costAdded(it), 3), el("span", { class: "part" }, shareOfCost(it))] : "",
+        el("b", { vars: { "--share": share } })));
     rows[it.place].place = it.place;
     if (NOW.clashing && NOW.clashing.has(it.place)) rows[it.place].classList.add("clash");
   }
-  const sorts = { start: "Start", name: "Name", ...(D.resources.length ? { resource: "Resource" } : {}), risk: "Risk",
+  const sorts = { start: "Start", name: "Name", ...(D.resources.length ? { resource: "Resource" } : {}), risk: "Cost",
     ...(WAS ? { moved: "Moved" } : {}) };
   for (const [key, label] of Object.entries(sorts)) {
     put(at("sorts"), el("button", { type: "button", "aria-pressed": String(key === state.sort), "data-sort": key,
       on: { click: () => sortBy(key) } }, label));
   }
-  at("works-tail").textContent = NOW.table ? "Risk it brings" : "";
+  at("works-tail").textContent = NOW.table ? "Cost by mean risk" : "";
   at("filter").addEventListener("input", listWorks);
   const list = at("works-list");
   list.addEventListener("click", (event) => {
