@@ -77,7 +77,8 @@ function drawBroken() {
     el("p", {}, "To change: ", PLAN.explained.change),
     el("div", { class: "do" },
       el("button", { class: "button", type: "button", id: "show-rule", on: { click: showRule } }, "Show it"),
-      NOW.table ? el("button", { class: "button", type: "button", on: { click: () => showTab("outside") } },
+      NOW.table ? el("button", { class: "button", type: "button", id: "all-broken",
+        on: { click: () => showTab("outside") } },
         "All that is broken") : null));
 }
 function showRule() {

@@ -5,7 +5,6 @@ const tabs = () => [["overview", "Overview"], ["details", "Details"],
 function showTab(key) {
   state.tab = key;
   drawSide();
-  at("side").scrollIntoView({ block: "nearest" });
 }
 function drawSide() {
   const focused = document.activeElement && document.activeElement.closest("#tabs") !== null;
@@ -14,9 +13,11 @@ function drawSide() {
     "aria-selected": String(key === state.tab), "aria-controls": "panel", tabindex: key === state.tab ? 0 : -1,
     on: { click: () => showTab(key), keydown: (event) => {
       const by = { ArrowRight: 1, ArrowLeft: -1 }[event.key];
-      if (by) { showTab(all[(n + by + all.length) % all.length][0]); at("tab-" + state.tab).focus(); }
+      if (!by) return;
+      showTab(all[(n + by + all.length) % all.length][0]);
+      at("tab-" + state.tab).focus({ preventScroll: true });
     } } }, label)));
-  if (focused) at("tab-" + state.tab).focus();
+  if (focused) at("tab-" + state.tab).focus({ preventScroll: true });
   at("panel").setAttribute("aria-labelledby", "tab-" + state.tab);
   at("panel").replaceChildren();
   put(at("panel"),
