@@ -164,14 +164,15 @@ function meter(part) {
   bar.style.width = Math.max(0, 46 * part) + "px";
   return bar;
 }
+// The works that load a resource in a period, each with its load.
+const loadsIn = (resource, t) => inProgress(t).map((one) => [one,
+  (one.own.find(([place]) => place === resource) || [0, []])[1][t - one.start] || 0n]).filter(([, load]) => load !== 0n);
 function resourceDetails(resource, t) {
   const row = NOW.cells[resource];
   const parts = [el("h2", {}, name(D.resources[resource]), t === null ? "" : `, period ${t}`)];
   if (t !== null) {
     const it = row[t - 1];
-    const here = inProgress(t).map((one) => [one,
-      (one.own.find(([place]) => place === resource) || [0, []])[1][t - one.start] || 0n])
-      .filter(([, load]) => load !== 0n).sort((one, other) => float(other[1]) - float(one[1]));
+    const here = loadsIn(resource, t).sort((one, other) => float(other[1]) - float(one[1]));
     parts.push(facts(["Load", shown(it.load)], ["Limits", `${shown(it.lower)} to ${shown(it.upper)}`],
       ["Room", it.by !== 0n ? el("span", { class: "out" }, roomOf(it) + " the limit")
         : `${shown(it.upper - it.load)} up, ${shown(it.load - it.lower)} down`],

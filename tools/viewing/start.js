@@ -1,10 +1,25 @@
 // Draws all for the first time, anew where something is chosen or the window changes, and for paper.
 function reveal() {
   const row = state.work !== null ? rows[state.work] : at("loads-list").children[state.resource];
-  if (row && row.isConnected) row.scrollIntoView({ block: state.work !== null ? "nearest" : "center" });
+  if (row && row.isConnected) row.scrollIntoView({ block: "nearest" });
+  const first = listed.find((it) => loading.has(it.place));
+  if (first) showInList(rows[first.place]);
+}
+// Brings a row into sight of the list of works, and leaves the page where it is.
+function showInList(row) {
+  const list = at("works-list");
+  const [box, frame] = [row.getBoundingClientRect(), list.getBoundingClientRect()];
+  if (box.top < frame.top || box.bottom > frame.bottom) list.scrollTop += box.top - frame.top - 24;
+}
+// The works that load the chosen resource in the chosen period.
+function loadingWorks() {
+  const { resource, period } = state;
+  if (resource === null || period === null || !NOW.table) return new Set();
+  return new Set(loadsIn(resource, period).map(([it]) => it.place));
 }
 let drawnWork = null;
 let marked = new Set();
+let loading = new Set();
 function refresh() {
   const changed = [drawnWork, state.work].filter((place) => place !== null);
   const near = new Set(state.work === null ? [] : partners[state.work].map((it) => it.other));
@@ -14,9 +29,12 @@ function refresh() {
     rows[place].classList.toggle("apart", near.has(place));
   }
   marked = near;
+  const before = loading;
+  loading = loadingWorks();
+  for (const place of new Set([...before, ...loading])) rows[place].classList.toggle("loads", loading.has(place));
   setStop();
+  if (drawnWork !== state.work || before.size || loading.size) drawMap();
   if (drawnWork !== state.work) {
-    drawMap();
     for (const resource of new Set(changed.flatMap((place) => NOW.works[place].own.map(([it]) => it)))) {
       at("loads-list").children[resource].querySelector("svg").replaceChildren(loadDrawing(resource, LOAD_HEIGHT));
     }
