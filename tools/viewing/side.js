@@ -105,16 +105,19 @@ function workDetails(it) {
     days.length ? [el("h3", {}, "By period"),
       tableOf([n("Period"), n("Risk"), ...used.map((resource) => n(resourceButton(resource)))], days)] : null,
     el("h3", {}, `Must not meet (${partners[it.place].length})`),
-    partners[it.place].length ? tableOf(["Work", "Season", n("Periods"), ""], partners[it.place].map((one) => {
+    partners[it.place].length ? tableOf(["Work", "Season", ""], partners[it.place].map((one) => {
       const there = NOW.works[one.other];
       const met = meeting(it, there, one.season);
       const season = D.seasons[one.season];
       return [workButton(one.other),
-        el("span", { title: `${one.title}: periods ${ranges(season[1])}` }, name(season[0])), n(runText(there)),
-        met.length ? el("span", { class: "out" }, `\u2715 meet in ${ranges(met)}`) : "apart"];
+        el("span", { title: `${one.title}: periods ${ranges(season[1])}` }, name(season[0])),
+        met.length ? el("span", { class: "out" }, `\u2715 in work ${runText(there)}; they meet in ${ranges(met)}`)
+          : there.duration ? `in work ${runText(there)}; ${apartText(it, there)}` : runText(there)];
     })) : el("p", {}, "No exclusion names it."),
   ];
 }
+const apartText = (one, other) => one.duration && one.start <= other.last && other.start <= one.last
+  ? "they meet outside the season alone" : "they don\u2019t meet";
 const meeting = (one, other, season) => one.start === null || other.start === null ? []
   : D.seasons[season][1].filter((t) =>
   t <= T && one.start <= t && t <= one.last && other.start <= t && t <= other.last);

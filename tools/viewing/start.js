@@ -24,9 +24,12 @@ function refresh() {
   const changed = [drawnWork, state.work].filter((place) => place !== null);
   const near = new Set(state.work === null ? [] : partners[state.work].map((it) => it.other));
   near.delete(state.work);
+  const met = new Set(state.work === null ? [] : partners[state.work]
+    .filter((it) => meeting(NOW.works[state.work], NOW.works[it.other], it.season).length).map((it) => it.other));
   for (const place of new Set([...marked, ...near, ...changed])) {
     rows[place].setAttribute("aria-selected", String(place === state.work));
-    rows[place].classList.toggle("apart", near.has(place));
+    rows[place].classList.toggle("apart", near.has(place) && !met.has(place));
+    rows[place].classList.toggle("meets", near.has(place) && met.has(place));
   }
   marked = near;
   const before = loading;
