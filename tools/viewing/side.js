@@ -170,6 +170,10 @@ function meter(part) {
 // The works that load a resource in a period, each with its load.
 const loadsIn = (resource, t) => inProgress(t).map((one) => [one,
   (one.own.find(([place]) => place === resource) || [0, []])[1][t - one.start] || 0n]).filter(([, load]) => load !== 0n);
+// Whether a load is between its limits without one of its works.
+const isEnough = (it, load) => it.lower <= it.load - load && it.load - load <= it.upper;
+const withoutText = (it, load) => isEnough(it, load)
+  ? `${load > 0n ? "takes away" : "adds"} ${shown(load > 0n ? load : -load)}, which is enough` : "not enough";
 function resourceDetails(resource, t) {
   const row = NOW.cells[resource];
   const parts = [el("h2", {}, name(D.resources[resource]), t === null ? "" : `, period ${t}`)];
@@ -181,10 +185,13 @@ function resourceDetails(resource, t) {
         : `${shown(it.upper - it.load)} up, ${shown(it.load - it.lower)} down`],
       WAS && WAS.table ? ["Before", shown(WAS.cells[resource][t - 1].load)] : null),
     el("h3", {}, `Works that load it (${here.length})`),
-    here.length ? tableOf(["Work", n("Load"), n("Of it")], here
-      .map(([one, load]) => [workButton(one.place), n(shown(load)),
-      n(it.load > 0n ? percent(float(load) / float(it.load), 0) : "\u2013")]))
-        : el("p", {}, "None that is in progress."));
+    here.length ? tableOf(["Work", n("Load"), n("Of it"), ...(it.by !== 0n ? ["Without it"] : [])], here
+      .map(([one, load]) => ({ chosen: it.by !== 0n && isEnough(it, load), cells: [workButton(one.place), n(shown(load)),
+        n(it.load > 0n ? percent(float(load) / float(it.load), 0) : "\u2013"),
+        ...(it.by !== 0n ? [withoutText(it, load)] : [])] })))
+        : el("p", {}, "None that is in progress."),
+    it.by !== 0n && !here.some(([, load]) => isEnough(it, load))
+      ? el("p", { class: "hint-text" }, "No single work is enough to bring it between its limits.") : null);
   }
   const order = row.map((it, period) => [it, period + 1]).sort(([one], [other]) => {
     const part = (it) => it.upper > 0n ? float(it.load) / float(it.upper) : float(it.load - it.upper);
