@@ -49,6 +49,9 @@ function shown(number, most = 6) {
 const float = (number) => Number(number) / 1e12;
 const signed = (number, most) => (number > 0n ? "+" : "") + shown(number, most);
 const percent = (part, places = 1) => (100 * part).toFixed(places) + "\u202f%";
+// A difference in percent of what it is to, in brackets.
+const partOf = (by, was) => was > 0n ? ` (${by > 0n ? "+" : ""}${percent(float(by) / float(was), 2)})`
+  .replace("-", "\u2212") : "";
 // A pair of a lower and an upper end, which are one text where they are the same.
 const low = (pair) => count(Array.isArray(pair) ? pair[0] : pair);
 const high = (pair) => count(Array.isArray(pair) ? pair[1] : pair);

@@ -65,7 +65,7 @@ function drawLoads() {
   at("loads-list").replaceChildren(...D.resources.map((title, resource) => {
     const best = fullest(NOW.cells, resource);
     const it = NOW.cells[resource][best];
-    const out = NOW.faults.filter((fault) => fault.resource === resource).length;
+    const out = outsideTexts(resource);
     return el("div", { class: "row", "data-resource": resource },
       el("div", { class: "name" },
         el("button", { type: "button", title, on: { click: () => choose({ resource }) } }, name(title)),
@@ -74,8 +74,14 @@ function drawLoads() {
         el("small", {}, `${shown(it.load)} of ${shown(it.upper)}`)),
       plotOf(LOAD_HEIGHT, loadDrawing(resource, LOAD_HEIGHT), `Load of ${title} by period`),
       el("div", { class: "tail" }, el("strong", {}, filled(it)), el("br"), "of the limit", el("br"),
-        out ? el("span", { class: "out" }, `\u25b2 ${out} outside`) : ""));
+        out.length ? el("span", { class: "out" }, out.join(" ")) : ""));
   }));
+}
+// How many loads of a resource are above and below its limits, each with its sign.
+function outsideTexts(resource) {
+  const mine = NOW.faults.filter((it) => it.resource === resource);
+  const [over, under] = [mine.filter((it) => it.by > 0n).length, mine.filter((it) => it.by < 0n).length];
+  return [over ? `\u25b2 ${over} above` : "", under ? `\u25bc ${under} below` : ""].filter(Boolean);
 }
 function plotOf(height, drawing, label) {
   return el("div", { class: "plot" },
@@ -148,7 +154,20 @@ function drawRisk() {
 function swatch(...drawing) {
   return svg("svg", { width: 22, height: 12, viewBox: "0 0 22 12", "aria-hidden": "true" }, ...drawing);
 }
+// What the looks and signs of works mean.
+function drawWorksLegend() {
+  const bar = (style, ...text) => el("span", { class: style }, el("i", { class: style, "aria-hidden": "true" }), text);
+  const sign = (style, mark, text) => el("span", { class: style }, el("b", { "aria-hidden": "true" }, mark), text);
+  put(at("works-legend"),
+    moved.length ? bar("was", "where it was in ", name(OTHER.name)) : null,
+    NOW.clashing && NOW.clashing.size ? bar("clash", "meets a work that it must not") : null,
+    D.exclusions.length ? [sign("apart", "\u25c7", "must not meet the chosen work, and doesn\u2019t"),
+      sign("meets", "\u2715", "meets it, and must not")] : null,
+    NOW.table && D.resources.length ? bar("loads", "\u25b8 is part of the chosen load") : null);
+  at("works-legend").hidden = !at("works-legend").childNodes.length;
+}
 function drawLegends() {
+  drawWorksLegend();
   const line = (style) => swatch(svg("path", { class: style, d: "M0,6H22" }));
   const was = OTHER && WAS.table ? el("span", {}, line("other-line"), "before") : null;
   put(at("loads-legend"),
@@ -158,7 +177,7 @@ function drawLegends() {
     el("span", {}, line("limit"), "limits"),
     el("span", {},
       swatch(svg("rect", { class: "outside", x: 4, y: 5, width: 14, height: 7 }),
-      svg("path", { class: "mark", d: "M7,4h8l-4,-4z" })), "outside"),
+      svg("path", { class: "mark", d: "M7,4h8l-4,-4z" })), "outside: \u25b2 above, \u25bc below"),
     el("span", {}, swatch(svg("rect", { class: "own-area", x: 2, y: 2, width: 18, height: 9 })), "the chosen work"),
       was);
   put(at("risk-legend"), el("span", {}, line("mean"), "mean"),

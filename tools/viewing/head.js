@@ -24,7 +24,7 @@ function figures() {
     const [now, was] = [valueOf(PLAN, NOW, key), OTHER ? valueOf(OTHER, WAS, key) : null];
     if (now === null) continue;
     const ends = given ? `at least ${report[key + "_low"]}, at most ${report[key + "_high"]}` : "";
-    found.push({ label, value: shown(now), note: was === null ? note : `${signed(now - was)} against ${shown(was)}`,
+    found.push({ label, value: shown(now), note: was === null ? note : `${signed(now - was)}${key === "cost" ? partOf(now - was, was) : ""} against ${shown(was)}`,
       hint: [key === "cost" ? COST_MADE : "", ends].filter(Boolean).join("; ") });
   }
   if (D.check) {

@@ -57,6 +57,13 @@ class Instance:
         last = whole(self.parsed(self.entries[work]["tmax"]))
         return whole(self.parsed(self.entries[work]["Delta"])[start - 1]) if 1 <= start <= last else None
 
+    def durations(self, work):
+        """The least and the most periods that a work takes from a start that is allowed, or None without one."""
+        entry = self.entries[work]
+        taken = enumerate(map(whole, self.parsed(entry["Delta"])[:whole(self.parsed(entry["tmax"]))]), 1)
+        allowed = [duration for start, duration in taken if start + duration <= self.periods + 1]
+        return [min(allowed), max(allowed)] if allowed else None
+
     def loads(self, work, start, duration):
         """The loads of a run other than 0: by place of the resource, a count of 10^-12 for each day."""
         found = {}

@@ -71,6 +71,14 @@ function overview() {
       "Choose a work, a period or a load in the drawing for more. Arrow keys move, Enter chooses, Escape lets go."),
   ];
 }
+// How long a work takes, and between which ends, where that differs from start to start.
+function durationText(it) {
+  const ends = D.durations[it.place];
+  const differs = ends && ends[0] !== ends[1]
+    ? `it differs from start to start, from ${ends[0]} to ${plural(ends[1], "period")}` : "";
+  if (it.start === null) return differs || "\u2013";
+  return plural(it.duration, "period") + (differs && `; ${differs}`);
+}
 // How cost is made, and which part of it is that of single works.
 function costMade() {
   return el("p", { class: "hint-text", id: "cost-made" }, `Cost is ${COST_MADE}. A work\u2019s risk is the sum of its `
@@ -96,7 +104,7 @@ function workDetails(it) {
   return [
     el("h2", {}, name(it.title)),
     facts(["Start", it.start === null ? "none" : String(it.start)],
-      ["Duration", it.start === null ? "\u2013" : plural(it.duration, "period")],
+      ["Duration", durationText(it)],
       it.duration ? ["In progress", `period${it.duration > 1 ? "s" : ""} ${runText(it)}`] : null,
       before ? ["Before", before.start === it.start ? "the same" : `${runText(before)} (${moveText(it)})`] : null,
       NOW.table ? ["Risk it brings", `${shown(it.brought)} over its periods, ${shareOfMean(it)} of the mean risk`] : null,
@@ -225,7 +233,13 @@ function moveText(it) {
   const before = WAS.works[it.place];
   if (before.start === null || it.start === null) return before.start === null ? "new" : "left out";
   const by = it.start - before.start;
-  return by < 0 ? `${-by} earlier` : `${by} later`;
+  return by < 0 ? `now ${-by} earlier` : `now ${by} later`;
+}
+// That a work takes more or fewer periods from its new start, where it does.
+function lastsText(it) {
+  const before = WAS.works[it.place];
+  return before.start === null || it.start === null || before.duration === it.duration ? ""
+    : `; lasts ${plural(it.duration, "period")}, not ${before.duration}`;
 }
 function changes() {
   const parts = [el("p", { class: "hint-text" }, "From ", name(OTHER.name), " to ", name(PLAN.name), ".")];
@@ -234,7 +248,7 @@ function changes() {
   for (const [key, label] of [["cost", "Cost"], ["mean", "Mean risk"], ["excess", "Expected excess"]]) {
     const [before, now] = [valueOf(OTHER, WAS, key), valueOf(PLAN, NOW, key)];
     if (before !== null && now !== null) lines.push([label, n(shown(before)), n(shown(now)),
-      n(signed(now - before), better(now - before))]);
+      n(signed(now - before) + partOf(now - before, before), better(now - before))]);
   }
   if (NOW.table && WAS.table) {
     for (const [key, label] of [["faults", "Loads outside"], ["clashes", "Works that meet"]]) {
@@ -246,9 +260,9 @@ function changes() {
   parts.push(el("h3", {}, "What it did"), tableOf(["", n("Before"), n("Now"), n("Difference")], lines));
   const order = [...moved].sort((one, other) => far(other) - far(one) || byText(one.title, other.title));
   parts.push(el("h3", {}, `Moved works (${moved.length})`), moved.length
-    ? tableOf(["Work", n("From"), n("To"), n("By")], order.map((it) =>
+    ? tableOf(["Work", n("Start before"), n("Start now"), "Change"], order.map((it) =>
     [workButton(it.place), n(WAS.works[it.place].start === null ? "none" : String(WAS.works[it.place].start)),
-      n(it.start === null ? "none" : String(it.start)), n(moveText(it))]))
+      n(it.start === null ? "none" : String(it.start)), moveText(it) + lastsText(it)]))
     : el("p", {}, "None: the two plans start each work alike."));
   if (NOW.table && WAS.table && D.resources.length) {
     const loads = D.resources.map((title, resource) => {

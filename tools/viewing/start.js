@@ -48,6 +48,7 @@ function refresh() {
   placeMarks();
   drawSide();
 }
+
 function drawAll() {
   layOut();
   drawMap();
@@ -87,11 +88,11 @@ function drawPaper() {
       const y = 14 + room * resource;
       const best = fullest(NOW.cells, resource);
       const it = NOW.cells[resource][best];
-      const out = NOW.faults.filter((fault) => fault.resource === resource).length;
+      const out = outsideTexts(resource);
       put(sheet, svg("g", { transform: `translate(${left},${y})` }, loadDrawing(resource, room - 2)),
         svg("text", { x: 0, y: y + 10 }, cut(title, 22)),
           svg("text", { x: 0, y: y + 19 }, `${best + 1}: ${shown(it.load, 3)} of ${shown(it.upper, 3)}`),
-        out && room > 30 ? svg("text", { x: 0, y: y + 28 }, `\u25b2 ${out} outside`) : null);
+        out.length && room > 30 ? svg("text", { x: 0, y: y + 28 }, out.join(" ")) : null);
     });
     const under = 20 + room * D.resources.length;
     put(sheet, svg("g", { transform: `translate(${left},${under})` }, riskDrawing(86)),
