@@ -11,10 +11,15 @@ function drawHead() {
   at("verdict").className = good ? "good" : "bad";
   put(at("verdict"), el("span", { "aria-hidden": "true" }, good ? "\u2713" : "\u2715"),
     good ? "Keeps every rule" : "Breaks a rule");
-  figures().forEach((it) => put(at("figures"), el("div", { class: it.bad ? "bad" : null, title: it.hint || null },
-    el("dt", {}, it.label), el("dd", {}, it.value), it.note ? el("dd", { class: "note" }, it.note) : null)));
+  figures().forEach((it) => put(at("figures"),
+    el("div", { class: [it.bad ? "bad" : "", it.tab ? "opens" : ""].join(" ").trim() || null, title: it.hint || null },
+    el("dt", {}, it.label), el("dd", {}, it.tab ? opener(it) : it.value),
+    it.note ? el("dd", { class: "note" }, it.note) : null)));
   if (PLAN.explained) drawBroken();
 }
+// The value of a figure as a button, which takes all of the figure's place and opens its part of the side.
+const opener = (it) => el("button", { type: "button", "data-opens": it.tab, "aria-label": `${it.label}: ${it.value}`,
+  on: { click: () => showTab(it.tab) } }, it.value);
 function figures() {
   const report = PLAN.report;
   const found = [];
@@ -43,13 +48,14 @@ function figures() {
   if (NOW.table) {
     const over = NOW.faults.filter((it) => it.by > 0n).length;
     const under = NOW.faults.length - over;
-    found.push({ label: "Loads outside limits", value: String(NOW.faults.length), bad: NOW.faults.length > 0,
+    found.push({ label: "Loads outside limits", tab: "outside", value: String(NOW.faults.length), bad: NOW.faults.length > 0,
       note: NOW.faults.length ? `${over} above, ${under} below` : "all between their limits" });
     const broken = (key) => new Set(NOW.clashes.map((it) => it[key])).size;
-    found.push({ label: "Broken exclusions", value: String(broken("exclusion")), bad: NOW.clashes.length > 0,
+    found.push({ label: "Broken exclusions", tab: "outside", value: String(broken("exclusion")), bad: NOW.clashes.length > 0,
       note: NOW.clashes.length ? `in ${plural(broken("period"), "period")}` : `of ${D.exclusions.length}` });
   }
-  if (OTHER) found.push({ label: "Moved", value: String(moved.length), note: `of ${plural(D.works.length, "work")}` });
+  if (OTHER) found.push({ label: "Moved", tab: "changes", value: String(moved.length),
+    note: `of ${plural(D.works.length, "work")}` });
   if (PLAN.report.rounded !== "0") found.push({ label: "Rounded numbers", value: PLAN.report.rounded,
     note: "of the instance" });
   return found;

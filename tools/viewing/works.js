@@ -61,6 +61,9 @@ function drawWorks() {
   }
   at("works-tail").textContent = NOW.table ? "Cost by mean risk" : "";
   at("filter").addEventListener("input", listWorks);
+  at("filter").addEventListener("keydown", (event) => {
+    if (event.key === "Enter" && listed.length === 1) choose({ work: listed[0].place });
+  });
   const list = at("works-list");
   list.addEventListener("click", (event) => {
     const row = event.target.closest(".work");
