@@ -156,7 +156,8 @@ function swatch(...drawing) {
 }
 // What the looks and signs of works mean.
 function drawWorksLegend() {
-  const bar = (style, ...text) => el("span", { class: style }, el("i", { class: style, "aria-hidden": "true" }), text);
+  const bar = (style, ...text) => el("span", { class: style }, el("i", { class: style, "aria-hidden": "true" }),
+    el("div", {}, text));
   const sign = (style, mark, text) => el("span", { class: style }, el("b", { "aria-hidden": "true" }, mark), text);
   put(at("works-legend"),
     moved.length ? bar("was", "where it was in ", name(OTHER.name)) : null,

@@ -29,7 +29,8 @@ function figures() {
     const [now, was] = [valueOf(PLAN, NOW, key), OTHER ? valueOf(OTHER, WAS, key) : null];
     if (now === null) continue;
     const ends = given ? `at least ${report[key + "_low"]}, at most ${report[key + "_high"]}` : "";
-    found.push({ label, value: shown(now), note: was === null ? note : `${signed(now - was)}${key === "cost" ? partOf(now - was, was) : ""} against ${shown(was)}`,
+    const by = was === null ? null : signed(now - was) + (key === "cost" ? partOf(now - was, was) : "");
+    found.push({ label, value: shown(now), note: by === null ? note : `${by} against ${shown(was)}`,
       hint: [key === "cost" ? COST_MADE : "", ends].filter(Boolean).join("; ") });
   }
   if (D.check) {
@@ -48,10 +49,12 @@ function figures() {
   if (NOW.table) {
     const over = NOW.faults.filter((it) => it.by > 0n).length;
     const under = NOW.faults.length - over;
-    found.push({ label: "Loads outside limits", tab: "outside", value: String(NOW.faults.length), bad: NOW.faults.length > 0,
+    found.push({ label: "Loads outside limits", tab: "outside", value: String(NOW.faults.length),
+      bad: NOW.faults.length > 0,
       note: NOW.faults.length ? `${over} above, ${under} below` : "all between their limits" });
     const broken = (key) => new Set(NOW.clashes.map((it) => it[key])).size;
-    found.push({ label: "Broken exclusions", tab: "outside", value: String(broken("exclusion")), bad: NOW.clashes.length > 0,
+    found.push({ label: "Broken exclusions", tab: "outside", value: String(broken("exclusion")),
+      bad: NOW.clashes.length > 0,
       note: NOW.clashes.length ? `in ${plural(broken("period"), "period")}` : `of ${D.exclusions.length}` });
   }
   if (OTHER) found.push({ label: "Moved", tab: "changes", value: String(moved.length),

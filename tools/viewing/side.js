@@ -107,7 +107,8 @@ function workDetails(it) {
       ["Duration", durationText(it)],
       it.duration ? ["In progress", `period${it.duration > 1 ? "s" : ""} ${runText(it)}`] : null,
       before ? ["Before", before.start === it.start ? "the same" : `${runText(before)} (${moveText(it)})`] : null,
-      NOW.table ? ["Risk it brings", `${shown(it.brought)} over its periods, ${shareOfMean(it)} of the mean risk`] : null,
+      NOW.table ? ["Risk it brings",
+        `${shown(it.brought)} over its periods, ${shareOfMean(it)} of the mean risk`] : null,
       NOW.table ? ["Adds to cost", `${shown(costAdded(it))} by its mean risk, ${shareOfCost(it)} of the cost, `
         + `rank ${rank} of ${D.works.length}`] : null),
     days.length ? [el("h3", {}, "By period"),
@@ -177,7 +178,8 @@ function meter(part) {
 }
 // The works that load a resource in a period, each with its load.
 const loadsIn = (resource, t) => inProgress(t).map((one) => [one,
-  (one.own.find(([place]) => place === resource) || [0, []])[1][t - one.start] || 0n]).filter(([, load]) => load !== 0n);
+  (one.own.find(([place]) => place === resource) || [0, []])[1][t - one.start] || 0n])
+  .filter(([, load]) => load !== 0n);
 // Whether a load is between its limits without one of its works.
 const isEnough = (it, load) => it.lower <= it.load - load && it.load - load <= it.upper;
 const withoutText = (it, load) => isEnough(it, load)
@@ -194,8 +196,8 @@ function resourceDetails(resource, t) {
       WAS && WAS.table ? ["Before", shown(WAS.cells[resource][t - 1].load)] : null),
     el("h3", {}, `Works that load it (${here.length})`),
     here.length ? tableOf(["Work", n("Load"), n("Of it"), ...(it.by !== 0n ? ["Without it"] : [])], here
-      .map(([one, load]) => ({ chosen: it.by !== 0n && isEnough(it, load), cells: [workButton(one.place), n(shown(load)),
-        n(it.load > 0n ? percent(float(load) / float(it.load), 0) : "\u2013"),
+      .map(([one, load]) => ({ chosen: it.by !== 0n && isEnough(it, load), cells: [workButton(one.place),
+        n(shown(load)), n(it.load > 0n ? percent(float(load) / float(it.load), 0) : "\u2013"),
         ...(it.by !== 0n ? [withoutText(it, load)] : [])] })))
         : el("p", {}, "None that is in progress."),
     it.by !== 0n && !here.some(([, load]) => isEnough(it, load))
@@ -248,7 +250,7 @@ function changes() {
   for (const [key, label] of [["cost", "Cost"], ["mean", "Mean risk"], ["excess", "Expected excess"]]) {
     const [before, now] = [valueOf(OTHER, WAS, key), valueOf(PLAN, NOW, key)];
     if (before !== null && now !== null) lines.push([label, n(shown(before)), n(shown(now)),
-      n(signed(now - before) + partOf(now - before, before), better(now - before))]);
+      n([signed(now - before), el("small", {}, partOf(now - before, before))], better(now - before))]);
   }
   if (NOW.table && WAS.table) {
     for (const [key, label] of [["faults", "Loads outside"], ["clashes", "Works that meet"]]) {

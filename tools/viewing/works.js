@@ -143,7 +143,8 @@ function drawMap() {
     const before = WAS && WAS.works[it.place];
     if (before && before.start !== null && before.start !== it.start) lines.was += line(before, y);
     if (it.start === null) return;
-    const kind = it.place === state.work || loading.has(it.place) ? "own" : NOW.clashing && NOW.clashing.has(it.place) ? "clash" : "bar";
+    const kind = it.place === state.work || loading.has(it.place) ? "own"
+      : NOW.clashing && NOW.clashing.has(it.place) ? "clash" : "bar";
     lines[kind] += line(it, y);
   });
   const thick = (kind) => Math.max(kind === "own" ? 2.5 : 0.7, Math.min(5, each * 0.95));
