@@ -60,7 +60,7 @@ function overview() {
       tableOf(["Resource", n("Period"), n("Load"), n("Limit"), n("Full")], busiest)] : null,
     costly.length
       ? [el("h3", {}, "Works that cost most by their mean risk"),
-      tableOf(["Work", n("Periods"), n("Risk"), n("Adds to cost"), n("Of it")], costly.map((it) =>
+      tableOf(["Work", n("Periods"), n("Risk"), n("Adds to cost"), n("Share", "", "of the cost")], costly.map((it) =>
       [workButton(it.place), n(runText(it)), n(shown(it.brought, 3)), n(shown(costAdded(it))), n(shareOfCost(it))])),
       costMade()] : null,
     el("h3", {}, "Periods that cost most"),
