@@ -14,6 +14,16 @@ LIBRARY = ctypes.CDLL(None, use_errno=True)
 MOST_ROUNDS = 1000
 
 
+def ignore_no_signal():
+    """Lets what is started begin with no signal ignored, also where this runs under `nohup` or in the background.
+
+    What ignores a signal hands that on to what it starts, but not a handler.
+    """
+    for number in (signal.SIGINT, signal.SIGTERM, signal.SIGHUP):
+        if signal.getsignal(number) == signal.SIG_IGN:
+            signal.signal(number, lambda *_: None)
+
+
 def end_with_parent(number):
     """Has this process get a signal where its parent ends."""
     LIBRARY.prctl(DEATH_SIGNAL, number, 0, 0, 0)

@@ -496,9 +496,9 @@ fn a_seed_repeats_itself(rt: HostRuntime) -> Result<(), Fail> {
 fn files_of_improve_are_refused_in_order(rt: HostRuntime) -> Result<(), Fail> {
     let alloc = rt.alloc();
     for (instance, names, status, line) in [
-        (BANDED, ["none", "none"], 7, "refused read 2\n"),
-        ("[]", ["I", "none"], 3, "refused instance shape 0\n"),
-        (BANDED, ["I", "none"], 7, "refused read 3\n"),
+        (BANDED, ["none", "gone"], 7, "refused read 2\n"),
+        ("[]", ["I", "gone"], 3, "refused instance shape 0\n"),
+        (BANDED, ["I", "gone"], 7, "refused read 3\n"),
         (BANDED, ["I", "P"], 4, "refused plan bad line 1\n"),
     ] {
         let mut desk = desk(alloc, instance, "x", "")?;
