@@ -12,6 +12,7 @@ pub mod ChangeLemmas
 pub mod BegunLemmas
 pub mod EndLemmas
 pub mod GoneLemmas
+pub mod JoinLemmas
 pub mod SameLemmas
 pub mod SamePartLemmas
 pub mod FloorLemmas

@@ -62,11 +62,11 @@ parting inst cells boxes k a b w l h =
     }
 
 -- ---- some of two lists
-any_left : {A : Type 0} (P : A → Type 0) (xs ys : List A) → Any P xs → Any P (xs ++ ys)
+pub any_left : {A : Type 0} (P : A → Type 0) (xs ys : List A) → Any P xs → Any P (xs ++ ys)
 any_left P xs ys (k, x, l, e, p) =
     (k, x, omega (arith, l, length-append xs ys), get_or_append_left xs ys x k l ∙ e, p)
 
-any_right : {A : Type 0} (P : A → Type 0) (xs ys : List A) → Any P ys → Any P (xs ++ ys)
+pub any_right : {A : Type 0} (P : A → Type 0) (xs ys : List A) → Any P ys → Any P (xs ++ ys)
 any_right P xs ys (k, x, l, e, p) =
     (length xs + k, x, omega (arith, l, length-append xs ys), get_or-append-add xs ys k x ∙ e, p)
 

@@ -4,6 +4,7 @@ pub mod Best
 pub mod Boxes
 pub mod Searched
 pub mod Parts
+pub mod Joining
 pub mod Tasks
 pub mod Growing
 pub mod Shapes

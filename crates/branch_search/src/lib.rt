@@ -12,6 +12,7 @@
 mod best;
 mod choosing;
 mod closing;
+mod laws;
 mod part;
 mod search_end;
 mod searching;
@@ -19,6 +20,7 @@ mod splitting;
 mod tree;
 mod tree_end;
 
+pub use laws::{others_stay, parts_join};
 pub use part::Part;
 pub use search_end::SearchEnd;
 pub use searching::{go_on, go_on_part, search, search_by};
