@@ -45,7 +45,7 @@ class OfPlan:
 @dataclass(frozen=True)
 class OfCertificate:
     """A certificate that `check` accepts: its text, its bound, who made it and how; where `bound` makes it again, with
-    how many turns and of which plan.
+    how many turns, of which plan, and whether it has nothing left to split then.
     """
 
     data: bytes
@@ -54,6 +54,7 @@ class OfCertificate:
     made: str
     turns: Optional[int] = None
     plan: Optional[bytes] = None
+    is_whole: bool = False
 
 
 @contextlib.contextmanager
@@ -130,7 +131,7 @@ def made_again(case, plan, turns, by):
     bound, _ = bound_of(case, data)
     if bound != made.bound:
         raise Broken(f"bound says a bound of {made.bound}, and check one of {bound}: tell their makers")
-    return OfCertificate(data, bound, by, f"bound, {turns} turns", turns, plan)
+    return OfCertificate(data, bound, by, f"bound, {turns} turns", turns, plan, made.splits < turns)
 
 
 def is_better_plan(plan, known):

@@ -1,9 +1,10 @@
-"""Makes a better plan and a better certificate of a case, by rounds of `improve` and `bound` within a time.
+"""Makes a better plan and a better certificate of a case, by rounds of `improve`, `bound` and `solve` within a time.
 
-The time is that of a processor, so that other work on the machine changes little. Whichever of the two has had less of
-it comes next. Each `improve` goes on from the best plan, with the next seed and twice the turns; each `bound` begins
-anew, with four times the turns, so that one call makes its certificate again. What doesn't fit into the time isn't
-begun, as far as the time of the call before tells.
+The time is that of a processor, so that other work on the machine changes little. Whichever of the three has had least
+of it comes next. Each `improve` has the next seed and twice the turns, and goes on from the best plan, or each second
+time from none, as where limits are tight no way may lead from one plan to a better one. Each `bound` begins anew, with
+four times the turns, so that one call makes its certificate again, until it has nothing left to split. `solve` has four
+times the turns each time, too. What doesn't fit into the time isn't begun, as far as that of the call before tells.
 """
 import math
 import os
@@ -20,13 +21,14 @@ from beating.known import LONGEST_HOW, MOST_TURNS, gap_percent
 # The turns of the first calls, and what those of the next one are multiplied by.
 FIRST_IMPROVE, NEXT_IMPROVE = 10, 2
 FIRST_BOUND, NEXT_BOUND = 100, 4
+FIRST_SOLVE, NEXT_SOLVE = 100, 4
 # The most processor seconds that a certificate may take which is made again.
 LONGEST_AGAIN = 120
 
 
 @dataclass
 class Work:
-    """One of the two kinds of calls: its next turns, what these are multiplied by, how many calls there were, and what
+    """One of the kinds of calls: its next turns, what these are multiplied by, how many calls there were, and what
     all of them took and the last one.
     """
 
@@ -44,36 +46,57 @@ class Work:
 
 @dataclass
 class Maker:
-    """The best plan and the best certificate so far."""
+    """The best plan and the best certificate so far. `begun` says what the plan was made of, by the `steps` behind it;
+    `whole` is the plan for which `bound` had nothing left to split, and `is_searched` that `solve` hadn't.
+    """
 
     case: object
     words: object
     plan: OfPlan
-    earlier: str
+    begun: str
     bound: Optional[int]
     certificate: object = None
     seed: int = 0
     steps: list = field(default_factory=list)
     improving: Work = field(default_factory=lambda: Work("improve", FIRST_IMPROVE, NEXT_IMPROVE))
     bounding: Work = field(default_factory=lambda: Work("bound", 0, NEXT_BOUND))
+    solving: Work = field(default_factory=lambda: Work("solve", FIRST_SOLVE, NEXT_SOLVE))
+    whole: Optional[bytes] = None
+    is_searched: bool = False
 
     def made(self):
-        """How the plan was made: the turns and the seed of each call that bettered it."""
-        text = f"{self.earlier}, then improve by turns:seed {' '.join(self.steps)}"
+        """How the plan was made: the turns and the seed of each call of `improve` that bettered it."""
+        if not self.steps:
+            return self.begun
+        text = f"{self.begun}, then improve by turns:seed {' '.join(self.steps)}"
         if len(text) > LONGEST_HOW:
-            text = f"{self.earlier}, then {len(self.steps)} calls of improve, the last by turns:seed {self.steps[-1]}"
+            text = f"{self.begun}, then {len(self.steps)} calls of improve, the last by turns:seed {self.steps[-1]}"
         return text
 
-    def improve(self, turns):
-        before = spent()
-        answer = gadvresa.improve(self.case.instance, file_of(self.case, "improved", self.plan.data), turns, self.seed)
-        self.improving.note(spent() - before, turns, FIRST_IMPROVE)
+    def note(self, answer, begun, steps):
+        """Takes the plan of an answer, if it has a better one."""
         if answer.score is not None and answer.score < self.plan.score:
-            self.steps.append(f"{turns}:{self.seed}")
+            self.begun, self.steps = begun, steps
             data = answer.plan.data()
             self.plan = OfPlan(data, score_of(self.case, data), self.words.take, self.made())
-        self.tell(f"improve, {turns} turns, seed {self.seed}", self.improving)
+
+    def improve(self, turns):
+        before, is_anew = spent(), self.improving.calls % 2 == 1
+        given = None if is_anew else file_of(self.case, "improved", self.plan.data)
+        answer = gadvresa.improve(self.case.instance, given, turns, self.seed)
+        self.improving.note(spent() - before, turns, FIRST_IMPROVE)
+        step = f"{turns}:{self.seed}"
+        self.note(answer, *("none", [step]) if is_anew else (self.begun, [*self.steps, step]))
+        self.tell(f"improve{' of none' if is_anew else ''}, {turns} turns, seed {self.seed}", self.improving)
         self.seed = (self.seed + 1) % 2 ** 64
+
+    def solve(self, turns):
+        before = spent()
+        answer = gadvresa.solve(self.case.instance, turns)
+        self.solving.note(spent() - before, turns, FIRST_SOLVE)
+        self.is_searched = answer.splits < turns
+        self.note(answer, f"solve, {turns} turns", [])
+        self.tell(f"solve, {turns} turns", self.solving)
 
     def make_bound(self, turns):
         before = spent()
@@ -81,6 +104,8 @@ class Maker:
         self.bounding.note(spent() - before, turns, FIRST_BOUND)
         if self.bound is None or made.bound > self.bound or self.certificate is None and made.bound == self.bound:
             self.bound, self.certificate = made.bound, made
+        if made.is_whole:
+            self.whole = self.plan.data
         self.tell(f"bound, {turns} turns, {len(made.data):,} bytes", self.bounding)
 
     def tell(self, text, work):
@@ -88,13 +113,15 @@ class Maker:
               f"{gap_percent(self.plan.score, self.bound)} %", flush=True)
 
     def left(self):
-        return 60 * self.words.minutes - self.improving.total - self.bounding.total
+        return 60 * self.words.minutes - self.improving.total - self.bounding.total - self.solving.total
 
     def is_closed(self):
         return self.plan.score == self.bound
 
     def turns_that_fit(self, work):
         """The turns of the next call of a kind, as far as it is likely to fit into what is left; else none."""
+        if work is self.bounding and self.whole == self.plan.data or work is self.solving and self.is_searched:
+            return None
         room = min(self.left(), LONGEST_AGAIN if work is self.bounding else math.inf)
         if work.factor * work.last <= room:
             return work.turns
@@ -106,12 +133,13 @@ class Maker:
         if self.bound is None:
             self.make_bound(0)
         while not self.is_closed():
-            turns = {it.kind: self.turns_that_fit(it) for it in (self.improving, self.bounding)}
-            works = [it for it in (self.improving, self.bounding) if turns[it.kind] is not None]
-            if not works:
+            calls = [(work, call, self.turns_that_fit(work)) for work, call in (
+                (self.improving, self.improve), (self.bounding, self.make_bound), (self.solving, self.solve))]
+            calls = [it for it in calls if it[2] is not None]
+            if not calls:
                 break
-            work = min(works, key=lambda it: (it.total, it.calls))
-            (self.improve if work is self.improving else self.make_bound)(turns[work.kind])
+            _, call, turns = min(calls, key=lambda it: (it[0].total, it[0].calls))
+            call(turns)
         made = self.certificate
         if made and made.plan != self.plan.data and not self.is_closed():
             # (of the best plan, so that the case needs no other one)
