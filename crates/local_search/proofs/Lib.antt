@@ -4,4 +4,3 @@ pub mod LeadsLemmas
 pub mod SweepLemmas
 pub mod BestLemmas
 pub mod DescentLemmas
-pub mod DraftLemmas

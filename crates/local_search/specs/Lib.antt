@@ -1,4 +1,3 @@
 -- What the contracts cite.
 pub mod Descents
 pub mod Progress
-pub mod Drafts

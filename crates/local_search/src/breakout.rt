@@ -1,43 +1,62 @@
-//! The breakout method: a search on scratch for a plan that keeps all bands and exclusions.
+//! The focused breakout method: a search on arrays for a plan that keeps all bands and exclusions.
 //!
-//! Round by round the next thing that is broken weighs more, and the start that raises the weighed violation least is
-//! taken among those that may mend it. No random numbers: how long the start that is left is held back depends on the
-//! round alone.
-ghost use Rattle.std.specs.Prelude.{◌≤◌, IfOk, IfSome};
+//! Round by round a broken thing is drawn, and the change is made that raises the weighed violation least among those
+//! that may mend it, also where it rises; the start that is left is held back for some rounds. Where the change doesn't
+//! lower the weighed violation all that is broken weighs more from then on. After many rounds the search begins anew.
+ghost use Rattle.std.specs.Prelude.{IfOk};
 ghost use Rattle.instance_model.specs.Plans.{AreAllowedStarts};
-ghost use Rattle.local_search.specs.Drafts.{IsKnown};
 
-use crate::draft::{Broken, Draft};
+use crate::draft::Draft;
 use instance_model::Instance;
 use std::alloc::{AllocError, Global};
 
 /// Up to how many turns the number of rounds grows, and how many rounds stand for a turn.
-const MOST_TURNS: u32 = 20_000;
+const MOST_TURNS: u32 = 5_000;
 
-const ROUNDS: u32 = 2;
+const ROUNDS: u32 = 200;
 
-/// What is broken, at or behind a place, and the place behind it. The first place follows the last one.
-fn next_broken(draft: &Draft<'_>, from: usize) -> Option<(usize, Broken)>
-    ensures { IfSome result (λ next. IsKnown draft.now next.1) }
-{
-    let places = draft.places();
-    for k in 0..places {
-        let place = from.wrapping_add(k) % places;
-        if let Some(broken) = draft.broken_at(place) {
-            return Some((place + 1, broken));
+/// The most rounds for each allowed start that there is.
+const ROUNDS_A_RUN: usize = 100;
+
+/// After how many rounds the search begins anew.
+const AGAIN: usize = 20_000;
+
+/// One in how many rounds that lower nothing takes a part of what weights have grown by.
+const EASE: usize = 50;
+
+/// Mends what is broken, round by round, until nothing is or no round is left.
+fn mend(draft: &mut Draft, rounds: usize) {
+    let mut stuck: usize = 0;
+    for round in 0..rounds {
+        if draft.is_whole() {
+            return;
+        }
+        if round % AGAIN == AGAIN - 1 {
+            draft.begin_anew();
+        }
+        if !draft.mend_one(round) {
+            stuck = stuck.wrapping_add(1);
+            if stuck % EASE == 0 {
+                draft.ease_all();
+            }
         }
     }
-    None
 }
 
-/// For how many rounds the start that is left in a round is held back.
-fn hold_of(round: u32) -> u32
-    ensures { result ≤ 50 }
+/// Takes over each start of the best plan that was met, where it is allowed.
+fn take_starts(inst: &Instance, starts: &mut Vec<u32>, draft: &Draft)
+    requires { AreAllowedStarts inst.now starts.old.items }
+    ensures { AreAllowedStarts inst.now starts.new.items }
 {
-    10 + round.wrapping_mul(7) % 41
+    for i in 0..inst.interventions() {
+        let s = draft.best_start(i);
+        if inst.allowed(i, s) {
+            starts[i as usize] = s;
+        }
+    }
 }
 
-/// Mends what is broken, round by round, until nothing is or no round is left. Takes memory.
+/// The starts of the best plan that is met on the way from these to one that breaks nothing. Takes memory first.
 pub(crate) fn mended(
     alloc: Global,
     inst: &Instance,
@@ -47,17 +66,13 @@ pub(crate) fn mended(
     requires { AreAllowedStarts inst.now starts.items }
     ensures { IfOk result (λ starts. AreAllowedStarts inst.now starts.items) }
 {
-    let mut draft = Draft::make(alloc, inst, starts)?;
-    let mut at = 0;
-    for round in 0..turns.min(MOST_TURNS) * ROUNDS {
-        let Some((next, broken)) = next_broken(&draft, at) else {
-            break;
-        };
-        at = next;
-        draft.raise(broken);
-        if let Some(choice) = draft.best_choice(broken, round) {
-            draft.choose(choice, round + hold_of(round));
-        }
-    }
-    draft.starts().to_vec(alloc)
+    let mut draft = Draft::make(alloc, inst, &starts)?;
+    let rounds = (turns.min(MOST_TURNS) * ROUNDS) as usize;
+    mend(
+        &mut draft,
+        rounds.min(draft.runs().wrapping_mul(ROUNDS_A_RUN)),
+    );
+    let mut starts = starts;
+    take_starts(inst, &mut starts, &draft);
+    Ok(starts)
 }

@@ -1,371 +1,411 @@
-//! A plan on arrays of its own: its loads and exclusions with their weights, and which starts are held back.
-ghost use Rattle.std.specs.Prelude.{◌≡◌, ◌*◌, ◌+◌, ◌<◌, ◌≤◌, ◌⊎◌, length, All, Some, IfOk, IfSome, IsTrue};
-ghost use Rattle.instance_model.specs.Tables.{is_allowed};
+//! A plan on arrays of its own, what it breaks, and which change mends a broken thing best.
+ghost use Rattle.std.specs.Prelude.{◌≡◌, length};
 ghost use Rattle.instance_model.specs.Plans.{AreAllowedStarts};
-ghost use Rattle.duration_calendar.specs.Windows.{IsInHorizon};
-ghost use Rattle.local_search.specs.Drafts.{HasBand, IsKnown, IsChoice};
 
-use crate::bands::{Band, add_works, idle_bands, loads_band, rise_of};
-use duration_calendar::{Window, meets_in, run};
-use instance_model::{Instance, LoadCell};
+use crate::arrays::{NOWHERE, entry, filled, put};
+use crate::bands::{Band, idle_bands};
+use crate::broken::Broken;
+use crate::covers::Covers;
+use crate::exclusions::Exclusions;
+use crate::runs::{Run, Runs, Work};
+use crate::words::Words;
+use instance_model::Instance;
 use std::alloc::{AllocError, Global};
-use std::marker::Model;
 
-/// What a broken exclusion weighs at first: as much as a load that is 16 outside its limits.
-const FIRST_WEIGHT: i64 = 16_000_000;
+/// How far a broken exclusion counts as outside, in counts of 10^-6.
+const CLASH: i64 = 1_000_000;
 
-const RAISE: i64 = 1_000_000;
+/// For how many rounds a start that was left is held back: so many, and up to as many more.
+const HOLD: usize = 20;
 
-/// A limit or an exclusion that the draft breaks.
+/// The run of least rise of those that were tried, and how many of them rise as little.
 #[derive(Clone, Copy)]
-pub(crate) enum Broken {
-    /// The band at this place.
-    Band(usize),
-    Exclusion(u32),
+struct Choice {
+    number: usize,
+    rise: i64,
+    ties: usize,
 }
 
-/// A start for an intervention, and by how much it raises the weighed violation.
-#[derive(Clone, Copy)]
-pub(crate) struct Choice {
-    pub(crate) i: u32,
-    pub(crate) s: u32,
-    pub(crate) rise: i64,
-}
-
-/// A plan of allowed starts with what the search keeps of it.
-#[derive(Drop)]
-pub(crate) struct Draft<'a> {
-    inst: &'a Instance,
-    starts: Vec<u32>,
-    /// By resource, then period.
-    bands: Vec<Band>,
-    /// By exclusion.
-    weights: Vec<i64>,
-    /// By intervention, then start: the round from which it may be taken again.
-    held: Vec<u32>,
-    /// By period: what it costs the intervention that was looked at last to be in progress there.
-    penalties: Vec<i64>,
-}
-
-impl<'a> Model for Draft<'a> {
-    ghost use Rattle.std.specs.Prelude.{length};
-    ghost use Rattle.instance_model.specs.Tables.{Tables};
-    ghost use Rattle.local_search.specs.Drafts.{IsDraft};
-
-    ghost Value = { Tables };
-
-    ghost view = { λ d. d.inst.now };
-
-    ghost invariant = { λ d. IsDraft d.inst.now d.starts.items
-        (length d.bands.items) (length d.weights.items) (length d.held.items) (length d.penalties.items) };
-}
-
-/// The choice of less rise, the first one where both rise the same.
-fn lesser(best: Option<Choice>, choice: Choice) -> Option<Choice>
-    ensures { IfSome result (λ lesser. (Some lesser ≡ best) ⊎ (lesser ≡ choice)) }
-{
-    match best {
-        Some(least) if least.rise <= choice.rise => Some(least),
-        _ => Some(choice),
-    }
-}
-
-/// The workloads of intervention `i` at start `s`.
-fn works_at(inst: &Instance, i: u32, s: u32) -> &[LoadCell]
-    requires { i < length inst.now.names }
-    ensures { All (HasBand inst.now.periods (length inst.now.resource_names * inst.now.periods)) result.now }
-{
-    let works = inst.workloads(i);
-    let from = works.partition_point(|work| work.start < s);
-    let past = works.partition_point(|work| work.start <= s);
-    &works[from..past.max(from)]
-}
-
-/// The place of a start in a list by intervention, then start.
-fn start_place(inst: &Instance, i: u32, s: u32) -> usize
-    requires number { i < length inst.now.names }
-    requires allowed { IsTrue (is_allowed inst.now i s) }
-    ensures { result < length inst.now.names * inst.now.periods }
-{
-    inst.fits();
-    i as usize * inst.periods() as usize + (s as usize - 1)
-}
-
-/// All periods.
-fn whole(inst: &Instance) -> Window
-    ensures { IsInHorizon inst.now result }
-{
-    Window {
-        from: 1,
-        past: inst.periods() + 1,
-    }
-}
-
-/// Adds the weight to the penalty of each period of the season that is in the window.
-fn add_penalty(penalties: &mut [i64], inst: &Instance, season: u32, window: Window, weight: i64)
-    requires season { season < length inst.now.season_names }
-    requires window { IsInHorizon inst.now window }
-    requires each { length penalties.old ≡ inst.now.periods }
-{
-    for t in window.from..window.past {
-        if inst.in_season(season, t) {
-            let penalty = &mut penalties[t as usize - 1];
-            *penalty = penalty.saturating_add(weight);
+impl Choice {
+    /// None was tried.
+    fn none() -> Choice {
+        Choice {
+            number: NOWHERE,
+            rise: i64::MAX,
+            ties: 0,
         }
     }
 }
 
-/// What it costs to be in progress in the periods of a window.
-fn penalty_in(penalties: &[i64], window: Window) -> i64
-    requires from { 1 ≤ window.from }
-    requires past { window.past ≤ length penalties.now + 1 }
-{
-    let mut sum: i64 = 0;
-    for t in window.from..window.past {
-        sum = sum.saturating_add(penalties[t as usize - 1]);
-    }
-    sum
+/// A plan, as numbers of runs.
+#[derive(Drop)]
+pub(crate) struct Draft {
+    runs: Runs,
+    covers: Covers,
+    exclusions: Exclusions,
+    bands: Vec<Band>,
+    /// Places of bands, and behind them numbers of exclusions.
+    broken: Broken,
+    words: Words,
+    /// By intervention: its run, and that of the best plan so far.
+    present: Vec<usize>,
+    best: Vec<usize>,
+    /// How far the best plan is outside.
+    least: i64,
+    /// By run: the round from which it may be taken again.
+    held: Vec<usize>,
+    /// The present run whose workloads are off the bands, and the rise that it would bring.
+    lifted: usize,
+    here: i64,
+    choice: Choice,
 }
 
-impl<'a> Draft<'a> {
+/// Puts workloads on the bands.
+fn add_works(bands: &mut [Band], works: &[Work]) {
+    for work in works {
+        if let Some(band) = bands.get_mut(work.place) {
+            band.add(work.amount);
+        }
+    }
+}
+
+/// Takes workloads off the bands.
+fn take_works(bands: &mut [Band], works: &[Work]) {
+    for work in works {
+        if let Some(band) = bands.get_mut(work.place) {
+            band.take(work.amount);
+        }
+    }
+}
+
+impl Draft {
     /// The plan of these starts. Takes memory, as no other call does.
     pub(crate) fn make(
         alloc: Global,
-        inst: &'a Instance,
-        starts: Vec<u32>,
-    ) -> Result<Draft<'a>, AllocError>
-        requires { AreAllowedStarts inst.now starts.items }
-        ensures { IfOk result (λ draft. draft ≡ inst.now) }
-    {
-        inst.fits();
-        let periods = inst.periods() as usize;
-        let mut bands = idle_bands(alloc, inst)?;
-        for i in 0..inst.interventions() {
-            let works = works_at(inst, i, starts[i as usize]);
-            add_works(&mut bands, inst.periods(), works, 1);
-        }
-        Ok(Draft {
-            inst,
-            starts,
+        inst: &Instance,
+        starts: &[u32],
+    ) -> Result<Draft, AllocError> {
+        let runs = Runs::make(alloc, inst)?;
+        let exclusions = Exclusions::make(alloc, inst)?;
+        let bands = idle_bands(alloc, inst)?;
+        let places = bands.len();
+        let things = places.wrapping_add(exclusions.pairs.len());
+        let covers = Covers::make(alloc, &runs, places)?;
+        let held = filled(alloc, 0, runs.count())?;
+        let mut draft = Draft {
+            runs,
+            covers,
+            exclusions,
             bands,
-            weights: vec![in alloc; FIRST_WEIGHT; inst.exclusions() as usize]?,
-            held: vec![in alloc; 0; inst.interventions() as usize * periods]?,
-            penalties: vec![in alloc; 0; periods]?,
-        })
-    }
-
-    pub(crate) fn starts(&self) -> &[u32]
-        ensures { AreAllowedStarts self.now result.now }
-    {
-        self.starts.as_slice()
-    }
-
-    /// Whether exclusion `e` is broken.
-    fn is_clashing(&self, e: u32) -> bool
-        requires { e < length self.now.exclusion_names }
-    {
-        let exclusion = self.inst.exclusion(e);
-        let first = run(
-            self.inst,
-            exclusion.first,
-            self.starts[exclusion.first as usize],
-        );
-        let second = run(
-            self.inst,
-            exclusion.second,
-            self.starts[exclusion.second as usize],
-        );
-        meets_in(self.inst, exclusion.season, first, second).is_some()
-    }
-
-    /// How many bands and exclusions there are.
-    pub(crate) fn places(&self) -> usize
-        ensures { result ≡ length self.now.resource_names * self.now.periods + length self.now.exclusion_names }
-    {
-        self.bands.len() + self.weights.len()
-    }
-
-    /// What is broken at a place among the bands and, behind them, the exclusions.
-    pub(crate) fn broken_at(&self, place: usize) -> Option<Broken>
-        requires { place < length self.now.resource_names * self.now.periods + length self.now.exclusion_names }
-        ensures { IfSome result (IsKnown self.now) }
-    {
-        if place < self.bands.len() {
-            if self.bands[place].is_broken() {
-                return Some(Broken::Band(place));
-            }
-            return None;
-        }
-        self.inst.fits();
-        let e = (place - self.bands.len()) as u32;
-        if self.is_clashing(e) {
-            Some(Broken::Exclusion(e))
-        } else {
-            None
-        }
-    }
-
-    /// From now on what is broken weighs more.
-    pub(crate) fn raise(&mut self, broken: Broken)
-        requires { IsKnown self.old broken }
-        ensures { self.new ≡ self.old }
-    {
-        match broken {
-            Broken::Band(place) => self.bands[place].raise(),
-            Broken::Exclusion(e) => {
-                let weight = &mut self.weights[e as usize];
-                *weight = weight.saturating_add(RAISE);
-            }
-        }
-    }
-
-    /// Whether another start of intervention `i` may mend what is broken.
-    fn concerns(&self, i: u32, broken: Broken) -> bool
-        requires number { i < length self.now.names }
-        requires known { IsKnown self.now broken }
-    {
-        match broken {
-            Broken::Band(place) => {
-                let works = works_at(self.inst, i, self.starts[i as usize]);
-                !self.bands[place].is_over()
-                    || loads_band(&self.bands, self.inst.periods(), works, place)
-            }
-            Broken::Exclusion(e) => {
-                let exclusion = self.inst.exclusion(e);
-                exclusion.first == i || exclusion.second == i
-            }
-        }
-    }
-
-    /// Puts the workloads of intervention `i` at start `s` on the bands, or takes them off.
-    fn shift(&mut self, i: u32, s: u32, sign: i64)
-        requires { i < length self.old.names }
-        ensures { self.new ≡ self.old }
-    {
-        let inst = self.inst;
-        add_works(&mut self.bands, inst.periods(), works_at(inst, i, s), sign);
-    }
-
-    /// The periods in which intervention `i` may not be in progress where `other` is, if they are in the season: all of
-    /// them where it excludes itself.
-    fn barred(&self, i: u32, other: u32) -> Window
-        requires { other < length self.now.names }
-        ensures { IsInHorizon self.now result }
-    {
-        if other == i {
-            return whole(self.inst);
-        }
-        run(self.inst, other, self.starts[other as usize])
-    }
-
-    /// Adds the weight of exclusion `e` to the penalties, where it names intervention `i`.
-    fn note_exclusion(&mut self, i: u32, e: u32)
-        requires { e < length self.old.exclusion_names }
-        ensures { self.new ≡ self.old }
-    {
-        let inst = self.inst;
-        let exclusion = inst.exclusion(e);
-        if exclusion.first != i && exclusion.second != i {
-            return;
-        }
-        let other = if exclusion.first == i {
-            exclusion.second
-        } else {
-            exclusion.first
+            broken: Broken::make(alloc, things)?,
+            words: Words::new(),
+            present: filled(alloc, 0, starts.len())?,
+            best: filled(alloc, 0, starts.len())?,
+            least: i64::MAX,
+            held,
+            lifted: NOWHERE,
+            here: 0,
+            choice: Choice::none(),
         };
-        let window = self.barred(i, other);
-        add_penalty(
-            &mut self.penalties,
-            inst,
-            exclusion.season,
-            window,
-            self.weights[e as usize],
-        );
+        draft.begin_at(starts);
+        Ok(draft)
     }
 
-    /// Computes the penalties for intervention `i`.
-    fn note_penalties(&mut self, i: u32)
-        ensures { self.new ≡ self.old }
-    {
-        self.penalties.fill(0);
-        for e in 0..self.inst.exclusions() {
-            self.note_exclusion(i, e);
+    /// Puts the runs of these starts on idle bands.
+    fn begin_at(&mut self, starts: &[u32]) {
+        for i in 0..starts.len() {
+            let number = self.runs.find(i, starts[i]);
+            put(&mut self.present, i, number);
+            add_works(&mut self.bands, self.runs.works(number));
+        }
+        for place in 0..self.bands.len() {
+            self.note_band(place);
+        }
+        for e in 0..self.exclusions.pairs.len() {
+            self.note_exclusion(e);
+        }
+        self.note_best();
+    }
+
+    /// Whether nothing is broken.
+    pub(crate) fn is_whole(&self) -> bool {
+        self.broken.count() == 0
+    }
+
+    /// How many runs there are.
+    pub(crate) fn runs(&self) -> usize {
+        self.runs.count()
+    }
+
+    /// The start of intervention `i` in the best plan.
+    pub(crate) fn best_start(&self, i: u32) -> u32 {
+        self.runs.at(entry(&self.best, i as usize)).from
+    }
+
+    /// Keeps what is known of a band.
+    #[inline]
+    fn note_band(&mut self, place: usize) {
+        if let Some(band) = self.bands.get(place) {
+            self.broken.mark(place, band.gap() > 0);
         }
     }
 
-    /// By how much the weighed violation grows with intervention `i` at start `s`, where it is off the bands.
-    fn rise_at(&self, i: u32, s: u32) -> i64
-        requires number { i < length self.now.names }
-        requires allowed { IsTrue (is_allowed self.now i s) }
-    {
-        let inst = self.inst;
-        let loads = rise_of(&self.bands, inst.periods(), works_at(inst, i, s));
-        loads.saturating_add(penalty_in(&self.penalties, run(inst, i, s)))
+    /// The present run of an intervention.
+    #[inline]
+    fn present_run(&self, i: usize) -> Run {
+        self.runs.at(entry(&self.present, i))
     }
 
-    /// The start of intervention `i` of least rise, where it is off the bands, but
-    /// its own and those that are held back.
-    fn least_rise(&self, i: u32, round: u32) -> Option<Choice>
-        requires { i < length self.now.names }
-        ensures { IfSome result (IsChoice self.now) }
-    {
-        let inst = self.inst;
-        inst.fits();
-        let here = self.rise_at(i, self.starts[i as usize]);
-        let mut least: Option<Choice> = None;
-        for s in 1..inst.tmax(i) + 1 {
-            if s != self.starts[i as usize]
-                && inst.allowed(i, s)
-                && self.held[start_place(inst, i, s)] <= round
-            {
-                let rise = self.rise_at(i, s).saturating_sub(here);
-                least = lesser(least, Choice { i, s, rise });
+    /// Keeps what is known of an exclusion.
+    fn note_exclusion(&mut self, e: usize) {
+        if let Some(pair) = self.exclusions.pairs.get(e) {
+            let first = self.present_run(pair.first);
+            let second = self.present_run(pair.second);
+            let broken = self.exclusions.meet(pair.season, first, second);
+            self.broken
+                .mark(self.bands.len().wrapping_add(e), broken);
+        }
+    }
+
+    /// How far all loads are outside their limits, with as much for each broken exclusion as the key of a plan has.
+    fn violation(&self) -> i64 {
+        let mut sum: i64 = 0;
+        for k in 0..self.broken.count() {
+            let gap = match self.bands.get(self.broken.at(k)) {
+                Some(band) => band.gap(),
+                None => CLASH,
+            };
+            sum = sum.saturating_add(gap);
+        }
+        sum
+    }
+
+    /// Takes over the present plan, where it is less far outside than the best one.
+    pub(crate) fn note_best(&mut self) {
+        let violation = self.violation();
+        if violation < self.least {
+            self.least = violation;
+            for i in 0..self.present.len() {
+                put(&mut self.best, i, self.present[i]);
             }
         }
-        least
     }
 
-    /// The other start of intervention `i` that raises the weighed violation least.
-    fn best_start(&mut self, i: u32, round: u32) -> Option<Choice>
-        requires { i < length self.old.names }
-        ensures same { self.new ≡ self.old }
-        ensures choice { IfSome result (IsChoice self.old) }
-    {
-        let own = self.starts[i as usize];
-        self.shift(i, own, -1);
-        self.note_penalties(i);
-        let choice = self.least_rise(i, round);
-        self.shift(i, own, 1);
-        choice
-    }
-
-    /// The start that raises the weighed violation least, among those that may mend what is broken.
-    pub(crate) fn best_choice(&mut self, broken: Broken, round: u32) -> Option<Choice>
-        requires { IsKnown self.old broken }
-        ensures same { self.new ≡ self.old }
-        ensures choice { IfSome result (IsChoice self.old) }
-    {
-        let mut best: Option<Choice> = None;
-        for i in 0..self.inst.interventions() {
-            if self.concerns(i, broken) {
-                if let Some(choice) = self.best_start(i, round) {
-                    best = lesser(best, choice);
+    /// What the exclusions weigh that a run breaks.
+    #[inline]
+    fn clash_weight(&self, run: Run) -> i64 {
+        let mut sum: i64 = 0;
+        for e in self.exclusions.of(run.i) {
+            if let Some(pair) = self.exclusions.pairs.get(*e) {
+                let other = pair.other(run.i);
+                let facing = if other == run.i {
+                    run
+                } else {
+                    self.present_run(other)
+                };
+                if self.exclusions.meet(pair.season, run, facing) {
+                    sum = sum.saturating_add(pair.weight.now());
                 }
             }
         }
-        best
+        sum
     }
 
-    /// Makes the choice, and holds back the start that is left until a later round.
-    pub(crate) fn choose(&mut self, choice: Choice, until: u32)
-        requires { IsChoice self.old choice }
-        ensures { self.new ≡ self.old }
-    {
-        let own = self.starts[choice.i as usize];
-        self.shift(choice.i, own, -1);
-        self.shift(choice.i, choice.s, 1);
-        let place = start_place(self.inst, choice.i, own);
-        self.held[place] = until;
-        self.starts[choice.i as usize] = choice.s;
+    /// By how much the weighed violation grows with a run, where its intervention is off the bands.
+    #[inline]
+    fn rise(&self, number: usize) -> i64 {
+        let mut rise: i64 = 0;
+        for work in self.runs.works(number) {
+            if let Some(band) = self.bands.get(work.place) {
+                rise = rise.saturating_add(band.rise(work.amount));
+            }
+        }
+        rise.saturating_add(self.clash_weight(self.runs.at(number)))
+    }
+
+    /// Puts the run back on the bands that is off them.
+    fn put_back(&mut self) {
+        add_works(&mut self.bands, self.runs.works(self.lifted));
+        self.lifted = NOWHERE;
+    }
+
+    /// Takes the run of an intervention off the bands, and no other one.
+    #[inline]
+    fn lift(&mut self, i: usize) {
+        let own = entry(&self.present, i);
+        if own != self.lifted {
+            self.put_back();
+            take_works(&mut self.bands, self.runs.works(own));
+            self.lifted = own;
+            self.here = self.rise(own);
+        }
+    }
+
+    /// Takes a run for the choice, where it rises less, or as little and a draw is for it.
+    #[inline]
+    fn consider(&mut self, number: usize, rise: i64) {
+        if rise < self.choice.rise {
+            self.choice = Choice {
+                number,
+                rise,
+                ties: 1,
+            };
+        } else if rise == self.choice.rise {
+            self.choice.ties = self.choice.ties.wrapping_add(1);
+            if self.words.draw(self.choice.ties) == 0 {
+                self.choice.number = number;
+            }
+        }
+    }
+
+    /// Tries a run, where it isn't the present one of its intervention and isn't held back.
+    #[inline]
+    fn try_run(&mut self, number: usize, round: usize) {
+        let i = self.runs.at(number).i;
+        if number != entry(&self.present, i) && entry(&self.held, number) <= round {
+            self.lift(i);
+            let rise = self.rise(number).saturating_sub(self.here);
+            self.consider(number, rise);
+        }
+    }
+
+    /// Tries all runs of an intervention.
+    fn try_all(&mut self, i: usize, round: usize) {
+        for number in self.runs.first(i)..self.runs.first(i.wrapping_add(1)) {
+            self.try_run(number, round);
+        }
+    }
+
+    /// Tries what may mend an exclusion: all runs of both interventions.
+    fn try_exclusion(&mut self, e: usize, round: usize) {
+        if let Some(pair) = self.exclusions.pairs.get(e) {
+            let (first, second) = (pair.first, pair.second);
+            self.try_all(first, round);
+            if second != first {
+                self.try_all(second, round);
+            }
+        }
+    }
+
+    /// Tries what may mend a load above its upper limit: all runs of those that load the band.
+    fn try_over(&mut self, place: usize, round: usize) {
+        for k in 0..self.covers.count(place) {
+            let number = self.covers.at(place, k);
+            let i = self.runs.at(number).i;
+            if entry(&self.present, i) == number {
+                self.try_all(i, round);
+            }
+        }
+    }
+
+    /// Tries what may mend a load below its lower limit: the runs that load the band.
+    fn try_under(&mut self, place: usize, round: usize) {
+        for k in 0..self.covers.count(place) {
+            self.try_run(self.covers.at(place, k), round);
+        }
+    }
+
+    /// Tries what may mend a broken thing.
+    fn try_broken(&mut self, number: usize, round: usize) {
+        match self.bands.get(number) {
+            Some(band) => {
+                if band.is_over() {
+                    self.try_over(number, round);
+                } else {
+                    self.try_under(number, round);
+                }
+            }
+            None => self.try_exclusion(number.wrapping_sub(self.bands.len()), round),
+        }
+    }
+
+    /// From now on all that is broken weighs more.
+    fn raise_broken(&mut self) {
+        let places = self.bands.len();
+        for k in 0..self.broken.count() {
+            let number = self.broken.at(k);
+            if let Some(band) = self.bands.get_mut(number) {
+                band.weight.raise();
+            } else if let Some(pair) = self.exclusions.pairs.get_mut(number.wrapping_sub(places)) {
+                pair.weight.raise();
+            }
+        }
+    }
+
+    /// Takes a part of what all weights have grown by.
+    pub(crate) fn ease_all(&mut self) {
+        for band in self.bands.iter_mut() {
+            band.weight.ease();
+        }
+        for pair in self.exclusions.pairs.iter_mut() {
+            pair.weight.ease();
+        }
+    }
+
+    /// Changes the present run of an intervention to this one.
+    fn change_to(&mut self, number: usize) {
+        let i = self.runs.at(number).i;
+        let own = entry(&self.present, i);
+        take_works(&mut self.bands, self.runs.works(own));
+        add_works(&mut self.bands, self.runs.works(number));
+        put(&mut self.present, i, number);
+        self.note_works(own);
+        self.note_works(number);
+        self.note_exclusions(i);
+    }
+
+    /// Keeps what is known of the bands that a run loads.
+    fn note_works(&mut self, number: usize) {
+        for work in self.runs.works(number) {
+            if let Some(band) = self.bands.get(work.place) {
+                self.broken.mark(work.place, band.gap() > 0);
+            }
+        }
+    }
+
+    /// Keeps what is known of the exclusions of an intervention.
+    fn note_exclusions(&mut self, i: usize) {
+        for k in 0..self.exclusions.of(i).len() {
+            let e = entry(self.exclusions.of(i), k);
+            self.note_exclusion(e);
+        }
+    }
+
+    /// One round: takes the change that mends a broken thing best, and holds back the run that is left. Whether it
+    /// lowers the weighed violation: where it doesn't, all that is broken weighs more from now on.
+    pub(crate) fn mend_one(&mut self, round: usize) -> bool {
+        let broken = self.broken.at(self.words.draw(self.broken.count()));
+        self.choice = Choice::none();
+        self.try_broken(broken, round);
+        self.put_back();
+        let Choice { number, rise, .. } = self.choice;
+        if rise >= 0 {
+            self.raise_broken();
+        }
+        if number != NOWHERE {
+            let own = entry(&self.present, self.runs.at(number).i);
+            self.change_to(number);
+            let until = HOLD.wrapping_add(self.words.draw(HOLD + 1));
+            put(&mut self.held, own, round.wrapping_add(until));
+            self.note_best();
+        }
+        rise < 0
+    }
+
+    /// Begins anew from drawn runs, with the first weights and nothing held back.
+    pub(crate) fn begin_anew(&mut self) {
+        for i in 0..self.present.len() {
+            let first = self.runs.first(i);
+            let count = self.runs.first(i.wrapping_add(1)).saturating_sub(first);
+            let number = first.wrapping_add(self.words.draw(count));
+            self.change_to(number);
+        }
+        for band in self.bands.iter_mut() {
+            band.weight.reset();
+        }
+        for pair in self.exclusions.pairs.iter_mut() {
+            pair.weight.reset();
+        }
+        self.held.fill(0);
     }
 }
