@@ -67,11 +67,9 @@ pub(crate) fn mended(
     ensures { IfOk result (λ starts. AreAllowedStarts inst.now starts.items) }
 {
     let mut draft = Draft::make(alloc, inst, &starts)?;
+    let most = draft.runs().wrapping_mul(ROUNDS_A_RUN);
     let rounds = (turns.min(MOST_TURNS) * ROUNDS) as usize;
-    mend(
-        &mut draft,
-        rounds.min(draft.runs().wrapping_mul(ROUNDS_A_RUN)),
-    );
+    mend(&mut draft, rounds.min(most));
     let mut starts = starts;
     take_starts(inst, &mut starts, &draft);
     Ok(starts)

@@ -156,15 +156,23 @@ impl Draft {
         self.runs.at(entry(&self.present, i))
     }
 
+    /// Whether the present runs break an exclusion.
+    fn is_clashing(&self, e: usize) -> bool {
+        match self.exclusions.pairs.get(e) {
+            Some(pair) => {
+                let first = self.present_run(pair.first);
+                let second = self.present_run(pair.second);
+                self.exclusions.meet(pair.season, first, second)
+            }
+            None => false,
+        }
+    }
+
     /// Keeps what is known of an exclusion.
     fn note_exclusion(&mut self, e: usize) {
-        if let Some(pair) = self.exclusions.pairs.get(e) {
-            let first = self.present_run(pair.first);
-            let second = self.present_run(pair.second);
-            let broken = self.exclusions.meet(pair.season, first, second);
-            self.broken
-                .mark(self.bands.len().wrapping_add(e), broken);
-        }
+        let broken = self.is_clashing(e);
+        let number = self.bands.len().wrapping_add(e);
+        self.broken.mark(number, broken);
     }
 
     /// How far all loads are outside their limits, with as much for each broken exclusion as the key of a plan has.
@@ -301,21 +309,28 @@ impl Draft {
     /// Tries what may mend a load below its lower limit: the runs that load the band.
     fn try_under(&mut self, place: usize, round: usize) {
         for k in 0..self.covers.count(place) {
-            self.try_run(self.covers.at(place, k), round);
+            let number = self.covers.at(place, k);
+            self.try_run(number, round);
+        }
+    }
+
+    /// Whether the load of a band is above its upper limit.
+    fn is_over(&self, place: usize) -> bool {
+        match self.bands.get(place) {
+            Some(band) => band.is_over(),
+            None => false,
         }
     }
 
     /// Tries what may mend a broken thing.
     fn try_broken(&mut self, number: usize, round: usize) {
-        match self.bands.get(number) {
-            Some(band) => {
-                if band.is_over() {
-                    self.try_over(number, round);
-                } else {
-                    self.try_under(number, round);
-                }
-            }
-            None => self.try_exclusion(number.wrapping_sub(self.bands.len()), round),
+        let places = self.bands.len();
+        if number >= places {
+            self.try_exclusion(number.wrapping_sub(places), round);
+        } else if self.is_over(number) {
+            self.try_over(number, round);
+        } else {
+            self.try_under(number, round);
         }
     }
 

@@ -113,7 +113,8 @@ impl Runs {
             from: window.from,
             past: window.past,
             first_work: self.works.len(),
-        })
+        })?;
+        Ok(())
     }
 
     /// Adds the workloads of the last run.

@@ -6,7 +6,7 @@
 //! | 1, 2 | 6, 6 | 0 | 2 |
 //! | 2, 1 | 6, 6 | 0 | 4 |
 //! | 2, 2 | 0, 12 | 2 | 6 |
-use crate::samples::paired;
+use crate::samples::{leading, paired};
 use instance_model::{Instance, Key};
 use local_search::descend;
 use plan_moves::Kept;
@@ -74,5 +74,16 @@ fn a_local_optimum_stays(rt: HostRuntime) -> Result<(), Fail> {
     let inst = paired(rt.alloc())?;
     let end = descended(rt.alloc(), &inst, &[1, 2], 3)?;
     assert_eq!(rt; end, Some((0, false, SECOND_LATER)));
+    Ok(())
+}
+
+/// From starts 1, 1 (violation 6) start 3 of the first leaves 1, and no change from there lowers it. Its start 2 leaves 2,
+/// and start 3 of the second then none.
+#[test]
+fn a_lesser_fall_is_taken_where_it_leads_to_a_plan(rt: HostRuntime) -> Result<(), Fail> {
+    let inst = leading(rt.alloc())?;
+    let end = descended(rt.alloc(), &inst, &[1, 1], 9)?;
+    let told = end.map(|(changes, spent, key)| (changes, spent, key.violation));
+    assert_eq!(rt; told, Some((2, false, 0)));
     Ok(())
 }

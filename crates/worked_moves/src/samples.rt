@@ -102,6 +102,36 @@ const PAIRED: Sketch<'static> = Sketch {
     ..BARE
 };
 
+/// Two interventions from period 1, 2 or 3 to period 3. Each takes 8 of the 10 of the first resource in period 1. Of the
+/// second one period 3 needs 10: the first gives 5, 3 or 4 by its start, the second 5, 20 or 7.
+const LEADING: Sketch<'static> = Sketch {
+    periods: 3,
+    scenarios: &[1, 1, 1],
+    resources: 2,
+    upper: &[10 * ONE, 10 * ONE, 10 * ONE, 10 * ONE, 10 * ONE, 10 * ONE],
+    lower: &[0, 0, 0, 0, 0, 10 * ONE],
+    delta: &[&[3, 2, 1], &[3, 2, 1]],
+    loads: &[
+        &[
+            (1, 1, 0, 8 * ONE),
+            (1, 3, 1, 5 * ONE),
+            (2, 3, 1, 3 * ONE),
+            (3, 3, 1, 4 * ONE),
+        ],
+        &[
+            (1, 1, 0, 8 * ONE),
+            (1, 3, 1, 5 * ONE),
+            (2, 3, 1, 20 * ONE),
+            (3, 3, 1, 7 * ONE),
+        ],
+    ],
+    risks: &[0, 0, 0, 0, 0, 0, 0, 0, 0, 0, 0, 0],
+    soft: &[
+        false, false, false, false, false, false, false, false, false, false, false, false,
+    ],
+    ..BARE
+};
+
 const EACH_OTHER: Exclusion = Exclusion {
     first: 0,
     second: 1,
@@ -132,4 +162,8 @@ pub fn overlapping(alloc: Global) -> Result<Instance, AllocError> {
 
 pub fn paired(alloc: Global) -> Result<Instance, AllocError> {
     instance(alloc, &PAIRED)
+}
+
+pub fn leading(alloc: Global) -> Result<Instance, AllocError> {
+    instance(alloc, &LEADING)
 }
