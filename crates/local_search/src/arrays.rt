@@ -23,11 +23,7 @@ pub(crate) fn put(entries: &mut [usize], place: usize, entry: usize) {
 }
 
 /// The same entry, so often.
-pub(crate) fn filled(
-    alloc: Global,
-    entry: usize,
-    count: usize,
-) -> Result<Vec<usize>, AllocError> {
+pub(crate) fn filled(alloc: Global, entry: usize, count: usize) -> Result<Vec<usize>, AllocError> {
     let mut entries = Vec::new(alloc);
     entries.reserve(count)?;
     for _ in 0..count {
