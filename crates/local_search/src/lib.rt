@@ -4,23 +4,13 @@
 #![tactic(auto)]
 
 mod anneal;
-mod arrays;
-mod bands;
 mod best;
-mod breakout;
-mod broken;
-mod covers;
 mod descent;
-mod draft;
 mod exchange;
-mod exclusions;
 mod progress;
 mod rounds;
-mod runs;
 mod target;
 mod tries;
 mod walk;
-mod weight;
-mod words;
 
 pub use descent::{Descent, descend};

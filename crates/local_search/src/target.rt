@@ -4,8 +4,8 @@ ghost use Rattle.instance_model.specs.Plans.{AreAllowedStarts};
 ghost use Rattle.plan_moves.specs.KeptPlans.{present};
 
 use crate::anneal::annealed;
-use crate::breakout::mended;
 use fixed_num::Steps;
+use plan_breakout::mended;
 use plan_moves::Kept;
 use quantile_index::Row;
 use std::alloc::{AllocError, Global};

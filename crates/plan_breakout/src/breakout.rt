@@ -57,7 +57,7 @@ fn take_starts(inst: &Instance, starts: &mut Vec<u32>, draft: &Draft)
 }
 
 /// The starts of the best plan that is met on the way from these to one that breaks nothing. Takes memory first.
-pub(crate) fn mended(
+pub fn mended(
     alloc: Global,
     inst: &Instance,
     starts: Vec<u32>,

@@ -1,5 +1,5 @@
 use Rattle.instance_model.specs.Plans.{AreAllowedStarts}
-use Rattle.local_search.proofs.breakout.take_starts.Given as goal
+use Rattle.plan_breakout.proofs.breakout.take_starts.Given as goal
 
 abbrev pub invariant-loop-i : goal.invariant-loop-i
 invariant-loop-i l = AreAllowedStarts l.inst l.starts.items

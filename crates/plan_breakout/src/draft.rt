@@ -194,7 +194,7 @@ impl Draft {
         if violation < self.least {
             self.least = violation;
             for i in 0..self.present.len() {
-                put(&mut self.best, i, self.present[i]);
+                put(&mut self.best, i, entry(&self.present, i));
             }
         }
     }
