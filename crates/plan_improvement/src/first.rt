@@ -1,13 +1,14 @@
 //! The first plan that keeps every rule.
-ghost use Rattle.std.specs.Prelude.{◌≡◌, map, Some, IfOk};
+ghost use Rattle.std.specs.Prelude.{◌≡◌, map, Some, IfOk, IfSome};
 ghost use Rattle.instance_model.specs.Plans.{AreAllowedStarts};
 ghost use Rattle.instance_model.specs.Keys.{violation_of};
-ghost use Rattle.plan_improvement.specs.Improving.{looking_turns};
+ghost use Rattle.plan_improvement.specs.Improving.{IsJudged, looking_turns};
 ghost use Rattle.plan_improvement.specs.Steps.{IsFirst, IsLookedFor};
 
 use crate::judging::{Judged, kept_values};
 use descent_ends::descend_from;
 use instance_model::{Instance, Starts};
+use plan_breakout::mended;
 use plan_moves::Kept;
 use quantile_index::Row;
 use std::alloc::{AllocError, Global};
@@ -38,7 +39,7 @@ pub(crate) fn first_of<R: Row>(
     }
 }
 
-/// The end of a descent from a plan, which looks for one that keeps every rule.
+/// From a plan that breaks a rule: what a breakout finds, where that keeps every rule; else the end of a descent.
 fn looked_for<R: Row>(
     alloc: Global,
     inst: &Instance,
@@ -48,7 +49,13 @@ fn looked_for<R: Row>(
     requires { AreAllowedStarts inst.now opening.now }
     ensures { IfOk result (IsLookedFor inst.now turns opening.now) }
 {
-    let descended = descend_from::<R>(alloc, inst, opening, looking_turns(turns))?;
+    let most = looking_turns(turns);
+    if turns > 0 {
+        if let Some(plan) = mended_plan(alloc, inst, opening, most)? {
+            return Ok(First::Kept(plan));
+        }
+    }
+    let descended = descend_from::<R>(alloc, inst, opening, most)?;
     match kept_values(alloc, inst, descended.starts.as_slice())? {
         Some(values) => Ok(First::Kept(Judged {
             starts: descended.starts,
@@ -57,6 +64,26 @@ fn looked_for<R: Row>(
         None => Ok(First::Broken {
             violation: violation_at::<R>(alloc, inst, descended.starts.as_slice())?,
         }),
+    }
+}
+
+/// What a breakout finds from a plan, where that keeps every rule.
+fn mended_plan(
+    alloc: Global,
+    inst: &Instance,
+    opening: &[u32],
+    turns: u32,
+) -> Result<Option<Judged>, AllocError>
+    requires { AreAllowedStarts inst.now opening.now }
+    ensures { IfOk result (λ found. IfSome found (λ plan. IsJudged inst.now plan.starts plan.values)) }
+{
+    let starts = mended(alloc, inst, opening.to_vec(alloc)?, turns)?;
+    match kept_values(alloc, inst, starts.as_slice())? {
+        Some(values) => Ok(Some(Judged {
+            starts: Starts::from_vec(starts),
+            values,
+        })),
+        None => Ok(None),
     }
 }
 
