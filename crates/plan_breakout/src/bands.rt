@@ -18,7 +18,9 @@ pub(crate) struct Band {
     load: i64,
     upper: i64,
     lower: i64,
-    pub(crate) weight: Weight,
+    /// What an amount above the upper limit weighs, and one below the lower limit.
+    above: Weight,
+    below: Weight,
 }
 
 /// An amount in counts of 10^-6.
@@ -29,32 +31,60 @@ pub(crate) fn coarse(count: i128) -> i64
 }
 
 impl Band {
-    /// How far a load is outside the limits.
+    /// How far the load is outside its limits.
     #[inline]
-    fn gap_of(self, load: i64) -> i64 {
+    pub(crate) fn gap(self) -> i64 {
+        if self.is_over() {
+            self.load.saturating_sub(self.upper)
+        } else {
+            self.lower.saturating_sub(self.load).max(0)
+        }
+    }
+
+    /// What a load weighs by how far it is outside the limits.
+    #[inline]
+    fn cost_of(self, load: i64) -> i64 {
         if load > self.upper {
             load.saturating_sub(self.upper)
+                .saturating_mul(self.above.now())
         } else if load < self.lower {
-            self.lower.saturating_sub(load)
+            self.lower
+                .saturating_sub(load)
+                .saturating_mul(self.below.now())
         } else {
             0
         }
     }
 
-    /// How far the load is outside its limits.
-    #[inline]
-    pub(crate) fn gap(self) -> i64 {
-        self.gap_of(self.load)
-    }
-
     /// By how much the weighed gap grows with `further` on the load.
     #[inline]
     pub(crate) fn rise(self, further: i64) -> i64 {
-        let gap = self.gap_of(self.load.saturating_add(further));
-        gap.saturating_sub(self.gap())
-            .saturating_mul(self.weight.now())
+        let cost = self.cost_of(self.load.saturating_add(further));
+        cost.saturating_sub(self.cost_of(self.load))
     }
 
+    /// From now on the limit weighs more that the load is outside of.
+    pub(crate) fn raise(&mut self) {
+        if self.is_over() {
+            self.above.raise();
+        } else {
+            self.below.raise();
+        }
+    }
+
+    /// Takes a part of what weights have grown by.
+    pub(crate) fn ease(&mut self) {
+        self.above.ease();
+        self.below.ease();
+    }
+
+    /// Takes all of it.
+    pub(crate) fn reset(&mut self) {
+        self.above.reset();
+        self.below.reset();
+    }
+
+    #[inline]
     pub(crate) fn is_over(self) -> bool {
         self.load > self.upper
     }
@@ -94,7 +124,8 @@ pub(crate) fn idle_bands(alloc: Global, inst: &Instance) -> Result<Vec<Band>, Al
                 load: 0,
                 upper: coarse(inst.upper(c, t)),
                 lower: coarse(inst.lower(c, t)),
-                weight,
+                above: weight,
+                below: weight,
             })?;
         }
     }

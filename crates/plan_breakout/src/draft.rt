@@ -340,7 +340,7 @@ impl Draft {
         for k in 0..self.broken.count() {
             let number = self.broken.at(k);
             if let Some(band) = self.bands.get_mut(number) {
-                band.weight.raise();
+                band.raise();
             } else if let Some(pair) = self.exclusions.pairs.get_mut(number.wrapping_sub(places)) {
                 pair.weight.raise();
             }
@@ -350,7 +350,7 @@ impl Draft {
     /// Takes a part of what all weights have grown by.
     pub(crate) fn ease_all(&mut self) {
         for band in self.bands.iter_mut() {
-            band.weight.ease();
+            band.ease();
         }
         for pair in self.exclusions.pairs.iter_mut() {
             pair.weight.ease();
@@ -416,7 +416,7 @@ impl Draft {
             self.change_to(number);
         }
         for band in self.bands.iter_mut() {
-            band.weight.reset();
+            band.reset();
         }
         for pair in self.exclusions.pairs.iter_mut() {
             pair.weight.reset();

@@ -25,9 +25,10 @@ pub enum Improvement {
 
 /// Looks for a better plan than the one of these old starts, with so many thousand tries from this seed.
 ///
-/// It begins at the old starts where they are allowed, and at least ones elsewhere. Where these break a rule, a descent
-/// from them looks for a plan that breaks none. From there annealing is tried, which is taken where it keeps every rule
-/// and isn't worse, and a descent of at most 1,000 changes ends it. Without turns there is neither.
+/// It begins at the old starts where they are allowed, and at least ones elsewhere. Where these break a rule, a breakout
+/// from them looks for a plan that breaks none, and a descent where it finds none. From there annealing is tried, which
+/// is taken where it keeps every rule and isn't worse, and a descent of at most 1,000 changes ends it. Without turns
+/// there is none of these.
 pub fn improve<R: Row>(
     alloc: Global,
     inst: &Instance,
