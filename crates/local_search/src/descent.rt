@@ -60,7 +60,7 @@ fn descend_on<R: Row, L: Ledger>(
     ensures err { OnErr result (kept.new ≡ kept.old) }
 {
     let mut progress = Progress::<L>::make(alloc, turns, blank)?;
-    let target = target_of(alloc, kept, turns, &mut progress.steps)?;
+    let target = target_of(alloc, kept, turns)?;
     kept.reserve(turns as usize)?;
     descend_by(kept, &mut progress, target.as_slice());
     let spent = progress.left() == 0;

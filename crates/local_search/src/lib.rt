@@ -3,14 +3,12 @@
 //! Contracts see the changes as a list, and the plans that they lead to as those of the kept plan. Turns count changes.
 #![tactic(auto)]
 
-mod anneal;
 mod best;
 mod descent;
 mod exchange;
 mod progress;
 mod rounds;
 mod target;
-mod tries;
 mod walk;
 
 pub use descent::{Descent, descend};
