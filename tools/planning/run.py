@@ -7,6 +7,7 @@ round is believed once `check` has accepted it, and takes the place of what stoo
 
 A lane is a generator: it hands out the calls of programs that it waits for, and gets them back once they have ended.
 """
+import collections
 import hashlib
 import os
 import shlex
@@ -20,8 +21,10 @@ from planning.reports import gap_of, gap_shown, is_accepted, says_no_plan, whole
 from planning.running import Task
 from planning.telling import BEAT, clock, standing
 
-# The turns of `solve`, and of the first rounds.
-SOLVE, FIRST_IMPROVE, FIRST_BOUND, LEAST_BOUND = 1000, 200, 0, 100
+# The turns of `solve`, and how many times as many it gets where it found no plan; and those of the first rounds.
+SOLVE, MORE, FIRST_IMPROVE, FIRST_BOUND, LEAST_BOUND = 1000, 4, 200, 0, 100
+# Of how many rounds the gain of a lane is looked at, and the least part of the time that each lane gets.
+LOOKED_AT, LEAST_SHARE = 2, 0.1
 JOIN = os.path.join(os.path.dirname(os.path.dirname(os.path.abspath(__file__))), "join")
 # How many leaves a part of a tree has at least, and how many price lists there can be.
 LEAVES_OF_PART, MOST_LISTS = 4, 16
@@ -55,6 +58,18 @@ class Lane:
         self.name, self.pace, self.slots, self.most = name, pace, slots, most
         self.rounds = self.failures = 0
         self.is_at_rest = False
+        self.value, self.gains = None, collections.deque(maxlen=LOOKED_AT)
+
+    def note_gain(self, value, seconds):
+        """Notes what a round came to, as the score or the bound that stands behind it."""
+        if None not in (self.value, value):
+            self.gains.append((abs(value - self.value), seconds))
+        self.value = value
+
+    def rate(self):
+        """How much the last rounds gained in a second; None where there are none."""
+        seconds = sum(it for _, it in self.gains)
+        return sum(gain for gain, _ in self.gains) / seconds if seconds else None
 
 
 class Tree:
@@ -91,7 +106,7 @@ class Run:
         self.improving = Lane("improve", Pace(FIRST_IMPROVE, 1), 1, words.jobs)
         self.bounding = Lane("bound", Pace(FIRST_BOUND, LEAST_BOUND), 1, words.jobs)
         self.tree = Tree(*folder.state.get("tree", ()))
-        self.knows_parts, self.made, self.printed = False, None, []
+        self.knows_parts, self.made, self.printed, self.solving = False, None, [], SOLVE
         for lane in (self.improving, self.bounding):
             if lane.name in folder.state["turns"]:
                 lane.pace.turns, lane.pace.seconds = folder.state["turns"][lane.name]
@@ -215,6 +230,7 @@ class Run:
         if lane:
             lane.pace.took(seconds)
             lane.rounds += 1
+            lane.note_gain(self.score if lane is self.improving else self.bound, seconds)
             state["turns"][lane.name] = [lane.pace.turns, round(seconds, 3)]
         state["tree"] = self.tree.kept()
         self.folder.keep_state()
@@ -337,14 +353,16 @@ class Run:
             self.end_round("improve", sum(task.turns for task in done), lane, max(task.seconds for task in done))
 
     def improve_tasks(self, lane):
-        """Calls with different seeds; while there is no plan, one that looks for it, and beside it one of `solve`."""
+        """Calls with different seeds; while there is no plan, one that looks for it, and one of `solve`."""
         turns, name = lane.pace.turns, f"improve-{self.folder.state['rounds']}"
         place = lambda number: os.path.join(self.folder.work, f"{name}-{number}.plan")
         given = self.given("improve")
         call = lambda number: self.refine("improve", given, place(number), turns, self.seed(number), out=place(number),
                                           turns=turns)
         if self.score is None:
-            return [call(1), self.solve(f"{name}-2", turns)][:lane.slots]
+            self.solving = min(MORE * self.solving, MOST_TURNS)
+            calls = [self.solve(f"{name}-2", self.solving), call(1)]
+            return calls if lane.slots > 1 else [calls[lane.rounds % 2]]
         count = lane.slots * (self.machines.count if self.machines else 1)
         return [call(number) for number in range(1, count + 1)]
 
@@ -398,10 +416,12 @@ class Run:
         self.knows_parts = task.status == UNREAD
 
     def parts_for(self, lane):
-        """How many parts the next round has: one a processor, of half of them, where the tree is large enough."""
+        """How many parts the next round has, where the tree is large enough: one for each processor of the lane."""
         machines = self.machines.count if self.machines else 1
         if self.knows_parts and not self.tree.is_growing and self.has_certificate:
-            jobs = self.words.jobs if self.improving.is_at_rest else max(1, self.words.jobs // 2)
+            # (where rounds are counted no clock decides)
+            share = 0.5 if self.words.rounds is not None else self.share(lane)
+            jobs = max(1, int(self.words.jobs * share))
             lane.slots = min(lane.most, jobs, self.tree.leaves // (LEAVES_OF_PART * machines))
             if lane.slots * machines > 1:
                 return lane.slots * machines
@@ -503,9 +523,19 @@ class Run:
         if self.words.rounds is not None:
             lane.pace.doubled()
             return
-        alone = self.words.jobs > 1 or self.improving.is_at_rest or self.bounding.is_at_rest
+        share = self.share(lane) if self.words.jobs == 1 else 1.0
         passed = self.before + self.passed()
-        lane.pace.next(round_seconds(passed, self.left(), self.reading, 1.0 if alone else 0.5), self.reading)
+        lane.pace.next(round_seconds(passed, self.left(), self.reading, share), self.reading)
+
+    def share(self, lane):
+        """The part of the processors that a lane is to have: by what the last rounds of both gained in a second."""
+        other = self.bounding if lane is self.improving else self.improving
+        if other.is_at_rest:
+            return 1.0
+        own, others = lane.rate(), other.rate()
+        if own is None or others is None or not own + others:
+            return 0.5
+        return min(max(own / (own + others), LEAST_SHARE), 1 - LEAST_SHARE)
 
     def remove(self, tasks):
         for task in tasks:
