@@ -35,7 +35,9 @@ MOST_FAILURES = 3
 # Statuses: of a program that finds no plan, and where none exists; where the instance can't be read.
 NOTHING_FOUND, NO_PLAN, HOPELESS = 9, 10, (2, 3, 7)
 # What ends a round, or begins the first one, and so doesn't wait behind other rounds.
-URGENT = ("ask", "check", "evaluate", "join")
+URGENT = ("ask", "check", "evaluate", "join", "claim")
+# The kinds of calls that search, and what those that were ended before they came to anything are counted as.
+STEPS, CUT_OFF = ("solve", "improve", "bound"), "cut off"
 MEMORY = 11
 # How a report begins where a plan or a certificate isn't as it should be.
 REFUSED_PLAN, REFUSED_CERTIFICATE = ("infeasible\n", "refused plan "), "refused certificate "
@@ -175,13 +177,19 @@ class Run:
             self.runner.start_waiting()
             for task in self.runner.wait(min(BEAT, self.left())):
                 lane, batch = self.batches.pop(id(task))
-                spent = self.folder.state.setdefault("processor_seconds", {})
-                spent[task.kind] = round(spent.get(task.kind, 0) + task.processor, 3)
+                self.count(task, task.kind)
                 if not any(id(it) in self.batches for it in batch):
                     self.advance(lane, batch)
             self.show()
-        self.runner.stop()
+        for task in self.runner.stop():
+            self.count(task, CUT_OFF if task.kind in STEPS else task.kind)
         self.batches.clear()
+
+    def count(self, task, kind):
+        """Adds a call to those of its kind, and the seconds that it took of a processor to theirs."""
+        for name, more in (("processor_seconds", task.processor), ("calls", 1)):
+            sums = self.folder.state.setdefault(name, {})
+            sums[kind] = round(sums.get(kind, 0) + more, 3)
 
     def advance(self, lane, done):
         try:
@@ -226,14 +234,13 @@ class Run:
         """Notes a round in the folder, and tells of it."""
         state = self.folder.state
         state["rounds"] += 1
-        state["seconds"] = round(self.before + self.passed(), 3)
         if lane:
             lane.pace.took(seconds)
             lane.rounds += 1
             lane.note_gain(self.score if lane is self.improving else self.bound, seconds)
             state["turns"][lane.name] = [lane.pace.turns, round(seconds, 3)]
         state["tree"] = self.tree.kept()
-        self.folder.keep_state()
+        self.keep_state()
         known = lambda number: "" if number is None else number
         bound = "none" if self.has_no_plan else known(self.bound)
         self.folder.note([f"{state['seconds']:.3f}", known(self.score), bound, gap_shown(self.gap(), 4),
@@ -241,6 +248,11 @@ class Run:
         if not self.teller.is_terminal:
             text = standing(self.score, self.bound, self.gap(), self.periods)
             self.teller.remark(f"{state['seconds']:.1f} s, round {state['rounds']}: {text}  {step} {turns}")
+
+    def keep_state(self):
+        """Notes in the folder how far it came."""
+        self.folder.state["seconds"] = round(self.before + self.passed(), 3)
+        self.folder.keep_state()
 
     def tell_failures(self, done):
         """Says which calls failed, and how."""
@@ -473,6 +485,7 @@ class Run:
             return False
         # (the leaves prove more than what the parts claim together)
         better = self.refine("bound", self.plan() or "-", joined, out, 0, out=out)
+        better.kind = "claim"
         yield [better]
         self.tell_failures([better])
         self.remove([task])

@@ -123,11 +123,10 @@ class Runner:
         return task
 
     def stop(self):
-        """Ends all that runs, and forgets what waits."""
+        """Ends all that runs, and forgets what waits; answers what was ended."""
         self.waiting.clear()
         end_all()
-        for pipe in list(self.running):
-            self.finish(pipe)
+        return [self.finish(pipe) for pipe in list(self.running)]
 
 
 def processor_seconds():
