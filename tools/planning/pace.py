@@ -23,14 +23,14 @@ def round_seconds(passed, left, reading, share):
 
 
 class Pace:
-    """The turns of the rounds of one kind."""
+    """The turns of the rounds of one kind; `seconds` is how long the last one took, which had the turns `timed`."""
 
     def __init__(self, first, least):
-        self.turns, self.least, self.seconds, self.is_first = first, least, None, True
+        self.turns, self.least, self.seconds, self.timed = first, least, None, None
 
     def took(self, seconds):
         """Notes how long the round took that had these turns."""
-        self.seconds = seconds
+        self.seconds, self.timed = seconds, self.turns
 
     def next(self, wanted, reading, step=STEP):
         """The turns of the next round, which is to take so many seconds."""
@@ -39,10 +39,11 @@ class Pace:
         # (the reading has no turns)
         ratio = max(wanted - reading, 0.05 * wanted) / max(self.seconds - reading, 0.05 * self.seconds, 1e-3)
         ratio = min(max(ratio, 1 / step), step)
-        return self.set(max(self.least, int(max(self.turns, self.least) * ratio)))
+        return self.set(max(self.least, int(max(self.timed, self.least) * ratio)))
 
-    def doubled(self):
-        return self.turns if self.seconds is None else self.set(max(self.least, 2 * self.turns))
+    def times(self, count):
+        """So many times the turns of the round before."""
+        return self.turns if self.seconds is None else self.set(max(self.least, count * self.timed))
 
     def set(self, turns):
         self.turns = min(turns, MOST_TURNS)

@@ -23,7 +23,7 @@ from planning.telling import BEAT, clock, standing
 
 # The turns of `solve`, and how many times as many it gets where it found no plan; and those of the first rounds.
 SOLVE, MORE, FIRST_IMPROVE, FIRST_BOUND, LEAST_BOUND = 1000, 4, 200, 0, 100
-# Of how many rounds the gain of a lane is looked at, and the least part of the time that each lane gets.
+# Of how many rounds the gain of a lane is looked at, and the least part that each lane gets.
 LOOKED_AT, LEAST_SHARE = 2, 0.1
 JOIN = os.path.join(os.path.dirname(os.path.dirname(os.path.abspath(__file__))), "join")
 # How many leaves a part of a tree has at least, and how many price lists there can be.
@@ -63,13 +63,15 @@ class Lane:
         self.value, self.gains = None, collections.deque(maxlen=LOOKED_AT)
 
     def note_gain(self, value, seconds):
-        """Notes what a round came to, as the score or the bound that stands behind it."""
+        """Notes what a round came to: the score or the bound that stands behind it. The first round only says where the
+        others begin, as it gains more than any other, by little work.
+        """
         if None not in (self.value, value):
-            self.gains.append((abs(value - self.value), seconds))
+            self.gains.append((abs(value - self.value), seconds * max(1, self.slots)))
         self.value = value
 
     def rate(self):
-        """How much the last rounds gained in a second; None where there are none."""
+        """How much the last rounds gained in a second of a processor; None where there are none."""
         seconds = sum(it for _, it in self.gains)
         return sum(gain for gain, _ in self.gains) / seconds if seconds else None
 
@@ -108,10 +110,12 @@ class Run:
         self.improving = Lane("improve", Pace(FIRST_IMPROVE, 1), 1, words.jobs)
         self.bounding = Lane("bound", Pace(FIRST_BOUND, LEAST_BOUND), 1, words.jobs)
         self.tree = Tree(*folder.state.get("tree", ()))
-        self.knows_parts, self.made, self.printed, self.solving = False, None, [], SOLVE
+        self.knows_parts, self.made = False, None
+        self.solving = Pace(SOLVE, SOLVE)
         for lane in (self.improving, self.bounding):
             if lane.name in folder.state["turns"]:
-                lane.pace.turns, lane.pace.seconds = folder.state["turns"][lane.name]
+                lane.pace.turns, seconds = folder.state["turns"][lane.name]
+                lane.pace.took(seconds)
 
     # What stands, and when it is over.
 
@@ -154,7 +158,7 @@ class Run:
         place = os.path.join(self.folder.work, name)
         files = [f"{place}.plan", f"{place}.cert", f"{place}.trail"]
         return Task("solve", [self.programs["planner_cli"], "solve", self.instance, *files, str(turns), *self.slack],
-                    out=files[0], turns=turns)
+                    out=files[0], turns=turns, details={"others": files[1:]})
 
     def certificate(self):
         return self.folder.certificate if self.has_certificate else None
@@ -235,8 +239,9 @@ class Run:
         state = self.folder.state
         state["rounds"] += 1
         if lane:
-            lane.pace.took(seconds)
             lane.rounds += 1
+        if seconds is not None:
+            lane.pace.took(seconds)
             lane.note_gain(self.score if lane is self.improving else self.bound, seconds)
             state["turns"][lane.name] = [lane.pace.turns, round(seconds, 3)]
         state["tree"] = self.tree.kept()
@@ -291,9 +296,12 @@ class Run:
             if task.status in HOPELESS:
                 raise Ended(task)
             yield from self.take_solved(task)
+            self.solving.took(task.seconds)
             self.tell_failures([task])
             self.folder.clear_work()
             self.end_round("solve", SOLVE)
+        if not self.is_over():
+            yield from self.ask_for_parts()
 
     def judge_standing(self):
         plan, certificate = (it if os.path.exists(it) else None for it in (self.folder.plan, self.folder.certificate))
@@ -357,26 +365,45 @@ class Run:
     def improve(self):
         lane = self.improving
         while self.may_go_on(lane):
-            lane.slots = self.slots_of(lane, self.bounding)
+            lane.slots = self.slots_for_plans(lane)
             self.set_turns(lane)
             done = yield from self.spread(lane, self.improve_tasks(lane))
             self.note_failures(lane, done)
-            yield from self.take_plans(done)
-            self.end_round("improve", sum(task.turns for task in done), lane, max(task.seconds for task in done))
+            for task in (it for it in done if it.kind == "solve"):
+                self.solving.took(task.seconds)
+                yield from self.take_solved(task)
+            made = [task for task in done if task.kind != "solve"]
+            yield from self.take_plans(made)
+            self.remove(done)
+            self.end_round("improve" if made else "solve", sum(task.turns for task in done), lane,
+                           max((task.seconds for task in made), default=None))
+
+    def slots_for_plans(self, lane):
+        """How many processors the next round has: those that parts of the tree neither have nor are to get."""
+        others = 0 if self.bounding.is_at_rest else max(self.bounding.slots, self.wanted_parts())
+        return max(1, min(lane.most, self.words.jobs - others))
 
     def improve_tasks(self, lane):
-        """Calls with different seeds; while there is no plan, one that looks for it, and one of `solve`."""
+        """Calls with different seeds; while there is no plan, one that looks for it, and one of `solve` with more turns
+        than before, in turns where there is one processor.
+        """
         turns, name = lane.pace.turns, f"improve-{self.folder.state['rounds']}"
         place = lambda number: os.path.join(self.folder.work, f"{name}-{number}.plan")
         given = self.given("improve")
         call = lambda number: self.refine("improve", given, place(number), turns, self.seed(number), out=place(number),
                                           turns=turns)
         if self.score is None:
-            self.solving = min(MORE * self.solving, MOST_TURNS)
-            calls = [self.solve(f"{name}-2", self.solving), call(1)]
-            return calls if lane.slots > 1 else [calls[lane.rounds % 2]]
+            is_alone = lane.slots == 1
+            solves = [] if is_alone and lane.rounds % 2 else [self.solve(f"{name}-2", self.more_of_solve())]
+            return solves + ([] if is_alone and solves else [call(1)])
         count = lane.slots * (self.machines.count if self.machines else 1)
         return [call(number) for number in range(1, count + 1)]
+
+    def more_of_solve(self):
+        """The turns of the next `solve`: MORE times as many, as far as there is time for them."""
+        if self.words.rounds is not None or self.solving.seconds is None:
+            return self.solving.times(MORE)
+        return self.solving.next(min(MORE * self.solving.seconds, 0.9 * self.left()), self.reading, MORE)
 
     def given(self, name):
         """The plan that the calls of a round begin with; elsewhere all with the same one, whatever comes of it here."""
@@ -403,13 +430,11 @@ class Run:
             if self.take(judged, plan=task.out):
                 break
             self.tell_failures([judged])
-        self.remove(done)
 
     # Better bounds.
 
     def raise_bound(self):
         lane = self.bounding
-        yield from self.ask_for_parts()
         # (a certificate of `solve` is gone on with where one from nothing isn't better)
         old = self.certificate() if lane.pace.seconds is not None else None
         while self.may_go_on(lane):
@@ -428,18 +453,30 @@ class Run:
         self.knows_parts = task.status == UNREAD
 
     def parts_for(self, lane):
-        """How many parts the next round has, where the tree is large enough: one for each processor of the lane."""
-        machines = self.machines.count if self.machines else 1
-        if self.knows_parts and not self.tree.is_growing and self.has_certificate:
-            # (where rounds are counted no clock decides)
-            share = 0.5 if self.words.rounds is not None else self.share(lane)
-            jobs = max(1, int(self.words.jobs * share))
-            lane.slots = min(lane.most, jobs, self.tree.leaves // (LEAVES_OF_PART * machines))
-            if lane.slots * machines > 1:
-                return lane.slots * machines
+        """How many parts the next round has: one for each processor that the lane wants, and that the other one hasn't.
+
+        Where rounds are counted no clock decides, so what the other one has doesn't count then.
+        """
+        machines, slots = self.machines.count if self.machines else 1, self.wanted_parts()
+        if self.words.rounds is None and not self.improving.is_at_rest:
+            slots = min(slots, max(1, self.words.jobs - self.improving.slots))
+        if slots * machines > 1:
+            lane.slots = slots
+            return slots * machines
         # (where there are other machines this one has nothing else to do)
         lane.slots = 0 if self.machines else 1
         return 1
+
+    def wanted_parts(self):
+        """How many processors are to have parts of the tree, on each machine: the share of the lane, where the tree is
+        large enough. With 0 the tree can't be parted.
+        """
+        machines, lane = self.machines.count if self.machines else 1, self.bounding
+        if not (self.knows_parts and not self.tree.is_growing and self.has_certificate):
+            return 0
+        most = self.words.jobs if self.improving.is_at_rest else max(1, self.words.jobs - 1)
+        return min(lane.most, most, max(1, round(self.words.jobs * self.share(lane))),
+                   self.tree.leaves // (LEAVES_OF_PART * machines))
 
     def raise_whole(self, lane, old):
         """A round on the whole tree; answers whether its bound is better."""
@@ -507,50 +544,48 @@ class Run:
     # A queue of jobs.
 
     def commands(self):
-        """The calls of a round, as commands of a shell, each with files of its own in the work."""
-        yield from self.ask_for_parts()
-        if self.is_over():
-            return
+        """The calls of a round, as many as there are jobs, as commands of a shell, each with files of its own in the
+        work.
+        """
         for lane in (self.improving, self.bounding):
             lane.pace.next(self.left() if self.words.seconds is not None else LEAST, self.reading, MOST_TURNS)
-        bounds = min(self.words.jobs // 2, self.tree.leaves // LEAVES_OF_PART) if self.knows_parts else 1
-        self.improving.slots = max(1, self.words.jobs - bounds)
+        bounds = min(self.words.jobs // 2, max(1, self.tree.leaves // LEAVES_OF_PART) if self.knows_parts else 1)
+        self.improving.slots = self.words.jobs - bounds
         tasks, given = self.improve_tasks(self.improving), self.given("improve")
         common = self.folder.keep_in_work(self.folder.certificate, COMMON) if self.has_certificate else "-"
         if bounds > 1:
             tasks += [self.part(self.bounding, given, common, number, bounds) for number in range(bounds)]
-        elif self.words.jobs > 1:
+        elif bounds:
             tasks.append(self.whole_tree(self.bounding, given, common))
-        self.printed = [shlex.join(task.words) for task in tasks]
+        return [shlex.join(task.words) for task in tasks]
 
     # What both lanes need.
 
     def may_go_on(self, lane):
         return not (lane.is_at_rest or self.words.rounds is not None and lane.rounds >= self.words.rounds)
 
-    def slots_of(self, lane, other):
-        """How many processors a lane has, beside another one."""
-        return max(1, min(lane.most, self.words.jobs - (0 if other.is_at_rest else other.slots)))
-
     def set_turns(self, lane):
         if self.words.rounds is not None:
-            lane.pace.doubled()
+            lane.pace.times(2)
             return
         share = self.share(lane) if self.words.jobs == 1 else 1.0
         passed = self.before + self.passed()
         lane.pace.next(round_seconds(passed, self.left(), self.reading, share), self.reading)
 
     def share(self, lane):
-        """The part of the processors that a lane is to have: by what the last rounds of both gained in a second."""
+        """The part of the processors, or with one of the time, that a lane is to have: by what the last rounds of both
+        gained in a second of a processor. Where rounds are counted no clock decides.
+        """
         other = self.bounding if lane is self.improving else self.improving
         if other.is_at_rest:
             return 1.0
         own, others = lane.rate(), other.rate()
-        if own is None or others is None or not own + others:
+        if self.words.rounds is not None or own is None or others is None or not own + others:
             return 0.5
         return min(max(own / (own + others), LEAST_SHARE), 1 - LEAST_SHARE)
 
     def remove(self, tasks):
         for task in tasks:
-            if task.out and os.path.exists(task.out):
-                os.remove(task.out)
+            for path in [task.out, *task.details.get("others", ())]:
+                if path and os.path.exists(path):
+                    os.remove(path)
