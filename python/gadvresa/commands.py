@@ -120,14 +120,19 @@ class Call:
 
     def number(self, name: str, value: int) -> None:
         """A word for a whole number, whose range the program looks at."""
-        if isinstance(value, bool) or not hasattr(value, "__index__"):
-            raise TypeError(f"{name} is a whole number, and not {value!r}")
-        self.words.append(str(value.__index__()))
+        self.words.append(digits(name, value))
 
     def widen(self, slack: Slack) -> None:
         if slack is not None:
             self.slack = slack_word(slack)
             self.words.append(self.slack)
+
+    def part(self, given: Optional[Tuple[int, int]]) -> None:
+        """A word for a part of a tree, behind all others; whether there is such a part the program looks at."""
+        if given is not None:
+            if not isinstance(given, tuple) or len(given) != 2:
+                raise TypeError(f"part is a pair (number, count), and not {given!r}")
+            self.words.append(f"part={digits('number of part', given[0])}/{digits('count of part', given[1])}")
 
     def run(self, statuses: Tuple[int, ...], timeout: Optional[float], cancel: Optional[threading.Event]) -> Called:
         """Runs the program, and answers how it was called where it ends with one of these statuses."""
@@ -185,6 +190,13 @@ class Call:
         except Garbled as fault:
             raise errors.ProgramFailed(f"{called.program} said what is no report of {self.command}: {fault}",
                                        called=called) from None
+
+
+def digits(name: str, value: int) -> str:
+    """A whole number as a word."""
+    if isinstance(value, bool) or not hasattr(value, "__index__"):
+        raise TypeError(f"{name} is a whole number, and not {value!r}")
+    return str(value.__index__())
 
 
 def ending(called: Called) -> str:
@@ -398,9 +410,10 @@ def improve(instance: AnyInstance, plan: Optional[AnyPlan] = None, turns: int = 
 
 
 def bound(instance: AnyInstance, plan: Optional[AnyPlan] = None, certificate: Optional[AnyCertificate] = None,
-          turns: int = 1000, *, slack: Slack = None, timeout: Optional[float] = None,
-          cancel: Optional[threading.Event] = None) -> Bounded:
-    """Makes a certificate by refined price lists, or goes on with one that is given. TURNS is from 0 to 1,000,000.
+          turns: int = 1000, *, part: Optional[Tuple[int, int]] = None, slack: Slack = None,
+          timeout: Optional[float] = None, cancel: Optional[threading.Event] = None) -> Bounded:
+    """Makes a certificate by refined price lists, or goes on with one that is given. TURNS, from 0 to 1,000,000, is how
+    many boxes of starts it splits at most. What it answers as `bound`, `score` and `gap` is in units of the score.
 
     A plan that keeps the rules makes the search shorter, and is set beside the bound; one that breaks a rule is left
     aside.
@@ -408,6 +421,18 @@ def bound(instance: AnyInstance, plan: Optional[AnyPlan] = None, certificate: Op
     >>> bounded = bound("examples/summer/instance.json", "examples/summer/best.txt", turns=10)
     >>> bounded.bound, bounded.gap
     (1500000000000000000, 0)
+
+    With `part`, a pair (number, count), it splits those leaves alone of the certificate that is given whose number,
+    counted from 0 in the order of its lines, is `number` modulo `count`; the others stay, and the bound is the least of
+    all. So several calls share a tree, and `tools/join` of a clone puts together what they make. `count` is from 1 to
+    1,000,000, and `number` from 0 and below it.
+
+    >>> given = "examples/summer/instance.json", None, "examples/summer/bound.cert"
+    >>> [bound(*given, turns=10, part=(number, 2)).bound for number in range(2)]
+    [1500000000000000000, 1500000000000000000]
+
+    Raises InstanceRefused, PlanRefused and CertificateRefused for files with a fault, but not for a leaf that doesn't
+    hold; WordsRefused where TURNS or `part` is out of its range, and TypeError where they aren't whole numbers.
     """
     with room() as folder:
         call = Call("bound", "plan_refine", folder)
@@ -417,6 +442,7 @@ def bound(instance: AnyInstance, plan: Optional[AnyPlan] = None, certificate: Op
         out = call.out("certificate")
         call.number("turns", turns)
         call.widen(slack)
+        call.part(part)
         called = call.run((0, 10), timeout, cancel)
 
         def reading() -> Bounded:

@@ -40,6 +40,10 @@ class Run:
         self.forms = re.findall(r"[ipsco]-?|[12TS]", FILES[name])
         rest = words[1:]
         self.slack = 0
+        if name == "bound" and len(rest) > len(self.forms) and rest[-1].startswith("part="):
+            found = re.fullmatch("part=(0|[1-9][0-9]{0,5})/([1-9][0-9]{0,5}|1000000)", rest.pop())
+            if not found or int(found[1]) >= int(found[2]):
+                end(2, "refused words\n")
         if len(rest) == len(self.forms) + 1 and name != "roll":
             if not re.fullmatch(r"slack=0(\.(0{1,3}|000[0-9]{1,9}|0010{0,9}))?", rest[-1]):
                 end(2, "refused words\n")

@@ -151,6 +151,21 @@ def test_bound_goes_on_with_a_certificate(folder):
     assert gadvresa.rebound(SHORT, bounded.certificate).called.program.endswith("plan_refine")
 
 
+def test_bound_of_a_part(folder):
+    common = gadvresa.bound(SUMMER, GOOD, turns=0).certificate
+    for part in ((0, 1), (1, 2), (999_999, 1_000_000)):
+        bounded = gadvresa.bound(SUMMER, GOOD, common, 10, part=part, slack=0)
+        assert bounded.called.words[-2:] == ("slack=0", f"part={part[0]}/{part[1]}")
+        assert bounded.bound <= bounded.score and gadvresa.check(SUMMER, bounded.certificate).bound == bounded.bound
+    assert gadvresa.bound(SUMMER, GOOD, common, 10, part=(999_999, 1_000_000)).splits == 0
+    for part in ((1, 1), (-1, 2), (0, 0), (0, 1_000_001)):
+        with pytest.raises(gadvresa.WordsRefused, match=f"part={part[0]}/{part[1]}"):
+            gadvresa.bound(SUMMER, part=part)
+    for part in ("0/2", 3, (0,), (0, 1, 2), [0, 2], (0.0, 2), (True, 2), (0, None)):
+        with pytest.raises(TypeError, match="part"):
+            gadvresa.bound(SUMMER, part=part)
+
+
 def test_improve(folder):
     improved = gadvresa.improve(SUMMER, GOOD, 10, 7)
     assert improved.outcome is Outcome.FOUND and improved.score <= improved.before
