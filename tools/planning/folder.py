@@ -51,8 +51,7 @@ class Folder:
 
     def read_state(self, instance_sum, slack):
         try:
-            with open(self.file("state.json"), encoding="utf-8") as file:
-                state = json.load(file)
+            state = read_state(self.path)
         except FileNotFoundError:
             found = [name for name in OURS if os.path.lexists(self.file(name))]
             if found:
@@ -60,10 +59,6 @@ class Folder:
                               f"name another folder") from None
             state = {"instance": instance_sum, "slack": slack, "seconds": 0.0, "rounds": 0, "turns": {}}
             write_whole(self.file("state.json"), json.dumps(state))
-        except ValueError:
-            raise Refused(f"{self.file('state.json')} isn't as `plan` writes it: name another folder") from None
-        if not isinstance(state, dict) or not {"instance", "slack", "seconds", "rounds", "turns"} <= state.keys():
-            raise Refused(f"{self.file('state.json')} isn't as `plan` writes it: name another folder")
         if state["instance"] != instance_sum:
             raise Refused(f"{self.path} is of another instance, or that was changed: name another folder")
         if state["slack"] != slack:
@@ -122,6 +117,19 @@ class Folder:
             os.fsync(number)
         finally:
             os.close(number)
+
+
+def read_state(folder):
+    """Of which instance and slack a folder is, and how far it came."""
+    path = os.path.join(folder, "state.json")
+    with open(path, encoding="utf-8") as file:
+        try:
+            state = json.load(file)
+        except ValueError:
+            state = None
+    if not isinstance(state, dict) or not {"instance", "slack", "seconds", "rounds", "turns"} <= state.keys():
+        raise Refused(f"{path} isn't as `plan` writes it: name another folder")
+    return state
 
 
 def whole_size(number):
