@@ -1,9 +1,10 @@
 """A run of `plan`: what stands, and how it gets better.
 
-First `solve` makes a plan and a certificate, or what stands in the folder is judged. Then there are two lanes, which go
-on side by side, each in rounds: in one `improve` looks for better plans, with as many seeds as it has processors; in
-the other `bound` goes on with the certificate, on parts of the tree where the program knows parts. What comes of a
-round is believed once `check` has accepted it, and takes the place of what stood.
+What stands in the folder is judged, or else `solve` makes a plan and a certificate; where there is more than one
+processor the rest begins beside it. That is two lanes, which go on side by side, each in rounds: in one `improve` looks
+for better plans, with as many seeds as it has processors; in the other `bound` goes on with the certificate, on parts
+of the tree where the program knows parts. What comes of a round is believed once `check` has accepted it, and takes the
+place of what stood.
 
 A lane is a generator: it hands out the calls of programs that it waits for, and gets them back once they have ended.
 """
@@ -33,7 +34,7 @@ NO_INSTANCE, UNREAD = os.path.join(os.devnull, "none"), 7
 # After how many rounds without any call that succeeded a lane is given up.
 MOST_FAILURES = 3
 # Statuses: of a program that finds no plan, and where none exists; where the instance can't be read.
-NOTHING_FOUND, NO_PLAN, HOPELESS = 9, 10, (2, 3, 7)
+NOTHING_FOUND, NO_PLAN, NO_INSTANCE_READ, HOPELESS = 9, 10, (3, 7), (2, 3, 7)
 # What ends a round, or begins the first one, and so doesn't wait behind other rounds.
 URGENT = ("ask", "check", "evaluate", "join", "claim")
 # The kinds of calls that search, and what those that were ended before they came to anything are counted as.
@@ -111,7 +112,7 @@ class Run:
         self.bounding = Lane("bound", Pace(FIRST_BOUND, LEAST_BOUND), 1, words.jobs)
         self.tree = Tree(*folder.state.get("tree", ()))
         self.knows_parts, self.made = False, None
-        self.solving = Pace(SOLVE, SOLVE)
+        self.solving, self.is_solving = Pace(SOLVE, SOLVE), False
         for lane in (self.improving, self.bounding):
             if lane.name in folder.state["turns"]:
                 lane.pace.turns, seconds = folder.state["turns"][lane.name]
@@ -138,7 +139,7 @@ class Run:
             return f"the gap is {gap_shown(self.gap(), 2)} %"
         if self.left() <= 0:
             return "the time is over"
-        if self.improving.is_at_rest and self.bounding.is_at_rest:
+        if self.improving.is_at_rest and self.bounding.is_at_rest and not self.is_solving:
             return "nothing more can be done"
         return ""
 
@@ -274,6 +275,8 @@ class Run:
 
     def note_failures(self, lane, done):
         """Takes note of calls that failed; answers whether the lane may go on."""
+        if self.score is None and not self.has_certificate and all(task.status in NO_INSTANCE_READ for task in done):
+            raise Ended(done[0])
         failed = self.tell_failures(done)
         lane.failures = lane.failures + 1 if len(failed) == len(done) else 0
         if any(task.status == MEMORY or task.status < 0 for task in failed) and lane.slots > 1:
@@ -286,22 +289,31 @@ class Run:
     # The first step.
 
     def begin(self):
-        """Judges what stands in the folder and what an earlier run left in its work, and has `solve` make the rest."""
+        """Judges what stands in the folder and what an earlier run left in its work."""
         yield from self.judge_standing()
         yield from self.take_left_over()
         self.folder.clear_work()
-        if not (self.has_certificate and self.score is not None) and not self.is_over():
+        self.is_solving = not (self.has_certificate and self.score is not None or self.is_over())
+        if self.words.jobs == 1 or self.words.is_dry:
+            yield from self.solve_first()
+        if not self.is_over():
+            yield from self.ask_for_parts()
+
+    def solve_first(self):
+        """Has `solve` make a plan and a certificate where they don't stand; beside the lanes, where there are more
+        processors.
+        """
+        if self.is_solving:
             task = self.solve("solve", SOLVE)
             yield [task]
+            self.is_solving = False
             if task.status in HOPELESS:
                 raise Ended(task)
             yield from self.take_solved(task)
             self.solving.took(task.seconds)
             self.tell_failures([task])
-            self.folder.clear_work()
+            self.remove([task])
             self.end_round("solve", SOLVE)
-        if not self.is_over():
-            yield from self.ask_for_parts()
 
     def judge_standing(self):
         plan, certificate = (it if os.path.exists(it) else None for it in (self.folder.plan, self.folder.certificate))
@@ -381,17 +393,19 @@ class Run:
     def slots_for_plans(self, lane):
         """How many processors the next round has: those that parts of the tree neither have nor are to get."""
         others = 0 if self.bounding.is_at_rest else max(self.bounding.slots, self.wanted_parts())
-        return max(1, min(lane.most, self.words.jobs - others))
+        return max(1, min(lane.most, self.words.jobs - others - self.is_solving))
 
     def improve_tasks(self, lane):
-        """Calls with different seeds; while there is no plan, one that looks for it, and one of `solve` with more turns
-        than before, in turns where there is one processor.
+        """Calls with different seeds; while there is no plan, and `solve` found none either, one that looks for it, and
+        one of `solve` with more turns than before, in turns where there is one processor.
         """
         turns, name = lane.pace.turns, f"improve-{self.folder.state['rounds']}"
         place = lambda number: os.path.join(self.folder.work, f"{name}-{number}.plan")
         given = self.given("improve")
         call = lambda number: self.refine("improve", given, place(number), turns, self.seed(number), out=place(number),
                                           turns=turns)
+        if self.score is None and self.is_solving:
+            return [call(number) for number in range(1, 1 + (1 if self.machines else lane.slots))]
         if self.score is None:
             is_alone = lane.slots == 1
             solves = [] if is_alone and lane.rounds % 2 else [self.solve(f"{name}-2", self.more_of_solve())]
