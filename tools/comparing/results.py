@@ -97,7 +97,7 @@ def method_table(rows, methods):
         values += [None] * (len(own) - len(values))
         times = [row["first_feasible_s"] for row in feasible if row["first_feasible_s"] != ""]
         wins = sum(1 for it in instances if least[it] is not None and best.get((it, method)) == least[it])
-        middle = values[(len(values) - 1) // 2] if values else None
+        middle = values[len(values) // 2] if values else None
         lines.append([method, str(len(own)), str(len(feasible)), *(none_or(it) for it in (
             values[0] if values else None, middle, values[-1] if values else None)),
             f"{statistics.median(times):.1f}" if times else "-", f"{wins} of {len(instances)}"])
@@ -130,7 +130,7 @@ def marked(text):
 NOTES = [
     "A gap is that of the plan's score above the bound that `check` accepts for the instance, in percent of the score. "
     "A run without a plan that keeps every rule is worse than each with one, and shown as -; where the bound is none, "
-    "no plan keeps the rules.",
+    "no plan keeps the rules. Of an even number of runs the median is the worse of the two in the middle.",
     "Scores and bounds are in multiples of 10^18: the cost times the number of periods; the best of all seeds. Each "
     "plan was judged by `evaluate`.",
 ]
