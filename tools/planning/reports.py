@@ -32,13 +32,15 @@ def first_line(said):
 
 
 def periods_of(said):
-    """How many periods there are, by the bound of `check` and the cost that it stands for; None where that is too small
-    to tell.
+    """How many periods there are, by the bound of `check` and the cost that it stands for, or by the score of `evaluate`
+    and its cost; None where these are too small to tell.
     """
-    bound, cost = whole(said, "bound"), values_of(said).get("bound-cost", "")
-    if not bound or not DECIMAL.fullmatch(cost) or abs(Fraction(cost)) < Fraction(1, 10 ** 6):
-        return None
-    return round(bound / (Fraction(cost) * ONE))
+    values = values_of(said)
+    for name, other in (("bound", "bound-cost"), ("score", "cost")):
+        value, cost = whole(said, name), values.get(other, "").split(" ")[0]
+        if value and DECIMAL.fullmatch(cost) and abs(Fraction(cost)) >= Fraction(1, 10 ** 6):
+            return round(value / (Fraction(cost) * ONE))
+    return None
 
 
 def cost_shown(score, periods):
