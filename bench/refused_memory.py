@@ -114,8 +114,8 @@ PLAN = "I1 2\nI2 1\nI3 1\n"
 TOGETHER = "I1 1\nI2 1\nI3 1\n"
 CERTIFICATE = ("mpcert 2\nbound 100\nlists 1\nprices\nup 1 1 5\ntail 1 10 1 2\nex 1 2 7\ntree\n"
                "split 1 1\ncost 1\nsplit 2 1\ncost 0\ncost 0\n")
-REFINED = ("mpcert 3\nbound 100\nlists 1\nprices\nup 1 1 5\ncap\ntail 1 1 1\ntail 1 2 1\noff 1 1 1 5\nex 1 2 7\n"
-           "tree\nsplit 1 1\ncost 1\ncost 0\n")
+REFINED = ("mpcert 3\nbound 100\nlists 1\nprices\nup 1 1 5\nex 1 2 7\ncap\ntail 1 1 1000\ntail 1 2 1000\n"
+           "off 1 1 1 5\nclq 2 7 1 2\ntree\nsplit 1 1\ncost 1\ncost 0\n")
 SCRIPT = "move I1 3\nswap I1 I2\nundo\nmove I3 2\nundo\n"
 CHANGES = "mpcert 2\nbound 0\nlists 0\ntree\nsplit 1 1\ncost 0\ncost 0\n"
 FILES = {"i": INSTANCE, "tight": TIGHT, "bad": INSTANCE[:-1], "double": INSTANCE.replace('"d":{"max"', '"c":{"max"'),
