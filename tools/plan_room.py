@@ -194,7 +194,7 @@ class Room:
             self.write(text, "programs", name)
             os.chmod(self.file("programs", name), 0o755)
         self.instance = self.drawn("instance", 1)
-        self.number = 0
+        self.number, self.has_programs = 0, False
 
     def file(self, *names):
         return os.path.join(self.folder, *names)
@@ -262,7 +262,7 @@ class Room:
                 shutil.copyfile(path, self.file("programs", name))
                 os.chmod(self.file("programs", name), 0o755)
         subprocess.run([os.path.join(TOP, "examples", "year", "draw"), self.file("year")], check=True)
-        self.instance = self.file("year", "instance.json")
+        self.instance, self.has_programs = self.file("year", "instance.json"), True
 
     def parallels(self):
         """The processes of GNU parallel that run for this room."""
@@ -272,6 +272,18 @@ class Room:
     def alive(self):
         """The programs that run."""
         return self.running(lambda words: any(word.startswith(self.file("programs").encode()) for word in words))
+
+    def at_work(self, folder, command=None):
+        """The processes whose own folder is in a folder; of a command of `plan_refine` alone where one is named."""
+        asked = lambda words: command is None or b"./plan_refine" in words and command.encode() in words
+
+        def is_there(pid):
+            try:
+                return os.readlink(f"/proc/{pid}/cwd").startswith(os.path.realpath(folder) + os.sep)
+            except OSError:
+                return False
+
+        return [pid for pid in self.running(asked) if is_there(pid)]
 
     def running(self, holds):
         found = []

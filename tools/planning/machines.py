@@ -77,8 +77,9 @@ class Machines:
         return batch.details["of"]
 
     def clear(self):
-        """Removes what the machines have, as far as they are there."""
-        words = [*parallel_words(0, self.hosts)[:-2], "--nonall", "rm", "-rf", self.folder]
+        """Ends what runs on the machines, as after a signal, and removes what they have, as far as they are there."""
+        line = f"cat {self.folder}/*.pid 2>/dev/null | xargs -r kill 2>/dev/null; rm -rf {self.folder}"
+        words = [*parallel_words(0, self.hosts)[:-2], "--nonall", line]
         try:
             subprocess.run(words, stdin=subprocess.DEVNULL, stdout=subprocess.DEVNULL, stderr=subprocess.DEVNULL,
                            env={**os.environ, "PARALLEL_SSH": SSH}, timeout=LEAST)
