@@ -28,7 +28,7 @@ import cases
 from milp import solvers
 from solve import NONE, ONE, SCORED, UNPLANNED, run
 
-TURNS = {"50-a05": "1300", "200-a05": "1500 10000", "200-tight-a05": "1000 50000", "700-a05": "1300 6000",
+TURNS = {"50-a05": "1000", "200-a05": "1500 10000", "200-tight-a05": "1000 50000", "700-a05": "1500 6000",
          "300-s120-a05": "2000", "50-a1": "10000"}
 TRIES = 1000
 HEAD = ["case", "turns", "least", "median", "greatest", "seconds", "MB", "tries / s"]
