@@ -56,11 +56,24 @@ impl Band {
         }
     }
 
+    /// The weighed gap of a load below its lower limit: with more on it, it falls by no more.
+    #[inline]
+    pub(crate) fn cost_below(self) -> i64 {
+        if self.load < self.lower {
+            self.cost_of(self.load)
+        } else {
+            0
+        }
+    }
+
     /// By how much the weighed gap grows with `further` on the load.
     #[inline]
     pub(crate) fn rise(self, further: i64) -> i64 {
-        let cost = self.cost_of(self.load.saturating_add(further));
-        cost.saturating_sub(self.cost_of(self.load))
+        let load = self.load.saturating_add(further);
+        if self.lower <= load.min(self.load) && load.max(self.load) <= self.upper {
+            return 0;
+        }
+        self.cost_of(load).saturating_sub(self.cost_of(self.load))
     }
 
     /// From now on the limit weighs more that the load is outside of.

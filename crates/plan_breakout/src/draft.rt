@@ -54,9 +54,13 @@ pub(crate) struct Draft {
     least: i64,
     /// By run: the round from which it may be taken again.
     held: Vec<usize>,
-    /// The present run whose workloads are off the bands, and the rise that it would bring.
+    /// What loads below their lower limits weigh as a round begins.
+    below: i64,
+    /// The present run whose workloads are off the bands, the rise that it would bring, and by how much a run lowers the
+    /// weighed violation at most.
     lifted: usize,
     here: i64,
+    fall: i64,
     choice: Choice,
 }
 
@@ -103,8 +107,10 @@ impl Draft {
             best: filled(alloc, 0, starts.len())?,
             least: i64::MAX,
             held,
+            below: 0,
             lifted: NOWHERE,
             here: 0,
+            fall: 0,
             choice: Choice::none(),
         };
         draft.begin_at(starts);
@@ -219,16 +225,48 @@ impl Draft {
         sum
     }
 
-    /// By how much the weighed violation grows with a run, where its intervention is off the bands.
+    /// By how much the weighed violation grows with a run, where its intervention is off the bands. Where that is above a
+    /// limit it may be any number above it.
     #[inline]
-    fn rise(&self, number: usize) -> i64 {
-        let mut rise: i64 = 0;
+    fn rise(&self, number: usize, limit: i64) -> i64 {
+        let most = limit.saturating_add(self.fall);
+        let mut rise = self.clash_weight(self.runs.at(number));
         for work in self.runs.works(number) {
+            if rise > most {
+                break;
+            }
             if let Some(band) = self.bands.get(work.place) {
                 rise = rise.saturating_add(band.rise(work.amount));
             }
         }
-        rise.saturating_add(self.clash_weight(self.runs.at(number)))
+        rise
+    }
+
+    /// What loads below their lower limits weigh.
+    fn cost_below(&self) -> i64 {
+        let mut sum: i64 = 0;
+        for k in 0..self.broken.count() {
+            if let Some(band) = self.bands.get(self.broken.at(k)) {
+                sum = sum.saturating_add(band.cost_below());
+            }
+        }
+        sum
+    }
+
+    /// By how much a run lowers the weighed violation at most, where this one is off the bands: by what all loads weigh
+    /// below their lower limits, if no workload is negative.
+    #[inline]
+    fn most_fall(&self, number: usize) -> i64 {
+        if self.runs.has_negative() {
+            return i64::MAX;
+        }
+        let mut sum = self.below;
+        for work in self.runs.works(number) {
+            if let Some(band) = self.bands.get(work.place) {
+                sum = sum.saturating_add(band.cost_below());
+            }
+        }
+        sum
     }
 
     /// Puts the run back on the bands that is off them.
@@ -245,7 +283,8 @@ impl Draft {
             self.put_back();
             take_works(&mut self.bands, self.runs.works(own));
             self.lifted = own;
-            self.here = self.rise(own);
+            self.here = self.rise(own, i64::MAX);
+            self.fall = self.most_fall(own);
         }
     }
 
@@ -272,7 +311,8 @@ impl Draft {
         let i = self.runs.at(number).i;
         if number != entry(&self.present, i) && entry(&self.held, number) <= round {
             self.lift(i);
-            let rise = self.rise(number).saturating_sub(self.here);
+            let limit = self.choice.rise.saturating_add(self.here);
+            let rise = self.rise(number, limit).saturating_sub(self.here);
             self.consider(number, rise);
         }
     }
@@ -391,6 +431,7 @@ impl Draft {
     pub(crate) fn mend_one(&mut self, round: usize) -> bool {
         let broken = self.broken.at(self.words.draw(self.broken.count()));
         self.choice = Choice::none();
+        self.below = self.cost_below();
         self.try_broken(broken, round);
         self.put_back();
         let Choice { number, rise, .. } = self.choice;

@@ -32,6 +32,8 @@ pub(crate) struct Runs {
     firsts: Vec<usize>,
     /// By run.
     works: Vec<Work>,
+    /// Whether one of them is below 0.
+    negative: bool,
 }
 
 /// The place behind the cells from `from` on that have this start or one before.
@@ -71,6 +73,7 @@ impl Runs {
             runs: Vec::new(alloc),
             firsts: Vec::new(alloc),
             works: Vec::new(alloc),
+            negative: false,
         };
         for i in 0..inst.interventions() {
             runs.firsts.push(runs.runs.len())?;
@@ -120,9 +123,11 @@ impl Runs {
     /// Adds the workloads of the last run.
     fn add_works(&mut self, periods: u32, cells: &[LoadCell]) -> Result<(), AllocError> {
         for cell in cells {
+            let amount = coarse(cell.load.count());
+            self.negative = self.negative || amount < 0;
             self.works.push(Work {
                 place: place_of(periods, cell),
-                amount: coarse(cell.load.count()),
+                amount,
             })?;
         }
         Ok(())
@@ -136,6 +141,12 @@ impl Runs {
     /// How many workloads all runs have.
     pub(crate) fn works_count(&self) -> usize {
         self.works.len()
+    }
+
+    /// Whether a workload is below 0.
+    #[inline]
+    pub(crate) fn has_negative(&self) -> bool {
+        self.negative
     }
 
     /// The number of the first run of an intervention; that of the next one is behind its last run.
