@@ -2,7 +2,7 @@
 //! drawn about a threshold, which falls from level to level.
 
 use crate::state::State;
-use crate::words::Words;
+use drawn_words::Words;
 
 /// In how many levels the threshold falls, and by what part of itself behind each: it ends near a hundredth of its
 /// beginning.

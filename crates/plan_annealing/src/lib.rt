@@ -22,7 +22,6 @@ mod state;
 pub mod trial;
 mod tries;
 mod units;
-mod words;
 mod works;
 
 pub use annealing::anneal;

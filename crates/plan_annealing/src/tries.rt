@@ -3,7 +3,7 @@
 use crate::change::Change;
 use crate::run::Run;
 use crate::state::State;
-use crate::words::Words;
+use drawn_words::Words;
 
 /// How many moves of 100 go to a near start, and how far that is at most.
 const NEAR: usize = 60;

@@ -8,7 +8,7 @@ use crate::broken::Broken;
 use crate::covers::Covers;
 use crate::exclusions::Exclusions;
 use crate::runs::{Run, Runs, Work};
-use crate::words::Words;
+use drawn_words::Words;
 use instance_model::Instance;
 use std::alloc::{AllocError, Global};
 

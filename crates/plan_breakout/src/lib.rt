@@ -13,6 +13,5 @@ mod draft;
 mod exclusions;
 mod runs;
 mod weight;
-mod words;
 
 pub use breakout::mended;
