@@ -35,6 +35,8 @@ NO_INSTANCE, UNREAD = os.path.join(os.devnull, "none"), 7
 MOST_FAILURES = 3
 # Statuses: of a program that finds no plan, and where none exists; where the instance can't be read.
 NOTHING_FOUND, NO_PLAN, NO_INSTANCE_READ, HOPELESS = 9, 10, (3, 7), (2, 3, 7)
+# Those of calls that did what they were to do.
+DONE = (0, NOTHING_FOUND, NO_PLAN)
 # What ends a round, or begins the first one, and so doesn't wait behind other rounds.
 URGENT = ("ask", "check", "evaluate", "join", "claim")
 # The kinds of calls that search, and what those that were ended before they came to anything are counted as.
@@ -235,9 +237,11 @@ class Run:
             is_taken = True
         return is_taken
 
-    def end_round(self, step, turns, lane=None, seconds=None):
-        """Notes a round in the folder, and tells of it."""
-        state = self.folder.state
+    def end_round(self, step, turns, lane=None, done=()):
+        """Notes a round in the folder, and tells of it. `done` are the calls by whose time the next round is measured; not
+        that of calls that failed, which may have ended early.
+        """
+        state, seconds = self.folder.state, max((it.seconds for it in done if it.status in DONE), default=None)
         state["rounds"] += 1
         if lane:
             lane.rounds += 1
@@ -262,7 +266,7 @@ class Run:
 
     def tell_failures(self, done):
         """Says which calls failed, and how."""
-        failed = [task for task in done if task.status not in (0, NOTHING_FOUND, NO_PLAN)]
+        failed = [task for task in done if task.status not in DONE]
         for how in sorted({self.fault_of(task) for task in failed}):
             count = sum(self.fault_of(task) == how for task in failed)
             self.teller.remark(f"{count} of {len(done)} calls of {done[0].kind} failed: {how}")
@@ -310,7 +314,6 @@ class Run:
             if task.status in HOPELESS:
                 raise Ended(task)
             yield from self.take_solved(task)
-            self.solving.took(task.seconds)
             self.tell_failures([task])
             self.remove([task])
             self.end_round("solve", SOLVE)
@@ -366,7 +369,9 @@ class Run:
         """Takes what `solve` made."""
         place = task.out[:-len(".plan")]
         plan, certificate = (it if os.path.exists(it) else None for it in (f"{place}.plan", f"{place}.cert"))
-        if task.status not in (0, NOTHING_FOUND, NO_PLAN) or not certificate:
+        if task.status in DONE:
+            self.solving.took(task.seconds)
+        if task.status not in DONE or not certificate:
             return
         judged = self.judge(plan if task.status == 0 else None, certificate)
         yield [judged]
@@ -382,13 +387,11 @@ class Run:
             done = yield from self.spread(lane, self.improve_tasks(lane))
             self.note_failures(lane, done)
             for task in (it for it in done if it.kind == "solve"):
-                self.solving.took(task.seconds)
                 yield from self.take_solved(task)
             made = [task for task in done if task.kind != "solve"]
             yield from self.take_plans(made)
             self.remove(done)
-            self.end_round("improve" if made else "solve", sum(task.turns for task in done), lane,
-                           max((task.seconds for task in made), default=None))
+            self.end_round("improve" if made else "solve", sum(task.turns for task in done), lane, made)
 
     def slots_for_plans(self, lane):
         """How many processors the next round has: those that parts of the tree neither have nor are to get."""
@@ -499,7 +502,7 @@ class Run:
         self.note_failures(lane, [task])
         self.made = whole(task.said, "splits") if task.status == 0 else None
         is_taken = yield from self.take_bound(task)
-        self.end_round("bound", task.turns, lane, task.seconds)
+        self.end_round("bound", task.turns, lane, [task])
         return is_taken
 
     def whole_tree(self, lane, given, old):
@@ -515,7 +518,7 @@ class Run:
         self.made = sum(whole(task.said, "splits") or 0 for task in done) if made else None
         is_taken = yield from self.join(common, made, lane.rounds)
         self.remove(done)
-        self.end_round("bound", sum(task.turns for task in done), lane, max(task.seconds for task in done))
+        self.end_round("bound", sum(task.turns for task in done), lane, done)
         return is_taken
 
     def part(self, lane, given, common, number, count):
