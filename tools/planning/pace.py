@@ -7,7 +7,7 @@ number of rounds is to be made, no clock decides: each round has twice the turns
 
 # The least seconds of a round, what part of the time that has passed it is to take, and how many readings.
 LEAST, GROWTH, READINGS = 1.0, 0.5, 20
-# How much more, or less, than before a round gets at most.
+# How much more than before a round gets at most.
 STEP = 4
 MOST_TURNS = 1_000_000
 
@@ -36,9 +36,9 @@ class Pace:
         """The turns of the next round, which is to take so many seconds."""
         if self.seconds is None:
             return self.turns
-        # (the reading has no turns)
+        # (the reading has no turns; and at the end a round gets as few as there is time for, however long the last was)
         ratio = max(wanted - reading, 0.05 * wanted) / max(self.seconds - reading, 0.05 * self.seconds, 1e-3)
-        ratio = min(max(ratio, 1 / step), step)
+        ratio = min(ratio, step)
         return self.set(max(self.least, int(max(self.timed, self.least) * ratio)))
 
     def times(self, count):
