@@ -264,6 +264,16 @@ class Room:
         subprocess.run([os.path.join(TOP, "examples", "year", "draw"), self.file("year")], check=True)
         self.instance, self.has_programs = self.file("year", "instance.json"), True
 
+    def limited(self, kilobytes):
+        """A folder with the programs, which get so much memory at most."""
+        folder = self.file(f"programs-{kilobytes}")
+        os.makedirs(folder, exist_ok=True)
+        for name in ("planner_cli", "plan_refine"):
+            text = f"#!/bin/sh\nulimit -v {kilobytes}\nexec '{self.file('programs', name)}' \"$@\"\n"
+            self.write(text, os.path.basename(folder), name)
+            os.chmod(os.path.join(folder, name), 0o755)
+        return folder
+
     def parallels(self):
         """The processes of GNU parallel that run for this room."""
         return self.running(lambda words: any(b"one_task" in word for word in words)
