@@ -15,6 +15,9 @@ use std::alloc::{AllocError, Global};
 /// How far a broken exclusion counts as outside, in counts of 10^-6.
 const CLASH: i64 = 1_000_000;
 
+/// From which the numbers of each search are drawn.
+const SEED: u64 = 1;
+
 /// For how many rounds a start that was left is held back: so many, and up to as many more.
 const HOLD: usize = 20;
 
@@ -102,7 +105,7 @@ impl Draft {
             exclusions,
             bands,
             broken: Broken::make(alloc, things)?,
-            words: Words::new(),
+            words: Words::new(SEED),
             present: filled(alloc, 0, starts.len())?,
             best: filled(alloc, 0, starts.len())?,
             least: i64::MAX,
