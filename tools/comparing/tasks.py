@@ -14,7 +14,6 @@ import shlex
 from whole_files import sum_of
 
 METHOD = re.compile(r"[A-Za-z0-9][A-Za-z0-9_.+-]{0,39}")
-PLACES = ("instance", "plan", "seconds", "seed", "folder")
 
 
 class Fault(Exception):

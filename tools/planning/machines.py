@@ -93,4 +93,3 @@ def read_text(path):
             return file.read()
     except OSError:
         return ""
-

@@ -32,8 +32,8 @@ def first_line(said):
 
 
 def periods_of(said):
-    """How many periods there are, by the bound of `check` and the cost that it stands for, or by the score of `evaluate`
-    and its cost; None where these are too small to tell.
+    """How many periods there are, by the bound of `check` and the cost that it stands for, or by the score of
+    `evaluate` and its cost; None where these are too small to tell.
     """
     values = values_of(said)
     for name, other in (("bound", "bound-cost"), ("score", "cost")):

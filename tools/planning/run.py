@@ -238,8 +238,8 @@ class Run:
         return is_taken
 
     def end_round(self, step, turns, lane=None, done=()):
-        """Notes a round in the folder, and tells of it. `done` are the calls by whose time the next round is measured; not
-        that of calls that failed, which may have ended early.
+        """Notes a round in the folder, and tells of it. `done` are the calls by whose time the next round is measured;
+        not by that of calls that failed, which may have ended early.
         """
         state, seconds = self.folder.state, max((it.seconds for it in done if it.status in DONE), default=None)
         state["rounds"] += 1

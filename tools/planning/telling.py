@@ -5,7 +5,6 @@ Where nobody reads that any more, the planning goes on.
 import contextlib
 import os
 import sys
-import time
 
 from planning.reports import cost_shown, gap_shown
 
