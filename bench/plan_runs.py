@@ -3,12 +3,14 @@ import json
 import os
 import re
 import shutil
+import signal
 import subprocess
 import sys
 import time
 from dataclasses import dataclass
 
 import cases
+from processes import ended_with_this
 from whole_files import sum_of, write_whole
 
 TOP = os.path.dirname(cases.HERE)
@@ -85,7 +87,8 @@ class Going:
             self.process = subprocess.Popen(
                 [sys.executable, GUARD, *on(processors), "timeout", "-k", "10", str(int(limit)), *words],
                 env={**os.environ, **variables}, stdin=subprocess.DEVNULL, stdout=out,
-                stderr=subprocess.DEVNULL if run.who == "plan" else subprocess.STDOUT, start_new_session=True)
+                stderr=subprocess.DEVNULL if run.who == "plan" else subprocess.STDOUT, start_new_session=True,
+                preexec_fn=ended_with_this(signal.SIGKILL))
 
     def ended(self, status, usage):
         """What is known of a run that has ended."""
