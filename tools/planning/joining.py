@@ -5,12 +5,14 @@ the splits of the common tree, and in the place of each of its leaves a tree of 
 reason; and the price lists of the common one, and behind these its own. What is made claims what all parts claim, which
 is the least of it: each leaf proves that, as it does where it comes from. docs/FORMATS.md has the lines.
 """
+import re
 from dataclasses import dataclass
 
 HEADS = (b"mpcert 1", b"mpcert 2", b"mpcert 3")
 NEWEST = HEADS[-1]
 MOST_LISTS = 16
 LEAVES = (b"cost", b"point", b"band", b"excl", b"empty")
+BOUND, LIST = re.compile(rb"none|-?[0-9]{1,60}"), re.compile(rb"[0-9]{1,9}")
 
 
 class Misfit(Exception):
@@ -35,7 +37,7 @@ def read_certificate(path):
     if len(lines) < 6 or lines.pop() or lines[0] not in HEADS:
         raise Misfit(f"{path} is no whole certificate")
     word, _, value = lines[1].partition(b" ")
-    if word != b"bound" or not (value == b"none" or value.lstrip(b"-").isdigit()):
+    if word != b"bound" or not BOUND.fullmatch(value):
         raise Misfit(f"{place(2)}: the bound, and not {lines[1][:40]!r}")
     try:
         tree = lines.index(b"tree")
@@ -138,7 +140,7 @@ def renamed(line, numbers, path):
     if not line.startswith(b"cost "):
         return line
     word = line[5:]
-    if not word.isdigit() or int(word) >= len(numbers):
+    if not LIST.fullmatch(word) or int(word) >= len(numbers):
         raise Misfit(f"{path}: a leaf of list {word[:20]!r}, which isn't there")
     return b"cost %d" % numbers[int(word)]
 
