@@ -1,4 +1,5 @@
 """What the programs say of plans and certificates: a line has a word and what belongs to it."""
+import math
 import re
 from fractions import Fraction
 
@@ -44,7 +45,8 @@ def periods_of(said):
 
 
 def cost_shown(score, periods):
-    """A score as a cost, cut off at six decimals; or itself in multiples of 10^18, where the periods aren't known."""
+    """A score as a cost, rounded down to six decimals; or itself in multiples of 10^18, where the periods aren't known.
+    """
     return decimal(Fraction(score, ONE * (periods or 1)), 6)
 
 
@@ -63,7 +65,8 @@ def gap_shown(gap, decimals):
 
 
 def decimal(number, decimals, up=False):
+    """A number with so many decimals, rounded down, or up."""
     count = number * 10 ** decimals
-    count = -(-count.numerator // count.denominator) if up else abs(count).__floor__() * (1 if number >= 0 else -1)
+    count = math.ceil(count) if up else math.floor(count)
     sign, size = "-" if count < 0 else "", abs(count)
     return f"{sign}{size // 10 ** decimals}.{size % 10 ** decimals:0{decimals}}"
