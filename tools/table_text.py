@@ -5,6 +5,7 @@ program are below, and handed on.
 """
 import argparse
 import os
+import signal
 import subprocess
 import sys
 import traceback
@@ -138,9 +139,11 @@ def say(text):
 
 
 def run_script(main):
-    """Runs a script, which ends with a status of its own where it meets what it didn't foresee."""
+    """Runs a script, which ends with a status of its own where it meets what it didn't foresee, or Ctrl-C comes."""
     try:
         main()
+    except KeyboardInterrupt:
+        sys.exit(SIGNAL + signal.SIGINT)
     except Exception:
         traceback.print_exc()
         sys.exit(UNFORESEEN)
