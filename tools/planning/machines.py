@@ -11,6 +11,7 @@ import sys
 
 from over_parallel import parallel_words
 from planning.running import Task
+from processes import end_all
 from table_text import UNREAD, stop
 from whole_files import place_copy
 
@@ -26,8 +27,10 @@ class Machines:
         try:
             with open(hosts, encoding="utf-8") as file:
                 lines = [line.strip() for line in file]
-        except (OSError, UnicodeDecodeError) as error:
-            stop(UNREAD, f"{hosts}: {error}")
+        except OSError as error:
+            stop(UNREAD, f"{hosts}: {error.strerror}")
+        except UnicodeDecodeError:
+            stop(UNREAD, f"{hosts} isn't a text in UTF-8")
         self.count = sum(bool(line) and not line.startswith("#") for line in lines)
         if not self.count:
             stop(UNREAD, f"{hosts} names no machine")
@@ -83,8 +86,11 @@ class Machines:
         try:
             subprocess.run(words, stdin=subprocess.DEVNULL, stdout=subprocess.DEVNULL, stderr=subprocess.DEVNULL,
                            env={**os.environ, "PARALLEL_SSH": SSH}, timeout=LEAST)
-        except (OSError, subprocess.TimeoutExpired):
+        except OSError:
             pass
+        except subprocess.TimeoutExpired:
+            # (what parallel has started goes on without it)
+            end_all()
 
 
 def read_text(path):

@@ -18,9 +18,11 @@ class Teller:
         self.shown = False
 
     def put(self, text):
-        with contextlib.suppress(OSError, ValueError):
-            sys.stderr.write(text)
-            sys.stderr.flush()
+        # (there is none where it was closed from the beginning)
+        if sys.stderr:
+            with contextlib.suppress(OSError, ValueError):
+                sys.stderr.write(text)
+                sys.stderr.flush()
 
     def remark(self, text):
         """Says something that stays."""
