@@ -5,12 +5,15 @@ import os
 import shutil
 import tempfile
 
+# How the name of a file begins that is being written beside another one.
+BESIDE = ".part-"
+
 
 def write_whole(path, data):
     """Puts a file in the place of what stands there, once all of it is on the disk."""
     data = data if isinstance(data, bytes) else data.encode("utf-8", "surrogateescape")
     os.makedirs(os.path.dirname(path), exist_ok=True)
-    number, beside = tempfile.mkstemp(prefix=".part-", dir=os.path.dirname(path))
+    number, beside = tempfile.mkstemp(prefix=BESIDE, dir=os.path.dirname(path))
     try:
         with os.fdopen(number, "wb") as file:
             file.write(data)

@@ -7,17 +7,22 @@ has accepted; `progress.tsv`, a line for each round; `state.json`, of which inst
 import contextlib
 import fcntl
 import json
+import math
 import os
 import re
 import shutil
+from fractions import Fraction
 
-from whole_files import place_copy, put_whole, write_whole
+from planning.words import SLACK
+from whole_files import BESIDE, place_copy, put_whole, write_whole
 
 COLUMNS = "seconds\tscore\tbound\tgap_percent\trounds\tturns\tstep\n"
 OURS = ("plan.txt", "plan.cert", "progress.tsv", "work")
 PART = re.compile(r"part-([0-9]{1,6})-of-([0-9]{1,6})\.cert")
 # The certificate that parts are of, in the work.
 COMMON = "common.cert"
+# How the names begin of what couldn't be judged, and waits for the next run.
+KEPT = "kept-"
 # More than this of the end of `progress.tsv` is no line.
 LONGEST_LINE = 4096
 
@@ -44,6 +49,7 @@ class Folder:
         self.plan, self.certificate = self.file("plan.txt"), self.file("plan.cert")
         self.work = self.file("work")
         self.state = self.read_state(instance_sum, slack or "0")
+        self.clear_parts()
         os.makedirs(self.work, exist_ok=True)
 
     def file(self, *names):
@@ -61,9 +67,15 @@ class Folder:
             write_whole(self.file("state.json"), json.dumps(state))
         if state["instance"] != instance_sum:
             raise Refused(f"{self.path} is of another instance, or that was changed: name another folder")
-        if state["slack"] != slack:
+        if not is_same_slack(state["slack"], slack):
             raise Refused(f"{self.path} is of slack={state['slack']}, and not {slack}: name another folder")
         return state
+
+    def clear_parts(self):
+        """Removes what a run that was killed had begun to write beside its files."""
+        for name in os.listdir(self.path):
+            if name.startswith(BESIDE):
+                os.remove(self.file(name))
 
     def keep_state(self):
         write_whole(self.file("state.json"), json.dumps(self.state))
@@ -99,10 +111,25 @@ class Folder:
                                       if name.endswith(ending) and not PART.fullmatch(name) and name != COMMON]
         return with_ending(".plan"), with_ending(".cert"), parts
 
-    def clear_work(self):
-        with contextlib.suppress(OSError):
-            shutil.rmtree(self.work)
-        os.makedirs(self.work, exist_ok=True)
+    def clear_work(self, kept=()):
+        """Removes what is in the work, but for some files, which get names that no call has."""
+        for name in os.listdir(self.work):
+            path = os.path.join(self.work, name)
+            if path in kept:
+                self.keep(path)
+            elif os.path.isdir(path) and not os.path.islink(path):
+                shutil.rmtree(path, ignore_errors=True)
+            else:
+                with contextlib.suppress(OSError):
+                    os.remove(path)
+
+    def keep(self, path):
+        if os.path.basename(path).startswith(KEPT):
+            return
+        number, ending = 1, os.path.splitext(path)[1]
+        while os.path.lexists(os.path.join(self.work, f"{KEPT}{number}{ending}")):
+            number += 1
+        os.rename(path, os.path.join(self.work, f"{KEPT}{number}{ending}"))
 
     def note(self, row):
         """Adds a line to the progress; what was cut off of an earlier one goes."""
@@ -125,11 +152,30 @@ def read_state(folder):
     with open(path, encoding="utf-8") as file:
         try:
             state = json.load(file)
-        except ValueError:
+        except (ValueError, RecursionError):
             state = None
-    if not isinstance(state, dict) or not {"instance", "slack", "seconds", "rounds", "turns"} <= state.keys():
+    if not is_state(state):
         raise Refused(f"{path} isn't as `plan` writes it: name another folder")
     return state
+
+
+def is_state(state):
+    """Whether a value of JSON is a state: earlier ones have no tree, no calls and no processor seconds."""
+    is_count = lambda it: type(it) is int and it >= 0
+    is_seconds = lambda it: type(it) in (int, float) and 0 <= it < math.inf
+    has_values = lambda it, form: isinstance(it, dict) and all(map(form, it.values()))
+    is_round = lambda it: isinstance(it, list) and len(it) == 2 and is_count(it[0]) and is_seconds(it[1])
+    is_tree = lambda it: isinstance(it, list) and list(map(type, it)) in ([], [int, int, bool])
+    return (isinstance(state, dict) and isinstance(state.get("instance"), str)
+            and isinstance(state.get("slack"), str) and SLACK.fullmatch(state["slack"]) is not None
+            and is_seconds(state.get("seconds")) and is_count(state.get("rounds"))
+            and has_values(state.get("turns"), is_round) and is_tree(state.get("tree", []))
+            and all(has_values(state.get(name, {}), is_seconds) for name in ("processor_seconds", "calls")))
+
+
+def is_same_slack(one, other):
+    """Whether two words stand for the same slack, as 0.001 and 0.0010 do."""
+    return one == other or all(map(SLACK.fullmatch, (one, other))) and Fraction(one) == Fraction(other)
 
 
 def whole_size(number):

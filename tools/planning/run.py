@@ -35,8 +35,8 @@ NO_INSTANCE, UNREAD = os.path.join(os.devnull, "none"), 7
 MOST_FAILURES = 3
 # Statuses: of a program that finds no plan, and where none exists; where the instance can't be read.
 NOTHING_FOUND, NO_PLAN, NO_INSTANCE_READ, HOPELESS = 9, 10, (3, 7), (2, 3, 7)
-# Those of calls that did what they were to do.
-DONE = (0, NOTHING_FOUND, NO_PLAN)
+# Those of calls that did what they were to do, and those of `check` and `evaluate` that say what a file is.
+DONE, VERDICTS = (0, NOTHING_FOUND, NO_PLAN), (0, 1, 4, 5)
 # What ends a round, or begins the first one, and so doesn't wait behind other rounds.
 URGENT = ("ask", "check", "evaluate", "join", "claim")
 # The kinds of calls that search, and what those that were ended before they came to anything are counted as.
@@ -295,8 +295,8 @@ class Run:
     def begin(self):
         """Judges what stands in the folder and what an earlier run left in its work."""
         yield from self.judge_standing()
-        yield from self.take_left_over()
-        self.folder.clear_work()
+        unjudged = yield from self.take_left_over()
+        self.folder.clear_work(unjudged)
         self.is_solving = not (self.has_certificate and self.score is not None or self.is_over())
         if self.words.jobs == 1 or self.words.is_dry:
             yield from self.solve_first()
@@ -342,13 +342,30 @@ class Run:
         self.teller.remark(f"{path} isn't what `check` accepts ({said.strip()}), and is kept as {kept}")
 
     def take_left_over(self):
-        """Takes what the calls of an earlier run wrote and that run didn't live to take, where it is better."""
+        """Takes what the calls of an earlier run wrote and that run didn't live to take, where it is better; answers
+        what couldn't be judged.
+        """
         plans, certificates, parts = self.folder.left_over()
+        unjudged = []
         for plan in plans:
             task = self.judge(plan, self.certificate())
             yield [task]
             self.take(task, plan=plan)
-        common = os.path.join(self.folder.work, COMMON)
+            unjudged += self.note_unjudged(task, plan)
+        # (these first, as a join may write to a name that one of them has)
+        for certificate in certificates:
+            task = self.judge(self.plan(), certificate)
+            yield [task]
+            self.take(task, certificate=certificate)
+            unjudged += self.note_unjudged(task, certificate)
+        unjudged += yield from self.take_left_parts(parts)
+        if plans or certificates or parts:
+            self.end_round("taken", 0)
+        return unjudged
+
+    def take_left_parts(self, parts):
+        """Joins the parts of a tree that were left; answers those that couldn't be judged."""
+        unjudged, common = [], os.path.join(self.folder.work, COMMON)
         if parts and os.path.exists(common):
             whole_ones = {}
             for (number, count), path in parts.items():
@@ -356,14 +373,17 @@ class Run:
                 yield [task]
                 if task.status == 0:
                     whole_ones.setdefault(count, {})[(number, count)] = path
+                unjudged += self.note_unjudged(task, path)
             for count in sorted(whole_ones, key=lambda it: -len(whole_ones[it]))[:1]:
                 yield from self.join(common, whole_ones[count], count)
-        for certificate in certificates:
-            task = self.judge(self.plan(), certificate)
-            yield [task]
-            self.take(task, certificate=certificate)
-        if plans or certificates or parts:
-            self.end_round("taken", 0)
+        return unjudged
+
+    def note_unjudged(self, task, path):
+        """Says of a file whose judging came to no verdict that it waits for the next run; answers it then."""
+        if task.status in VERDICTS:
+            return []
+        self.teller.remark(f"{path} couldn't be judged, and is kept for the next run: {self.fault_of(task)}")
+        return [path]
 
     def take_solved(self, task):
         """Takes what `solve` made."""
@@ -376,6 +396,7 @@ class Run:
         judged = self.judge(plan if task.status == 0 else None, certificate)
         yield [judged]
         self.take(judged, plan if task.status == 0 else None, certificate)
+        self.tell_failures([judged])
 
     # Better plans.
 

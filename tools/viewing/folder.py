@@ -8,7 +8,7 @@ import tempfile
 from dataclasses import dataclass
 from typing import Optional
 
-from planning.folder import Refused, read_state
+from planning.folder import Refused, is_same_slack, read_state
 from whole_files import sum_of
 
 STATE, PLAN = "state.json", "plan.txt"
@@ -34,7 +34,7 @@ def files_of(folder, instance, slack):
     # (an instance that is no file is told of by whoever reads it)
     if os.path.isfile(instance) and state["instance"] != sum_of(instance):
         raise Refused(f"{folder} is of another instance than {instance}, or that was changed")
-    if slack not in (None, state["slack"]):
+    if slack is not None and not is_same_slack(state["slack"], slack):
         raise Refused(f"{folder} is of slack={state['slack']}, and not {slack}")
     if not os.path.exists(place(PLAN)):
         raise Refused(f"{folder} has no {PLAN}, as no plan was found so far")
