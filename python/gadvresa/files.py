@@ -1,6 +1,7 @@
 """Plans, certificates and lines of scripts: what calls take and give beside instances."""
 from __future__ import annotations
 
+import contextlib
 import os
 import re
 import tempfile
@@ -190,7 +191,9 @@ def write_whole(path: Path, data: bytes) -> None:
         os.chmod(beside, permissions(place))
         os.replace(beside, place)
     except BaseException:
-        os.unlink(beside)
+        # (it isn't there where an interrupt comes just behind the replacing)
+        with contextlib.suppress(OSError):
+            os.unlink(beside)
         raise
 
 
