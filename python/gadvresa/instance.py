@@ -15,6 +15,8 @@ from typing import Any, Callable, Dict, FrozenSet, List, Mapping, Tuple, TypeVar
 from .running import Path
 
 Made = TypeVar("Made")
+# What comes of a value that isn't what an instance has in its place.
+UNFIT = (KeyError, TypeError, ValueError, AttributeError, ZeroDivisionError)
 
 
 class Unreadable(ValueError):
@@ -62,43 +64,54 @@ class Intervention:
             raise ValueError(f"{self.name} has the starts 1 to {len(self.durations)}, and not {start}")
         return range(start, start + self.durations[start - 1])
 
+    def _read(self, name: str, made: Callable[[], Made]) -> Made:
+        """What is made of its table of this name."""
+        try:
+            return made()
+        except UNFIT as fault:
+            raise Unreadable(f"{self.name}: {name}: {fault!r}") from None
+
     @cached_property
     def resources(self) -> Tuple[str, ...]:
         """The resources under which it has workloads."""
-        return tuple(self._workload)
+        return self._read("workload", lambda: tuple(self._workload.keys()))
 
     @cached_property
     def _loads(self) -> Dict[str, Dict[Tuple[int, int], str]]:
-        return {name: {(int(t), int(s)): text for t, row in table.items() for s, text in row.items()}
-                for name, table in self._workload.items()}
+        return self._read("workload", lambda: {
+            name: {(int(t), int(s)): text for t, row in table.items() for s, text in row.items()}
+            for name, table in self._workload.items()})
 
     @cached_property
     def _risks(self) -> Dict[Tuple[int, int], List[str]]:
-        return {(int(t), int(s)): row for t, table in self._risk.items() for s, row in table.items()}
+        return self._read("risk", lambda: {
+            (int(t), int(s)): _list(row) for t, table in self._risk.items() for s, row in table.items()})
+
+    def _load(self, number: Callable[[str], Made], resource: str, period: int, start: int) -> Made:
+        is_running = period in self.run(start)
+        text = self._loads.get(resource, {}).get((period, start), "0") if is_running else "0"
+        return self._read("workload", lambda: number(text))
+
+    def _risk_row(self, number: Callable[[str], Made], period: int, start: int) -> List[Made]:
+        if period not in self.run(start):
+            raise ValueError(f"{self.name}, started in {start}, isn't in progress in period {period}")
+        return self._read("risk", lambda: list(map(number, self._risks[period, start])))
 
     def load(self, resource: str, period: int, start: int) -> Fraction:
         """Its load on a resource in a period of its run from a start, in the resource's unit; 0 where none is told."""
-        if period not in self.run(start):
-            return Fraction(0)
-        return Fraction(self._loads.get(resource, {}).get((period, start), "0"))
+        return self._load(Fraction, resource, period, start)
 
     def risks(self, period: int, start: int) -> Tuple[Fraction, ...]:
         """Its risks in a period of its run from a start, one for each scenario of the period."""
-        if period not in self.run(start):
-            raise ValueError(f"{self.name}, started in {start}, isn't in progress in period {period}")
-        return tuple(map(Fraction, self._risks[period, start]))
+        return tuple(self._risk_row(Fraction, period, start))
 
     def float_load(self, resource: str, period: int, start: int) -> float:
         """`load` as a float, which is fast and rounded."""
-        if period not in self.run(start):
-            return 0.0
-        return float(self._loads.get(resource, {}).get((period, start), "0"))
+        return self._load(float, resource, period, start)
 
     def float_risks(self, period: int, start: int) -> List[float]:
         """`risks` as floats, which are fast and rounded."""
-        if period not in self.run(start):
-            raise ValueError(f"{self.name}, started in {start}, isn't in progress in period {period}")
-        return list(map(float, self._risks[period, start]))
+        return self._risk_row(float, period, start)
 
 
 class Instance:
@@ -151,7 +164,7 @@ class Instance:
         root = self._root
         try:
             return made(root[name])
-        except (KeyError, TypeError, ValueError, AttributeError, ZeroDivisionError) as fault:
+        except UNFIT as fault:
             raise Unreadable(f"{self.path}: {name}: {fault!r}") from None
 
     @cached_property
@@ -162,7 +175,7 @@ class Instance:
     @cached_property
     def scenarios(self) -> Tuple[int, ...]:
         """The number of scenarios of each period: `scenarios[0]` is that of period 1."""
-        return self._read("Scenarios_number", lambda numbers: tuple(map(_whole, numbers)))
+        return self._read("Scenarios_number", lambda numbers: tuple(map(_whole, _list(numbers))))
 
     @cached_property
     def alpha(self) -> Fraction:
@@ -184,7 +197,7 @@ class Instance:
         """The resources by name, in the order of the file."""
 
         def band(name: str, it: Mapping[str, Any]) -> Band:
-            return Band(name, tuple(map(Fraction, it["max"])), tuple(map(Fraction, it["min"])))
+            return Band(name, tuple(map(Fraction, _list(it["max"]))), tuple(map(Fraction, _list(it["min"]))))
 
         return self._read("Resources", lambda found: {name: band(name, it) for name, it in found.items()})
 
@@ -195,7 +208,8 @@ class Instance:
 
         def made(name: str, it: Mapping[str, Any]) -> Intervention:
             last = _whole(it["tmax"])
-            return Intervention(name, last, tuple(map(_whole, it["Delta"][:last])), periods, it["workload"], it["risk"])
+            durations = tuple(map(_whole, _list(it["Delta"])[:last]))
+            return Intervention(name, last, durations, periods, it["workload"], it["risk"])
 
         return self._read("Interventions", lambda found: {name: made(name, it) for name, it in found.items()})
 
@@ -204,18 +218,25 @@ class Instance:
         """The periods of each season, by name; periods that the year hasn't are left out."""
         horizon = range(1, self.periods + 1)
         return self._read("Seasons", lambda found: {
-            name: frozenset(t for t in map(_whole, it) if t in horizon) for name, it in found.items()})
+            name: frozenset(t for t in map(_whole, _list(it)) if t in horizon) for name, it in found.items()})
 
     @cached_property
     def exclusions(self) -> Dict[str, Exclusion]:
         """The exclusions by name, in the order of the file."""
-        return self._read("Exclusions", lambda found: {name: Exclusion(name, *it) for name, it in found.items()})
+        return self._read("Exclusions", lambda found: {name: Exclusion(name, *_list(it)) for name, it in found.items()})
 
     def meeting(self, exclusion: str, starts: Mapping[str, int]) -> Tuple[int, ...]:
         """The periods of an exclusion's season in which a plan has both of its interventions in progress."""
         it = self.exclusions[exclusion]
         runs = [self.interventions[name].run(starts[name]) for name in (it.one, it.other)]
         return tuple(t for t in sorted(self.seasons[it.season]) if all(t in run for run in runs))
+
+
+def _list(value: Any) -> List[Any]:
+    """A list, and no number, which is kept as its digits here."""
+    if not isinstance(value, list):
+        raise TypeError(f"{value!r:.200} is no list")
+    return value
 
 
 def _whole(number: Any) -> int:

@@ -128,3 +128,43 @@ def test_what_is_no_instance(tmp_path):
         with pytest.raises(gadvresa.Unreadable):
             print(instance.periods)
     assert repr(instance) == f"Instance({str(path)!r})" and os.fspath(instance) == str(path)
+
+
+@pytest.mark.parametrize("key, table", [
+    ("workload", 5), ("workload", {"c": 5}), ("workload", {"c": {"1": {"x": 1}}}),
+    ("workload", {"c": {"1": {"1": "x"}}}), ("workload", {"c": {"1": {"1": None}}}), ("risk", 5), ("risk", {"1": 5}),
+    ("risk", {"1": {"x": []}}), ("risk", {"1": {"1": 12}}), ("risk", {"1": {"1": ["x"]}}),
+    ("risk", {"1": {"1": [None]}}), ("risk", {})])
+def test_tables_that_are_none(tmp_path, key, table):
+    work = {"tmax": 1, "Delta": [1], "workload": {}, "risk": {"1": {"1": [1]}}, key: table}
+    path = tmp_path / "file"
+    path.write_text(json.dumps({"T": 1, "Interventions": {"a": work}}))
+    read = Instance.read(path).interventions["a"]
+    calls = {"workload": (lambda: read.load("c", 1, 1), lambda: read.float_load("c", 1, 1)),
+             "risk": (lambda: read.risks(1, 1), lambda: read.float_risks(1, 1))}
+    for call in calls[key]:
+        with pytest.raises(gadvresa.Unreadable, match=f"a: {key}"):
+            call()
+
+
+def test_numbers_that_are_no_lists(tmp_path):
+    path = tmp_path / "file"
+    path.write_text(json.dumps({
+        "T": 2, "Scenarios_number": 12, "Resources": {"c": {"max": 12, "min": [0, 0]}}, "Seasons": {"s": 12},
+        "Exclusions": {"e": "abs"}, "Interventions": {"a": {"tmax": 2, "Delta": 12, "workload": {}, "risk": {}}}}))
+    for name in ("scenarios", "resources", "seasons", "exclusions", "interventions"):
+        with pytest.raises(gadvresa.Unreadable, match="is no list"):
+            getattr(Instance.read(path), name)
+
+
+def test_an_interrupt_behind_the_writing_stays_one(tmp_path, monkeypatch):
+    replace = os.replace
+
+    def interrupted(*words):
+        replace(*words)
+        raise KeyboardInterrupt
+
+    monkeypatch.setattr(os, "replace", interrupted)
+    with pytest.raises(KeyboardInterrupt):
+        Plan({"a": 1}).write(tmp_path / "plan")
+    assert (tmp_path / "plan").read_text() == "a 1\n"
