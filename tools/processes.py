@@ -47,12 +47,14 @@ def take_orphans():
 
 
 def started(pid):
-    """When a process was started, as the system counts it; none where it is gone."""
+    """When a process was started, as the system counts it; none where it has ended."""
     try:
         with open(f"/proc/{pid}/stat", "rb") as file:
-            return int(file.read().rpartition(b")")[2].split()[19])
-    except (OSError, IndexError):
+            words = file.read().rpartition(b")")[2].split()
+    except OSError:
         return None
+    # (one that has ended is there until its parent takes note of that)
+    return None if words[:1] in ([], [b"Z"], [b"X"]) else int(words[19])
 
 
 def below():

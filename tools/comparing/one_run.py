@@ -13,6 +13,8 @@ import signal
 import socket
 import sys
 import tempfile
+import threading
+import time
 
 sys.dont_write_bytecode = True
 HERE = os.path.dirname(os.path.abspath(__file__))
@@ -24,8 +26,8 @@ from processes import started, take_orphans
 from whole_files import write_whole
 
 GIVEN_UP = 75
-# The seconds that `evaluate` and `check` may take.
-JUDGING = 3600
+# The seconds that `evaluate` and `check` may take, and those between two looks for who started the comparison.
+JUDGING, LOOK = 3600, 1
 
 
 def is_there(owner):
@@ -91,12 +93,27 @@ def run_method(shared, task):
     return record, data or b""
 
 
-def make_bound(out, key, task):
+def gone(owner):
+    """An event that is set once who started the comparison is gone."""
+    event = threading.Event()
+
+    def look():
+        while is_there(owner):
+            time.sleep(LOOK)
+        event.set()
+
+    threading.Thread(target=look, daemon=True).start()
+    return event
+
+
+def make_bound(out, key, task, owner):
     """Makes a certificate, by `bound` or by `solve`, and has it checked."""
     try:
-        make = gadvresa.bound if task["by"] == "bound" else gadvresa.solve
-        made = make(task["path"], turns=task["turns"], timeout=task["seconds"])
-        checked = gadvresa.check(task["path"], made.certificate, timeout=JUDGING)
+        make, cancel = gadvresa.bound if task["by"] == "bound" else gadvresa.solve, gone(owner)
+        made = make(task["path"], turns=task["turns"], timeout=task["seconds"], cancel=cancel)
+        checked = gadvresa.check(task["path"], made.certificate, timeout=JUDGING, cancel=cancel)
+    except gadvresa.Cancelled:
+        raise guarded.Interrupted from None
     except gadvresa.GadvresaError as error:
         return {"bound": None, "detail": f"{type(error).__name__}: {error}"}
     write_whole(place(out, key, "bounds", "cert"), made.certificate.data)
@@ -125,7 +142,7 @@ def main(out, key):
             signal.signal(one, give_up)
         try:
             if task["kind"] == "bound":
-                record = make_bound(out, key, task)
+                record = make_bound(out, key, task, shared["owner"])
             else:
                 record, data = run_method(shared, task)
                 record["plan_sha256"] = hashlib.sha256(data).hexdigest() if data else ""
