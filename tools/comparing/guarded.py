@@ -1,8 +1,8 @@
 """Runs a method within its time, and leaves nothing of it behind: no process, however it was started, and no output.
 
 Whatever a method starts stays below this process, which takes orphans in, and is killed with it; so it is where there
-come to be too many. What it prints is read and dropped, but for its
-beginning and its end. While it runs, its plan is looked at: each new text of it is kept with its time.
+come to be too many. What it prints is read and dropped, but for its beginning and its end. While it runs, its plan is
+looked at: each new text of it is kept with its time.
 
 Processes are counted a few times a second, so what forks faster than that may fill a machine before it is ended, above
 all where this runs as root, whom no limit of the system holds. What isn't trusted so far belongs into a container.
@@ -70,11 +70,16 @@ def processes_of_user():
 def prepare(most):
     """Limits what a method may write and start, and ends it where this process is killed."""
     end_with_parent(signal.SIGKILL)
-    soft, hard = resource.getrlimit(resource.RLIMIT_NPROC)
-    limit = most if hard == resource.RLIM_INFINITY else min(most, hard)
-    resource.setrlimit(resource.RLIMIT_NPROC, (limit, limit))
-    resource.setrlimit(resource.RLIMIT_CORE, (0, 0))
-    resource.setrlimit(resource.RLIMIT_FSIZE, (LARGEST_FILE, LARGEST_FILE))
+    limit(resource.RLIMIT_NPROC, most)
+    limit(resource.RLIMIT_CORE, 0)
+    limit(resource.RLIMIT_FSIZE, LARGEST_FILE)
+
+
+def limit(kind, most):
+    """Lowers a limit of the system; one that is lower stays, as it can't be raised by everybody."""
+    _, hard = resource.getrlimit(kind)
+    most = most if hard == resource.RLIM_INFINITY else min(most, hard)
+    resource.setrlimit(kind, (most, most))
 
 
 def held(path):
