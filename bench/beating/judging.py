@@ -1,19 +1,16 @@
 """Draws cases, has the proved programs judge what is said to be known of them, and takes what is better."""
 import contextlib
-import hashlib
 import os
 import resource
 import subprocess
-import sys
 import tempfile
 from dataclasses import dataclass
 from typing import Optional
 
-HERE = os.path.dirname(os.path.abspath(__file__))
-sys.path[:0] = [os.path.dirname(HERE), os.path.join(HERE, "..", "..", "python")]
 import cases
 import gadvresa
 from beating.known import Fault, Known, with_changes
+from whole_files import sum_of
 
 
 class Broken(Exception):
@@ -66,11 +63,7 @@ def drawn(folder, name):
             cases.draw(folder.words[name], instance, planted)
         except subprocess.CalledProcessError:
             raise Fault(f"{folder.place('cases.txt')}: bench/draw_case.py doesn't draw {name} by its words") from None
-        total = hashlib.sha256()
-        with open(instance, "rb") as file:
-            for part in iter(lambda: file.read(1 << 20), b""):
-                total.update(part)
-        found = Drawn(name, room, instance, planted, os.path.getsize(instance), total.hexdigest())
+        found = Drawn(name, room, instance, planted, os.path.getsize(instance), sum_of(instance))
         known = folder.known.get(name)
         if known and (known.bytes, known.sum) != (found.bytes, found.sum):
             raise Broken(f"another instance was drawn than the one that known.tsv has, of {found.bytes:,} bytes and "

@@ -10,13 +10,11 @@ import dataclasses
 import fcntl
 import os
 import re
-import sys
+import signal
 from dataclasses import dataclass
 from fractions import Fraction
 from typing import Optional, Tuple
 
-HERE = os.path.dirname(os.path.abspath(__file__))
-sys.path[:0] = [os.path.dirname(HERE), os.path.join(HERE, "..", "..", "python")]
 import cases
 from gadvresa.files import write_whole
 
@@ -141,8 +139,9 @@ class Folder:
         number = os.open(self.path, os.O_RDONLY)
         try:
             fcntl.flock(number, fcntl.LOCK_EX)
-            self.read_known()
-            yield
+            with signals_later():
+                self.read_known()
+                yield
         finally:
             os.close(number)
 
@@ -228,6 +227,16 @@ class Folder:
         certificate = f"{size:,} bytes" if known.again is None else f"{known.again[1]:,} turns"
         return (f"| `{known.case}` | {shown(known.bytes, 10 ** 6, 2)} | {shown(known.score, ONE, 3)} | "
                 f"{shown(known.bound, ONE, 3)} | {gap_percent(known.score, known.bound)} | {certificate} |")
+
+
+@contextlib.contextmanager
+def signals_later():
+    """Has a signal that ends the script wait, so that no file is replaced without those that go with it."""
+    former = signal.pthread_sigmask(signal.SIG_BLOCK, (signal.SIGINT, signal.SIGTERM, signal.SIGHUP))
+    try:
+        yield
+    finally:
+        signal.pthread_sigmask(signal.SIG_SETMASK, former)
 
 
 def of_others(known):

@@ -7,13 +7,9 @@ four times the turns, so that one call makes its certificate again, until it has
 times the turns each time, too. What doesn't fit into the time isn't begun, as far as that of the call before tells.
 """
 import math
-import os
-import sys
 from dataclasses import dataclass, field
 from typing import Optional
 
-HERE = os.path.dirname(os.path.abspath(__file__))
-sys.path[:0] = [os.path.dirname(HERE), os.path.join(HERE, "..", "..", "python")]
 import gadvresa
 from beating.judging import OfPlan, file_of, made_again, score_of, spent
 from beating.known import LONGEST_HOW, MOST_TURNS, gap_percent
