@@ -54,6 +54,24 @@ def number(found, key):
     return None if text == "none" else int(text)
 
 
+def solver_words(instance, solver, seconds, largest, *more):
+    """A call of bench/mip.py, by which a solver, as `highs` or `highs:mean`, has so many seconds for an instance."""
+    name, _, variant = solver.partition(":")
+    return [sys.executable, MIP, instance, "--solve", f"{seconds:g}", "--solver", name, "--variant",
+            variant or "exact", "--largest", str(largest), *more]
+
+
+def solver_figures(folder, instance, solver, seconds, largest, *more):
+    """What such a call says, made here; in the folder stands what it prints."""
+    words = solver_words(instance, solver, seconds, largest, *more)
+    return figures(solvers.run(words, seconds + SLOWEST_MODEL, os.path.join(folder, "said")).said)
+
+
+def ended_as(found):
+    """How a solver ended, in its words."""
+    return found.get("status") or found[""] or "killed"
+
+
 class Case:
     """A drawn case: its files in a folder, and the runs on it."""
 
@@ -107,13 +125,10 @@ class Case:
             row.note += self.doubts(plan, row.score) + ("" if self.score(plan) == row.score else " SCORE DIFFERS")
         return row
 
-    def solver_row(self, name, variant, seconds):
+    def solver_row(self, solver, seconds):
         plan = self.file("solver")
-        ran = self.call(sys.executable, MIP, self.instance, "--solve", seconds, "--solver", name, "--variant", variant,
-                        "--plan", plan, "--largest", self.words.largest, limit=seconds + SLOWEST_MODEL)
-        found = figures(ran.said)
-        who = f"{name}{'' if variant == 'exact' else ':' + variant} {seconds} s"
-        row = Row(who, note=found.get("status") or found[""] or "killed")
+        found = solver_figures(self.folder, self.instance, solver, seconds, self.words.largest, "--plan", plan)
+        row = Row(f"{solver} {seconds} s", note=ended_as(found))
         row.score, row.bound = number(found, "score"), number(found, "bound")
         if "seconds" in found:
             row.seconds, row.processor, row.peak = (float(found[key]) for key in ("seconds", "processor", "peak-mb"))
@@ -132,9 +147,9 @@ class Case:
             limits.add(max(1, round(rows[-1].seconds)))
         for limit in sorted(limits):
             for solver in self.words.solvers.split():
-                name, _, variant = solver.partition(":")
-                if not variant or self.plain.inst.alpha < MILLION:
-                    rows.append(self.solver_row(name, variant or "exact", limit))
+                # (the other models are for a quantile that counts)
+                if ":" not in solver or self.plain.inst.alpha < MILLION:
+                    rows.append(self.solver_row(solver, limit))
         return rows
 
 

@@ -27,10 +27,9 @@ import sys
 from tempfile import TemporaryDirectory
 
 sys.dont_write_bytecode = True
-import beside_solvers
 import cases
+from beside_solvers import ended_as, number, solver_figures
 from drawn import measured
-from milp import solvers
 from solve import NONE, ONE, SCORED, UNPLANNED, run
 
 WHOLE = "20-a05 50-a05 200-a05 700-a05 50-a1 200-a1"
@@ -91,15 +90,11 @@ class Bench:
 
     def solver_bound(self, solver, seconds):
         """The bound of a solver in so many seconds; nothing of a model without the excess, where that costs nothing."""
-        name, _, variant = solver.partition(":")
-        if variant and self.drawn[self.drawn.index("--alpha") + 1] == "1":
+        if ":" in solver and self.drawn[self.drawn.index("--alpha") + 1] == "1":
             return ""
-        ran = solvers.run([sys.executable, beside_solvers.MIP, self.instance, "--solve", str(seconds), "--solver", name,
-                           "--variant", variant or "exact", "--largest", str(self.words.largest)],
-                          seconds + beside_solvers.SLOWEST_MODEL, os.path.join(self.folder, "said"))
-        found = beside_solvers.figures(ran.said)
-        bound = beside_solvers.number(found, "bound")
-        return f"{bound / ONE:,.3f}" if bound is not None else found.get("status") or found[""] or "killed"
+        found = solver_figures(self.folder, self.instance, solver, seconds, self.words.largest)
+        bound = number(found, "bound")
+        return f"{bound / ONE:,.3f}" if bound is not None else ended_as(found)
 
 
 def main():

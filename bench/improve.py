@@ -23,9 +23,8 @@ import sys
 from tempfile import TemporaryDirectory
 
 sys.dont_write_bytecode = True
-import beside_solvers
 import cases
-from milp import solvers
+from beside_solvers import ended_as, number, solver_figures
 from solve import NONE, ONE, SCORED, UNPLANNED, run
 
 TURNS = {"50-a05": "1000", "200-a05": "1500 10000", "200-tight-a05": "1000 50000", "700-a05": "1500 6000",
@@ -79,8 +78,8 @@ class Bench:
         runs = [self.one(turns, seed) for seed in range(1, self.words.seeds + 1)]
         scores = sorted(score for score, *_ in runs if score is not None)
         without = self.improved(self.first, 0, 1)
-        seconds = statistics.median(spent for _, spent, *_ in runs)
-        trying = max(seconds - self.spent - self.words.calls * without[2], 1e-3)
+        seconds, reading = statistics.median(spent for _, spent, *_ in runs), without[2] if without else 0
+        trying = max(seconds - self.spent - self.words.calls * reading, 1e-3)
         cells = [*map(shown, (scores[0], statistics.median_low(scores), scores[-1]))] if scores else ["none"] * 3
         cells += [f"{seconds:.2f}", f"{max(peak for *_, peak, _ in runs):.0f}", f"{TRIES * turns / trying:,.0f}"]
         cells += [self.solver_score(it, max(1, math.ceil(seconds))) for it in self.words.solvers.split()]
@@ -88,14 +87,9 @@ class Bench:
         return [*cells, faults[0] if faults else "ok"]
 
     def solver_score(self, solver, seconds):
-        name, _, variant = solver.partition(":")
-        plan = os.path.join(self.folder, "solver")
-        ran = solvers.run([sys.executable, beside_solvers.MIP, self.instance, "--solve", str(seconds), "--solver", name,
-                           "--variant", variant or "exact", "--plan", plan, "--largest", str(self.words.largest)],
-                          seconds + beside_solvers.SLOWEST_MODEL, os.path.join(self.folder, "said"))
-        found = beside_solvers.figures(ran.said)
-        score = beside_solvers.number(found, "score")
-        return shown(score) if score is not None else "none" if found.get("status") else found[""] or "killed"
+        found = solver_figures(self.folder, self.instance, solver, seconds, self.words.largest)
+        score = number(found, "score")
+        return shown(score) if score is not None else "none" if found.get("status") else ended_as(found)
 
 
 def main():

@@ -10,12 +10,12 @@ import time
 from dataclasses import dataclass
 
 import cases
+from beside_solvers import solver_words
 from processes import ended_with_this
 from whole_files import sum_of, write_whole
 
 TOP = os.path.dirname(cases.HERE)
-PLAN, MIP = os.path.join(TOP, "tools", "plan"), os.path.join(cases.HERE, "mip.py")
-GUARD = os.path.join(TOP, "tools", "planning", "guard")
+PLAN, GUARD = os.path.join(TOP, "tools", "plan"), os.path.join(TOP, "tools", "planning", "guard")
 PROGRAMS = ("planner_cli", "plan_refine")
 # Seconds to read an instance and to make a model of it, and those after which a run of `plan` should have ended.
 SLOWEST_MODEL, SLOWEST_END = 900, 120
@@ -178,9 +178,7 @@ class Runs:
             os.replace(f"{instance}.part", instance)
         seconds = 60 * run.minutes
         if run.who != "plan":
-            name, _, variant = run.who.partition(":")
-            call = [sys.executable, MIP, instance, "--solve", f"{seconds:g}", "--solver", name, "--variant",
-                    variant or "exact", "--threads", str(run.jobs), "--largest", str(self.words.largest)]
+            call = solver_words(instance, run.who, seconds, self.words.largest, "--threads", str(run.jobs))
             return Going(run, call, folder, machine, processors, seconds + SLOWEST_MODEL, {})
         out = os.path.join(folder, run.name())
         shutil.rmtree(out, ignore_errors=True)

@@ -57,7 +57,7 @@ def cut_off(found):
 
 
 def when(found, gap):
-    """When the gap of a run was no greater than that; none where it always was."""
+    """When the gap of a run was no greater than that; none where it was greater to the end."""
     gaps = ((seconds, gap_of(*values)) for seconds, *values in found["rounds"])
     return next((seconds for seconds, it in gaps if it is not None and it <= gap), None)
 
