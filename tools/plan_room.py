@@ -9,10 +9,10 @@ import subprocess
 import sys
 import time
 
-HERE = os.path.dirname(os.path.abspath(__file__))
-TOP = os.path.dirname(HERE)
 from viewing.progress import read_progress
 
+HERE = os.path.dirname(os.path.abspath(__file__))
+TOP = os.path.dirname(HERE)
 PLAN = os.path.join(HERE, "plan")
 # Seconds after which what is waited for counts as never coming.
 LIMIT = 600
@@ -160,6 +160,7 @@ elif command == "bound":
     end(0, f"bound {{new}}\nlists 1\nsplits {{splits}}\nkept {{leaves}}\nchanged 0\nrounded 0\n")
 end(2, "refused words\n")
 """
+
 
 class Results:
     passed = failed = 0
