@@ -6,7 +6,6 @@ import os
 import shutil
 import tempfile
 from dataclasses import dataclass
-from typing import Optional
 
 from planning.folder import Refused, is_same_slack, read_state
 from whole_files import sum_of
@@ -18,11 +17,11 @@ BESIDE = {"progress": "progress.tsv", "certificate": "plan.cert"}
 
 @dataclass
 class Found:
-    """What a folder has: its plan, what stands beside it, and the slack that it is of, if that isn't 0."""
+    """What a folder has: its plan, what stands beside it, and the slack that it is of."""
 
     plan: str
     beside: dict
-    slack: Optional[str]
+    slack: str
 
 
 def files_of(folder, instance, slack):
@@ -39,7 +38,7 @@ def files_of(folder, instance, slack):
     if not os.path.exists(place(PLAN)):
         raise Refused(f"{folder} has no {PLAN}, as no plan was found so far")
     beside = {name: place(file) for name, file in BESIDE.items() if os.path.exists(place(file))}
-    return Found(place(PLAN), beside, None if state["slack"] == "0" else state["slack"])
+    return Found(place(PLAN), beside, state["slack"])
 
 
 @contextlib.contextmanager
