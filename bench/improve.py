@@ -27,7 +27,7 @@ import cases
 from beside_solvers import ended_as, number, solver_figures
 from solve import NONE, ONE, SCORED, UNPLANNED, run
 
-TURNS = {"50-a05": "1000", "200-a05": "1500 10000", "200-tight-a05": "1000 50000", "700-a05": "1500 6000",
+TURNS = {"50-a05": "1000 2500", "200-a05": "1500 10000", "200-tight-a05": "1000 50000", "700-a05": "1500 6000",
          "300-s120-a05": "2000", "50-a1": "10000"}
 TRIES = 1000
 HEAD = ["case", "turns", "least", "median", "greatest", "seconds", "MB", "tries / s"]
