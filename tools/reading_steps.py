@@ -1,9 +1,9 @@
 """The steps of tools/reading_list: the sentences of README on what is proved, and the clauses that say each of them.
 
 The contract of the top call is the statement: that of `run` for planner_cli, that of `run_repair` for plan_repair, that
-of `run_refine` for plan_refine. A sentence is said by some of its clauses, and these by some cases and fields of what they cite; a step names these, and
-leaves the rest to later steps. `main` makes the top call, over the device of `plan_desk/src/real.rt`, of which no
-contract can say what the system did; that is a step too.
+of `run_refine` for plan_refine. A sentence is said by some of its clauses, and these by some cases and fields of what
+they cite; a step names these, and leaves the rest to later steps. `main` makes the top call, over the device of
+`plan_desk/src/real.rt`, of which no contract can say what the system did; that is a step too.
 """
 
 

@@ -1,4 +1,4 @@
-//! The commands of both programs, over the same files in memory.
+//! The commands of planner_cli and plan_repair, over the same files in memory.
 
 use command_audit::audit_files;
 use command_check::check_files;
