@@ -54,7 +54,7 @@ pub(crate) fn target_of<R: Row>(
     }
     let inst = kept.instance();
     if kept.key().violation > 0 {
-        starts = mended(alloc, inst, starts, turns)?;
+        starts = mended(alloc, inst, starts, turns, SEED)?;
         if !is_whole::<R>(alloc, inst, starts.as_slice())? {
             return Ok(starts);
         }

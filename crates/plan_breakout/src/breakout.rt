@@ -56,17 +56,19 @@ fn take_starts(inst: &Instance, starts: &mut Vec<u32>, draft: &Draft)
     }
 }
 
-/// The starts of the best plan that is met on the way from these to one that breaks nothing. Takes memory first.
+/// The starts of the best plan that is met on the way from these to one that breaks nothing. Other seeds lead to other
+/// plans. Takes memory first.
 pub fn mended(
     alloc: Global,
     inst: &Instance,
     starts: Vec<u32>,
     turns: u32,
+    seed: u64,
 ) -> Result<Vec<u32>, AllocError>
     requires { AreAllowedStarts inst.now starts.items }
     ensures { IfOk result (λ starts. AreAllowedStarts inst.now starts.items) }
 {
-    let mut draft = Draft::make(alloc, inst, &starts)?;
+    let mut draft = Draft::make(alloc, inst, &starts, seed)?;
     let most = draft.runs().wrapping_mul(ROUNDS_A_RUN);
     let rounds = (turns.min(MOST_TURNS) * ROUNDS) as usize;
     mend(&mut draft, rounds.min(most));

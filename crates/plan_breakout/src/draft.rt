@@ -15,9 +15,6 @@ use std::alloc::{AllocError, Global};
 /// How far a broken exclusion counts as outside, in counts of 10^-6.
 const CLASH: i64 = 1_000_000;
 
-/// From which the numbers of each search are drawn.
-const SEED: u64 = 1;
-
 /// For how many rounds a start that was left is held back: so many, and up to as many more.
 const HOLD: usize = 20;
 
@@ -86,11 +83,12 @@ fn take_works(bands: &mut [Band], works: &[Work]) {
 }
 
 impl Draft {
-    /// The plan of these starts. Takes memory, as no other call does.
+    /// The plan of these starts, and the numbers that are drawn from this seed. Takes memory, as no other call does.
     pub(crate) fn make(
         alloc: Global,
         inst: &Instance,
         starts: &[u32],
+        seed: u64,
     ) -> Result<Draft, AllocError> {
         let runs = Runs::make(alloc, inst)?;
         let exclusions = Exclusions::make(alloc, inst)?;
@@ -105,7 +103,7 @@ impl Draft {
             exclusions,
             bands,
             broken: Broken::make(alloc, things)?,
-            words: Words::new(SEED),
+            words: Words::new(seed),
             present: filled(alloc, 0, starts.len())?,
             best: filled(alloc, 0, starts.len())?,
             least: i64::MAX,

@@ -26,6 +26,7 @@ pub(crate) fn first_of<R: Row>(
     inst: &Instance,
     opening: Starts,
     turns: u32,
+    seed: u64,
 ) -> Result<First, AllocError>
     requires { AreAllowedStarts inst.now opening }
     ensures { IfOk result (IsFirst inst.now turns opening) }
@@ -35,23 +36,25 @@ pub(crate) fn first_of<R: Row>(
             starts: opening,
             values,
         })),
-        None => looked_for::<R>(alloc, inst, opening.as_slice(), turns),
+        None => looked_for::<R>(alloc, inst, opening.as_slice(), turns, seed),
     }
 }
 
-/// From a plan that breaks a rule: what a breakout finds, where that keeps every rule; else the end of a descent.
+/// From a plan that breaks a rule: what a breakout finds from this seed, where that keeps every rule; else the end of a
+/// descent.
 fn looked_for<R: Row>(
     alloc: Global,
     inst: &Instance,
     opening: &[u32],
     turns: u32,
+    seed: u64,
 ) -> Result<First, AllocError>
     requires { AreAllowedStarts inst.now opening.now }
     ensures { IfOk result (IsLookedFor inst.now turns opening.now) }
 {
     let most = looking_turns(turns);
     if turns > 0 {
-        if let Some(plan) = mended_plan(alloc, inst, opening, most)? {
+        if let Some(plan) = mended_plan(alloc, inst, opening, most, seed)? {
             return Ok(First::Kept(plan));
         }
     }
@@ -73,11 +76,12 @@ fn mended_plan(
     inst: &Instance,
     opening: &[u32],
     turns: u32,
+    seed: u64,
 ) -> Result<Option<Judged>, AllocError>
     requires { AreAllowedStarts inst.now opening.now }
     ensures { IfOk result (λ found. IfSome found (λ plan. IsJudged inst.now plan.starts plan.values)) }
 {
-    let starts = mended(alloc, inst, opening.to_vec(alloc)?, turns)?;
+    let starts = mended(alloc, inst, opening.to_vec(alloc)?, turns, seed)?;
     match kept_values(alloc, inst, starts.as_slice())? {
         Some(values) => Ok(Some(Judged {
             starts: Starts::from_vec(starts),

@@ -57,7 +57,7 @@ fn improve_from<R: Row>(
     ensures { IfOk result (IsImprovement inst.now old.now turns) }
 {
     let _old = old;
-    match first_of::<R>(alloc, inst, opening, turns)? {
+    match first_of::<R>(alloc, inst, opening, turns, seed)? {
         First::Kept(first) => {
             let better = bettered::<R>(alloc, inst, first, turns, seed)?;
             Ok(Improvement::Found(better))
