@@ -56,7 +56,7 @@ impl Band {
         }
     }
 
-    /// The weighed gap of a load below its lower limit: with more on it, it falls by no more.
+    /// What a load below its lower limit weighs, which is the most that any further load takes away; else 0.
     #[inline]
     pub(crate) fn cost_below(self) -> i64 {
         if self.load < self.lower {

@@ -33,7 +33,7 @@ fn within_range(bound: Bound) -> Bound
 /// Makes a certificate by refined price lists for the scores of all plans, or goes on with one: given a feasible plan
 /// or none, a certificate in range or none, how many splits to make at most, and of which leaves of its tree.
 ///
-/// Takes memory for a table of each list, for each node and each leaf that waits, and for the search of two new lists.
+/// Takes memory for a table of each list, for each node and each leaf that waits, and for the search of each new list.
 pub fn raise_bound(
     alloc: Global,
     inst: &Instance,
