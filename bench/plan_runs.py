@@ -200,28 +200,14 @@ class Runs:
 
     def planned(self, one):
         """The rounds of a run of `plan`, and where its processor seconds went."""
-        folder = self.folder(one.run.case)
-        instance, out = os.path.join(folder, "instance.json"), os.path.join(folder, one.run.name())
-        plan, certificate = os.path.join(out, "plan.txt"), os.path.join(out, "plan.cert")
+        out = os.path.join(self.folder(one.run.case), one.run.name())
         rounds, state = [], {}
         if os.path.exists(os.path.join(out, "progress.tsv")):
             rounds = [line.split("\t") for line in lines_of(os.path.join(out, "progress.tsv"))[1:]]
             state = json.loads("\n".join(lines_of(os.path.join(out, "state.json"))))
-        cli, refine = (os.path.join(self.programs, name) for name in PROGRAMS)
-        # (a call of `improve` reads what `evaluate` reads, and one of `bound` what `check` does, at most)
-        readings = {"improve": processor_seconds(one.processors, [cli, "evaluate", instance, plan]),
-                    "bound": processor_seconds(one.processors, [refine, "check", instance, plan, certificate])}
         return {"seed": self.words.seed, "programs": {it: sum_of(os.path.join(self.programs, it)) for it in PROGRAMS},
                 "rounds": [[float(row[0]), number(row[1]), number(row[2])] for row in rounds],
-                "spent": state.get("processor_seconds", {}), "calls": state.get("calls", {}), "readings": readings}
-
-
-def processor_seconds(processors, words):
-    """The processor seconds of a call."""
-    process = subprocess.Popen([*on(processors), *words], stdin=subprocess.DEVNULL, stdout=subprocess.DEVNULL)
-    _, status, usage = os.wait4(process.pid, 0)
-    process.returncode = os.waitstatus_to_exitcode(status)
-    return round(usage.ru_utime + usage.ru_stime, 3)
+                "spent": state.get("processor_seconds", {}), "read": state.get("reading_seconds", {})}
 
 
 def solved(lines):

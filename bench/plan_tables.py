@@ -47,8 +47,7 @@ def overhead(found):
     """The part of the processor seconds that went into judging, joining and reading again, in percent."""
     spent, total = found["spent"], found["processor"]
     search = sum(spent.get(step, 0) for step in STEPS) + spent.get("cut off", 0)
-    again = sum(found["calls"].get(step, 0) * seconds for step, seconds in found["readings"].items())
-    return 100 * (total - search + again) / total if total else 0.0
+    return 100 * (total - search + sum(found["read"].get(step, 0) for step in STEPS)) / total if total else 0.0
 
 
 def cut_off(found):

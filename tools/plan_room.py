@@ -141,6 +141,8 @@ elif command == "improve":
     old = None if words[1] == "-" else score_of(words[1])
     at = len(plans) - 1 if old is None else [score for score, _ in plans].index(old)
     at = max(0, at - 1 - (int(words[4]) + int(words[3])) % 3)
+    if old is None and "lucky" in doing:
+        at = 1
     write(words[2], text(plans[at][1]))
     end(0, f"plan improved\nscore {{plans[at][0]}}\nbefore {{old}}\n")
 elif command == "bound":

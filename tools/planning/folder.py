@@ -16,6 +16,8 @@ from fractions import Fraction
 from planning.words import SLACK
 from whole_files import BESIDE, place_copy, put_whole, write_whole
 
+# Of the calls of each kind: how many there were, their seconds of a processor, and those in which they read.
+SUMS = ("calls", "processor_seconds", "reading_seconds")
 COLUMNS = "seconds\tscore\tbound\tgap_percent\trounds\tturns\tstep\n"
 OURS = ("plan.txt", "plan.cert", "progress.tsv", "work")
 PART = re.compile(r"part-([0-9]{1,6})-of-([0-9]{1,6})\.cert")
@@ -160,7 +162,7 @@ def read_state(folder):
 
 
 def is_state(state):
-    """Whether a value of JSON is a state: earlier ones have no tree, no calls and no processor seconds."""
+    """Whether a value of JSON is a state: earlier ones have no tree, no calls and no seconds of them."""
     is_count = lambda it: type(it) is int and it >= 0
     is_seconds = lambda it: type(it) in (int, float) and 0 <= it < math.inf
     has_values = lambda it, form: isinstance(it, dict) and all(map(form, it.values()))
@@ -170,7 +172,7 @@ def is_state(state):
             and isinstance(state.get("slack"), str) and SLACK.fullmatch(state["slack"]) is not None
             and is_seconds(state.get("seconds")) and is_count(state.get("rounds"))
             and has_values(state.get("turns"), is_round) and is_tree(state.get("tree", []))
-            and all(has_values(state.get(name, {}), is_seconds) for name in ("processor_seconds", "calls")))
+            and all(has_values(state.get(name, {}), is_seconds) for name in SUMS))
 
 
 def is_same_slack(one, other):

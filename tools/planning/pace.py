@@ -32,6 +32,10 @@ class Pace:
         """Notes how long the round took that had these turns."""
         self.seconds, self.timed = seconds, self.turns
 
+    def expected(self):
+        """How many seconds the next round takes, as far as that is known."""
+        return None if self.seconds is None else self.seconds * self.turns / max(self.timed, 1)
+
     def next(self, wanted, reading, step=STEP):
         """The turns of the next round, which is to take so many seconds."""
         if self.seconds is None:

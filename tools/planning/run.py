@@ -16,7 +16,8 @@ import sys
 import time
 
 from planning import reports
-from planning.folder import COMMON
+from planning.afresh import Afresh, calls_of
+from planning.folder import COMMON, SUMS
 from planning.pace import LEAST, MOST_TURNS, Pace, round_seconds
 from planning.reports import gap_of, gap_shown, is_accepted, says_no_plan, whole
 from planning.running import Task
@@ -44,6 +45,17 @@ STEPS, CUT_OFF = ("solve", "improve", "bound"), "cut off"
 MEMORY = 11
 # How a report begins where a plan or a certificate isn't as it should be.
 REFUSED_PLAN, REFUSED_CERTIFICATE = ("infeasible\n", "refused plan "), "refused certificate "
+
+
+def round_seconds_of(done):
+    """How long the calls of a round took, on the processor that took longest; those that failed may have ended early.
+    None where all did.
+    """
+    sums = collections.Counter()
+    for task in done:
+        if task.status in DONE:
+            sums[task.details.get("processor", id(task))] += task.seconds
+    return max(sums.values(), default=None)
 
 
 class Ended(Exception):
@@ -108,13 +120,14 @@ class Run:
         self.slack = [f"slack={words.slack}"] if words.slack is not None else []
         self.score = self.bound = self.periods = None
         self.has_certificate = self.has_no_plan = False
-        self.reading, self.batches = 0.0, {}
+        # (how long the last `check` took, and the shortest one, which is mostly that of the instance)
+        self.reading, self.least_reading, self.batches = 0.0, None, {}
         self.began, self.before = time.monotonic(), float(folder.state["seconds"])
         self.improving = Lane("improve", Pace(FIRST_IMPROVE, 1), 1, words.jobs)
         self.bounding = Lane("bound", Pace(FIRST_BOUND, LEAST_BOUND), 1, words.jobs)
         self.tree = Tree(*folder.state.get("tree", ()))
         self.knows_parts, self.made = False, None
-        self.solving, self.is_solving = Pace(SOLVE, SOLVE), False
+        self.solving, self.is_solving, self.afresh = Pace(SOLVE, SOLVE), False, Afresh()
         for lane in (self.improving, self.bounding):
             if lane.name in folder.state["turns"]:
                 lane.pace.turns, seconds = folder.state["turns"][lane.name]
@@ -150,6 +163,10 @@ class Run:
     def refine(self, kind, *words, part=(), **more):
         words = [self.programs["plan_refine"], kind, self.instance, *map(str, words), *self.slack, *part]
         return Task(kind, words, **more)
+
+    def reading_of(self, kind):
+        """How long a call reads: the instance alone, or the certificate too."""
+        return {"improve": self.least_reading or 0.0, "bound": self.reading}.get(kind, 0.0)
 
     def judge(self, plan, certificate):
         """`check` of a plan and a certificate, or of one of them; `evaluate` of a plan alone."""
@@ -194,7 +211,7 @@ class Run:
 
     def count(self, task, kind):
         """Adds a call to those of its kind, and the seconds that it took of a processor to theirs."""
-        for name, more in (("processor_seconds", task.processor), ("calls", 1)):
+        for name, more in zip(SUMS, (1, task.processor, self.reading_of(task.kind))):
             sums = self.folder.state.setdefault(name, {})
             sums[kind] = round(sums.get(kind, 0) + more, 3)
 
@@ -223,6 +240,7 @@ class Run:
             return False
         score, bound = whole(task.said, "score"), whole(task.said, "bound")
         self.reading = task.seconds
+        self.least_reading = min(self.reading, self.least_reading or self.reading)
         self.periods = self.periods or reports.periods_of(task.said)
         is_taken = False
         if plan and score is not None and (self.score is None or score < self.score):
@@ -238,10 +256,9 @@ class Run:
         return is_taken
 
     def end_round(self, step, turns, lane=None, done=()):
-        """Notes a round in the folder, and tells of it. `done` are the calls by whose time the next round is measured;
-        not by that of calls that failed, which may have ended early.
+        """Notes a round in the folder, and tells of it. `done` are the calls by whose time the next round is measured.
         """
-        state, seconds = self.folder.state, max((it.seconds for it in done if it.status in DONE), default=None)
+        state, seconds = self.folder.state, round_seconds_of(done)
         state["rounds"] += 1
         if lane:
             lane.rounds += 1
@@ -410,7 +427,9 @@ class Run:
             for task in (it for it in done if it.kind == "solve"):
                 yield from self.take_solved(task)
             made = [task for task in done if task.kind != "solve"]
-            yield from self.take_plans(made)
+            best = yield from self.take_plans(made)
+            if any(task.details.get("is_afresh") for task in made):
+                self.afresh.note(best is not None and best.details["is_afresh"])
             self.remove(done)
             self.end_round("improve" if made else "solve", sum(task.turns for task in done), lane, made)
 
@@ -420,22 +439,41 @@ class Run:
         return max(1, min(lane.most, self.words.jobs - others - self.is_solving))
 
     def improve_tasks(self, lane):
-        """Calls with different seeds; while there is no plan, and `solve` found none either, one that looks for it, and
-        one of `solve` with more turns than before, in turns where there is one processor.
+        """Calls with different seeds, from the plan that stands and from none. While no plan stands, and `solve` found
+        none either: one that looks for it, and one of `solve` with more turns than before, in turns where there is one
+        processor.
         """
-        turns, name = lane.pace.turns, f"improve-{self.folder.state['rounds']}"
-        place = lambda number: os.path.join(self.folder.work, f"{name}-{number}.plan")
-        given = self.given("improve")
-        call = lambda number: self.refine("improve", given, place(number), turns, self.seed(number), out=place(number),
-                                          turns=turns)
+        turns, given = lane.pace.turns, self.given("improve")
         if self.score is None and self.is_solving:
-            return [call(number) for number in range(1, 1 + (1 if self.machines else lane.slots))]
+            count = 1 if self.machines else lane.slots
+            return [self.improve_task(number, number, given, turns) for number in range(1, count + 1)]
         if self.score is None:
             is_alone = lane.slots == 1
-            solves = [] if is_alone and lane.rounds % 2 else [self.solve(f"{name}-2", self.more_of_solve())]
-            return solves + ([] if is_alone and solves else [call(1)])
+            more = f"{self.name_of_round()}-2"
+            solves = [] if is_alone and lane.rounds % 2 else [self.solve(more, self.more_of_solve())]
+            return solves + ([] if is_alone and solves else [self.improve_task(1, 1, given, turns)])
         count = lane.slots * (self.machines.count if self.machines else 1)
-        return [call(number) for number in range(1, count + 1)]
+        afresh = self.afresh.take(count)
+        calls = [(processor, given, turns) for processor in range(afresh, count)]
+        parts = self.calls_afresh(lane)
+        calls += [(processor, "-", turns // parts) for _ in range(parts) for processor in range(afresh)]
+        return [self.improve_task(number, *call) for number, call in enumerate(calls, 1)]
+
+    def name_of_round(self):
+        return f"improve-{self.folder.state['rounds']}"
+
+    def improve_task(self, number, processor, given, turns):
+        """A call of a round, by its number, on one of the processors of the round."""
+        place = os.path.join(self.folder.work, f"{self.name_of_round()}-{number}.plan")
+        return self.refine("improve", given, place, turns, self.seed(number), out=place, turns=turns,
+                           details={"processor": processor, "is_afresh": given == "-"})
+
+    def calls_afresh(self, lane):
+        """How many calls from no plan a processor makes in a round."""
+        if self.machines or self.words.is_dry:
+            return 1
+        seconds = None if self.words.rounds is not None else lane.pace.expected()
+        return calls_of(lane.pace.turns, seconds, self.least_reading)
 
     def more_of_solve(self):
         """The turns of the next `solve`: MORE times as many, as far as there is time for them."""
@@ -458,7 +496,7 @@ class Run:
         return self.machines.take(batch)
 
     def take_plans(self, done):
-        """Takes the best plan of a round, which is the one of the least score that `check` accepts."""
+        """Takes the best plan of a round, which is that of the least score that `check` accepts; answers its call."""
         found = [(whole(task.said, "score"), at, task) for at, task in enumerate(done) if task.status == 0]
         for score, _, task in sorted(it for it in found if it[0] is not None):
             if self.score is not None and score >= self.score:
@@ -466,8 +504,9 @@ class Run:
             judged = self.judge(task.out, self.certificate())
             yield [judged]
             if self.take(judged, plan=task.out):
-                break
+                return task
             self.tell_failures([judged])
+        return None
 
     # Better bounds.
 
