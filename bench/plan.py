@@ -20,7 +20,8 @@ A row has score and bound as multiples of 10^18, the gap in percent of the score
 the best one of the case and the bound below the best one, rounds, and how many processors others had, on average, of
 those of the run. The overhead of a run of `plan` is the part of its processor seconds that went into anything but
 `solve`, `improve` and `bound`, and into reading files again in these; what was cut off at the end is told beside it.
-Below a table stands when a run came to the gap that one with 1 job had at the end, and whether the goals are reached.
+Below a table stands when a run came to the gap that one with 1 job had at the end. Two tables of all cases end it: the
+runs beside each other, and whether the goals are reached.
 """
 import argparse
 import os
@@ -31,7 +32,7 @@ sys.dont_write_bytecode = True
 sys.path.insert(0, os.path.join(os.path.dirname(os.path.abspath(__file__)), "..", "tools"))
 import cases
 from plan_runs import Machine, Runs
-from plan_tables import print_case, print_goals
+from plan_tables import print_case, print_goals, print_summary
 from processes import end_all, take_orphans
 
 CASES = "50-a1 50-tight-a1 200-a05 300-s120-a05 700-a05"
@@ -83,7 +84,9 @@ def main():
             print("stopped: the same words go on from here")
         finally:
             end_all()
-    goals = [print_case(name, drawn[name], runs.found(name), words.minutes) for name in drawn]
+    found = {name: runs.found(name) for name in drawn}
+    goals = [print_case(name, drawn[name], runs, words.minutes) for name, runs in found.items()]
+    print_summary(found, words.minutes)
     print_goals([it for it in goals if it])
     sys.exit(status)
 

@@ -121,6 +121,28 @@ def goals_of(rows, planned, has_no_quantile):
             f"gap of 1 job in {PART:.0%} of its time": yes(caught), f"overhead at most {OVERHEAD} %": yes(light)}
 
 
+def print_summary(found, minutes):
+    """Prints the runs of all cases in one table, a row for the same jobs and minutes: score, bound and gap."""
+    methods = sorted({it["who"] for runs in found.values() for it in runs}, key=lambda who: (who != "plan", who))
+    if methods:
+        print(f"\n| case | jobs | minutes | {' | '.join(methods)} |\n|---|--:|--:{'|--:' * len(methods)}|")
+    for case, runs in found.items():
+        rows = {}
+        for row in (row for it in runs for row in rows_of(it, minutes)):
+            rows.setdefault((row.jobs, row.minutes), {})[row.who] = cell_of(row)
+        for (jobs, each), cells in sorted(rows.items()):
+            print(f"| `{case}` | {jobs} | {each:g} | {' | '.join(cells.get(who, '') for who in methods)} |")
+
+
+def cell_of(row):
+    """Score, bound and gap of a row, or why there are none."""
+    if row.note.startswith("model"):
+        return "model too large"
+    score, bound = ("none" if it is None else f"{it / ONE:,.1f}" for it in (row.score, row.bound))
+    gap = gap_of(row.score, row.bound)
+    return f"{score}, {bound}" + ("" if gap is None else f", {gap:.2f} %")
+
+
 def print_goals(goals):
     """Prints a table of the goals of all cases."""
     if goals:
