@@ -256,8 +256,7 @@ class Run:
         return is_taken
 
     def end_round(self, step, turns, lane=None, done=()):
-        """Notes a round in the folder, and tells of it. `done` are the calls by whose time the next round is measured.
-        """
+        """Notes a round in the folder, and tells of it. The time of the calls `done` is what the next one goes by."""
         state, seconds = self.folder.state, round_seconds_of(done)
         state["rounds"] += 1
         if lane:
