@@ -1,12 +1,19 @@
 """How many turns a step gets: so many that it takes its time, by what the one before it took.
 
 A round is to take as long as GROWTH of all that went before it, so that rounds grow as the time does, and so long that
-reading the files again, and checking what came of it, is a small part of it; and no longer than what is left. Where a
-number of rounds is to be made, no clock decides: each round has twice the turns of the one before it.
+reading the files again, and checking what came of it, is a small part of it; and no longer than what is left. Where
+others go on like that, a round can take as long as LONG_GROWTH of it: one run that is twice as long gains more than
+several side by side. Where a number of rounds is to be made, no clock decides: each round has twice the turns of the
+one before it.
 """
+import math
 
 # The least seconds of a round, what part of the time that has passed it is to take, and how many readings.
 LEAST, GROWTH, READINGS = 1.0, 0.5, 20
+# The same where others end in between.
+LONG_GROWTH = 1.5
+# What part of the time that is left a round gets at most, as it may take longer than it is thought to.
+MOST, LONG_MOST = 0.9, 0.8
 # How much more than before a round gets at most.
 STEP = 4
 MOST_TURNS = 1_000_000
@@ -16,10 +23,24 @@ def round_seconds(passed, left, reading, share):
     """How long a round is to take, where so many seconds have passed, so many are left, and one reading takes so many;
     `share` is the part of the time that the step has, where another one takes turns with it.
     """
-    wanted = max(LEAST, GROWTH * passed * share, READINGS * reading)
-    most = max(0.0, left * share * 0.9 - 2 * reading)
+    return within(max(LEAST, GROWTH * passed * share, READINGS * reading), MOST * left * share - 2 * reading)
+
+
+def long_round_seconds(passed, left, reading):
+    """How long a long round is to take: until the next of the times that are apart by the growth, of which the last is
+    the end, but for those that come too soon.
+    """
+    wanted, total = LONG_GROWTH * passed, passed + left
+    if passed and left and math.isfinite(total):
+        ends = math.floor(math.log(total / (passed + wanted / 2), 1 + LONG_GROWTH))
+        wanted = total / (1 + LONG_GROWTH) ** max(0, ends) - passed
+    return within(max(LEAST, wanted, READINGS * reading), LONG_MOST * left - 2 * reading)
+
+
+def within(wanted, most):
+    """The seconds that are wanted of a round, or the most that it may have, where too few would be left for another."""
     # (no round is left that is too short to be worth its reading)
-    return most if most < 1.5 * wanted else wanted
+    return max(0.0, most) if most < 1.5 * wanted else wanted
 
 
 class Pace:

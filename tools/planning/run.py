@@ -2,9 +2,9 @@
 
 What stands in the folder is judged, or else `solve` makes a plan and a certificate; where there is more than one
 processor the rest begins beside it. That is two lanes, which go on side by side, each in rounds: in one `improve` looks
-for better plans, with as many seeds as it has processors; in the other `bound` goes on with the certificate, on parts
-of the tree where the program knows parts. What comes of a round is believed once `check` has accepted it, and takes the
-place of what stood.
+for better plans, with as many seeds as it has processors, all of them but one in long rounds; in the other `bound` goes
+on with the certificate, on parts of the tree where the program knows parts. What comes of a round is believed once
+`check` has accepted it, and takes the place of what stood.
 
 A lane is a generator: it hands out the calls of programs that it waits for, and gets them back once they have ended.
 """
@@ -18,7 +18,7 @@ import time
 from planning import reports
 from planning.afresh import Afresh, calls_of
 from planning.folder import COMMON, SUMS
-from planning.pace import LEAST, MOST_TURNS, Pace, round_seconds
+from planning.pace import LEAST, MOST_TURNS, Pace, long_round_seconds, round_seconds
 from planning.reports import gap_of, gap_shown, is_accepted, says_no_plan, whole
 from planning.running import Task
 from planning.telling import BEAT, clock, standing
@@ -78,17 +78,26 @@ class Lane:
         self.value, self.gains = None, collections.deque(maxlen=LOOKED_AT)
 
     def note_gain(self, value, seconds):
-        """Notes what a round came to: the score or the bound that stands behind it. The first round only says where the
-        others begin, as it gains more than any other, by little work.
+        """Notes what a round came to: the score or the bound that stands behind it, and the seconds of all processors.
+        The first round only says where the others begin, as it gains more than any other, by little work.
         """
         if None not in (self.value, value):
-            self.gains.append((abs(value - self.value), seconds * max(1, self.slots)))
+            self.gains.append((abs(value - self.value), seconds))
         self.value = value
 
     def rate(self):
         """How much the last rounds gained in a second of a processor; None where there are none."""
         seconds = sum(it for _, it in self.gains)
         return sum(gain for gain, _ in self.gains) / seconds if seconds else None
+
+
+class Stream:
+    """Rounds of `improve` that come one after the other: its pace, whether they are long, and how many processors the
+    one that runs has.
+    """
+
+    def __init__(self, pace, is_long=False):
+        self.pace, self.is_long, self.slots = pace, is_long, 0
 
 
 class Tree:
@@ -121,17 +130,23 @@ class Run:
         self.score = self.bound = self.periods = None
         self.has_certificate = self.has_no_plan = False
         # (how long the last `check` took, and the shortest one, which is mostly that of the instance)
-        self.reading, self.least_reading, self.batches = 0.0, None, {}
+        self.reading, self.least_reading = 0.0, None
+        # (how long it took to put parts of a tree together, and what waits for processors)
+        self.joining, self.batches, self.paused = 0.0, {}, []
         self.began, self.before = time.monotonic(), float(folder.state["seconds"])
         self.improving = Lane("improve", Pace(FIRST_IMPROVE, 1), 1, words.jobs)
         self.bounding = Lane("bound", Pace(FIRST_BOUND, LEAST_BOUND), 1, words.jobs)
         self.tree = Tree(*folder.state.get("tree", ()))
         self.knows_parts, self.made = False, None
         self.solving, self.is_solving, self.afresh = Pace(SOLVE, SOLVE), False, Afresh()
-        for lane in (self.improving, self.bounding):
-            if lane.name in folder.state["turns"]:
-                lane.pace.turns, seconds = folder.state["turns"][lane.name]
-                lane.pace.took(seconds)
+        self.streams = [Stream(self.improving.pace)]
+        # (where there are machines, or no clock, a round has all processors)
+        if words.jobs > 1 and words.rounds is None and not machines:
+            self.streams.append(Stream(Pace(FIRST_IMPROVE, 1), is_long=True))
+        for name, pace in (("bound", self.bounding.pace), *(("improve", it.pace) for it in self.streams)):
+            if name in folder.state["turns"]:
+                pace.turns, seconds = folder.state["turns"][name]
+                pace.took(seconds)
 
     # What stands, and when it is over.
 
@@ -187,7 +202,7 @@ class Run:
         return self.folder.plan if self.score is not None else None
 
     def seed(self, number):
-        """The seed of a call: another one for each."""
+        """The seed of a call, by its number in a round: another one for each."""
         text = f"{self.words.seed} {self.folder.state['rounds']} {self.improving.rounds} {number}"
         return int.from_bytes(hashlib.sha256(text.encode()).digest()[:8], "big")
 
@@ -204,10 +219,14 @@ class Run:
                 self.count(task, task.kind)
                 if not any(id(it) in self.batches for it in batch):
                     self.advance(lane, batch)
+                    paused, self.paused = self.paused, []
+                    for other in paused:
+                        self.advance(other, None)
             self.show()
         for task in self.runner.stop():
             self.count(task, CUT_OFF if task.kind in STEPS else task.kind)
         self.batches.clear()
+        self.paused.clear()
 
     def count(self, task, kind):
         """Adds a call to those of its kind, and the seconds that it took of a processor to theirs."""
@@ -220,9 +239,14 @@ class Run:
             batch = lane.send(done)
         except StopIteration:
             return
+        if not batch:
+            self.paused.append(lane)
+            return
         for task in batch:
             self.batches[id(task)] = (lane, batch)
-        self.runner.add(batch, is_urgent=batch[0].kind in URGENT)
+        # (a call of a short round doesn't wait for those of a long one from nothing)
+        is_short = len(self.streams) > 1 and len(batch) == 1 and batch[0].kind == "improve"
+        self.runner.add(batch, is_urgent=is_short or batch[0].kind in URGENT)
 
     def show(self):
         running = {}
@@ -255,16 +279,18 @@ class Run:
             is_taken = True
         return is_taken
 
-    def end_round(self, step, turns, lane=None, done=()):
+    def end_round(self, step, turns, lane=None, done=(), stream=None):
         """Notes a round in the folder, and tells of it. The time of the calls `done` is what the next one goes by."""
         state, seconds = self.folder.state, round_seconds_of(done)
         state["rounds"] += 1
         if lane:
             lane.rounds += 1
         if seconds is not None:
-            lane.pace.took(seconds)
-            lane.note_gain(self.score if lane is self.improving else self.bound, seconds)
-            state["turns"][lane.name] = [lane.pace.turns, round(seconds, 3)]
+            pace, slots = (stream.pace, stream.slots) if stream else (lane.pace, lane.slots)
+            pace.took(seconds)
+            lane.note_gain(self.score if lane is self.improving else self.bound, seconds * max(1, slots))
+            if pace is lane.pace:
+                state["turns"][lane.name] = [pace.turns, round(seconds, 3)]
         state["tree"] = self.tree.kept()
         self.keep_state()
         known = lambda number: "" if number is None else number
@@ -416,12 +442,17 @@ class Run:
 
     # Better plans.
 
-    def improve(self):
+    def improve(self, stream):
+        """The rounds of a stream; while there are no processors for it, it waits for another round to end."""
         lane = self.improving
         while self.may_go_on(lane):
-            lane.slots = self.slots_for_plans(lane)
-            self.set_turns(lane)
-            done = yield from self.spread(lane, self.improve_tasks(lane))
+            stream.slots = self.slots_of(stream)
+            lane.slots = sum(it.slots for it in self.streams)
+            if not stream.slots:
+                yield []
+                continue
+            self.set_turns(lane, stream)
+            done = yield from self.spread(lane, self.improve_tasks(stream))
             self.note_failures(lane, done)
             for task in (it for it in done if it.kind == "solve"):
                 yield from self.take_solved(task)
@@ -430,33 +461,41 @@ class Run:
             if any(task.details.get("is_afresh") for task in made):
                 self.afresh.note(best is not None and best.details["is_afresh"])
             self.remove(done)
-            self.end_round("improve" if made else "solve", sum(task.turns for task in done), lane, made)
+            self.end_round("improve" if made else "solve", sum(task.turns for task in done), lane, made, stream)
 
-    def slots_for_plans(self, lane):
-        """How many processors the next round has: those that parts of the tree neither have nor are to get."""
+    def slots_of(self, stream):
+        """How many processors the next round of a stream has: all of the lane, or all but one where it is the long
+        one of two.
+        """
+        slots = self.slots_for_plans()
+        return slots if len(self.streams) == 1 else slots - 1 if stream.is_long else 1
+
+    def slots_for_plans(self):
+        """How many processors the lane is to have: those that parts of the tree neither have nor are to get."""
         others = 0 if self.bounding.is_at_rest else max(self.bounding.slots, self.wanted_parts())
-        return max(1, min(lane.most, self.words.jobs - others - self.is_solving))
+        return max(1, min(self.improving.most, self.words.jobs - others - self.is_solving))
 
-    def improve_tasks(self, lane):
+    def improve_tasks(self, stream):
         """Calls with different seeds, from the plan that stands and from none. While no plan stands, and `solve` found
         none either: one that looks for it, and one of `solve` with more turns than before, in turns where there is one
         processor.
         """
-        turns, given = lane.pace.turns, self.given("improve")
-        if self.score is None and self.is_solving:
-            count = 1 if self.machines else lane.slots
-            return [self.improve_task(number, number, given, turns) for number in range(1, count + 1)]
+        turns, slots, given = stream.pace.turns, stream.slots, self.given("improve")
+        numbered = lambda number: f"long-{number}" if stream.is_long else number
+        if self.score is None and (self.is_solving or stream.is_long):
+            count = 1 if self.machines else slots
+            return [self.improve_task(numbered(number), number, given, turns) for number in range(1, count + 1)]
         if self.score is None:
-            is_alone = lane.slots == 1
+            is_alone = slots == 1 and len(self.streams) == 1
             more = f"{self.name_of_round()}-2"
-            solves = [] if is_alone and lane.rounds % 2 else [self.solve(more, self.more_of_solve())]
+            solves = [] if is_alone and self.improving.rounds % 2 else [self.solve(more, self.more_of_solve())]
             return solves + ([] if is_alone and solves else [self.improve_task(1, 1, given, turns)])
-        count = lane.slots * (self.machines.count if self.machines else 1)
+        count = slots * (self.machines.count if self.machines else 1)
         afresh = self.afresh.take(count)
         calls = [(processor, given, turns) for processor in range(afresh, count)]
-        parts = self.calls_afresh(lane)
+        parts = self.calls_afresh(turns)
         calls += [(processor, "-", turns // parts) for _ in range(parts) for processor in range(afresh)]
-        return [self.improve_task(number, *call) for number, call in enumerate(calls, 1)]
+        return [self.improve_task(numbered(number), *call) for number, call in enumerate(calls, 1)]
 
     def name_of_round(self):
         return f"improve-{self.folder.state['rounds']}"
@@ -467,12 +506,13 @@ class Run:
         return self.refine("improve", given, place, turns, self.seed(number), out=place, turns=turns,
                            details={"processor": processor, "is_afresh": given == "-"})
 
-    def calls_afresh(self, lane):
-        """How many calls from no plan a processor makes in a round."""
+    def calls_afresh(self, turns):
+        """How many calls from no plan a processor makes in a round of so many turns: in a long one more of the same."""
         if self.machines or self.words.is_dry:
             return 1
-        seconds = None if self.words.rounds is not None else lane.pace.expected()
-        return calls_of(lane.pace.turns, seconds, self.least_reading)
+        pace = self.improving.pace
+        seconds = None if self.words.rounds is not None else pace.expected()
+        return max(1, turns * calls_of(pace.turns, seconds, self.least_reading) // pace.turns)
 
     def more_of_solve(self):
         """The turns of the next `solve`: MORE times as many, as far as there is time for them."""
@@ -602,7 +642,9 @@ class Run:
         yield [better]
         self.tell_failures([better])
         self.remove([task])
-        return (yield from self.take_bound(better))
+        is_taken = yield from self.take_bound(better)
+        self.joining = task.seconds + better.seconds + self.reading
+        return is_taken
 
     def take_bound(self, task):
         is_taken = False
@@ -626,8 +668,8 @@ class Run:
         for lane in (self.improving, self.bounding):
             lane.pace.next(self.left() if self.words.seconds is not None else LEAST, self.reading, MOST_TURNS)
         bounds = min(self.words.jobs // 2, max(1, self.tree.leaves // LEAVES_OF_PART) if self.knows_parts else 1)
-        self.improving.slots = self.words.jobs - bounds
-        tasks, given = self.improve_tasks(self.improving), self.given("improve")
+        self.streams[0].slots = self.words.jobs - bounds
+        tasks, given = self.improve_tasks(self.streams[0]), self.given("improve")
         common = self.folder.keep_in_work(self.folder.certificate, COMMON) if self.has_certificate else "-"
         if bounds > 1:
             tasks += [self.part(self.bounding, given, common, number, bounds) for number in range(bounds)]
@@ -640,13 +682,18 @@ class Run:
     def may_go_on(self, lane):
         return not (lane.is_at_rest or self.words.rounds is not None and lane.rounds >= self.words.rounds)
 
-    def set_turns(self, lane):
+    def set_turns(self, lane, stream=None):
+        pace, passed, left = (stream or lane).pace, self.before + self.passed(), self.left()
         if self.words.rounds is not None:
-            lane.pace.times(2)
+            pace.times(2)
             return
-        share = self.share(lane) if self.words.jobs == 1 else 1.0
-        passed = self.before + self.passed()
-        lane.pace.next(round_seconds(passed, self.left(), self.reading, share), self.reading)
+        if stream and stream.is_long:
+            seconds = long_round_seconds(passed, left, self.reading)
+        else:
+            # (behind a round of parts comes what puts them together)
+            reading = self.reading if lane is self.improving else max(self.reading, self.joining)
+            seconds = round_seconds(passed, left, reading, self.share(lane) if self.words.jobs == 1 else 1.0)
+        pace.next(seconds, self.reading)
 
     def share(self, lane):
         """The part of the processors, or with one of the time, that a lane is to have: by what the last rounds of both
