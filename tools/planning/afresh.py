@@ -7,8 +7,9 @@ brought a better one; where it didn't, half as many, but always some. Such a pro
 
 # The part of the processors that make such calls, at most and at least.
 MOST, LEAST = 0.5, 0.25
-# How many calls such a processor makes in a round, the least turns of each, and how many readings it takes at least.
-CALLS, LEAST_TURNS, READINGS = 8, 200, 20
+# How many calls such a processor makes in a round, and in a long one, for which they are about as long; the least turns
+# of each, and how many readings it takes at least.
+CALLS, LONG_CALLS, LEAST_TURNS, READINGS = 8, 20, 200, 20
 
 
 class Afresh:
@@ -29,11 +30,11 @@ class Afresh:
         self.part = MOST if is_better else max(LEAST, self.part / 2)
 
 
-def calls_of(turns, seconds, reading):
-    """Into how many calls a processor parts its turns. They are thought to take so many seconds, and reading the
-    instance takes so many; None where that isn't known.
+def calls_of(turns, seconds, reading, most=CALLS):
+    """Into how many calls a processor parts its turns, at most. They are thought to take so many seconds, and reading
+    the instance takes so many; None where that isn't known.
     """
-    most = min(CALLS, turns // LEAST_TURNS)
+    most = min(most, turns // LEAST_TURNS)
     if seconds is not None and reading is not None:
         most = min(most, int(seconds / (READINGS * reading)))
     return max(1, most)

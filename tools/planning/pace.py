@@ -11,7 +11,7 @@ import math
 # The least seconds of a round, what part of the time that has passed it is to take, and how many readings.
 LEAST, GROWTH, READINGS = 1.0, 0.5, 20
 # The same where others end in between.
-LONG_GROWTH = 1.5
+LONG_GROWTH = 2
 # What part of the time that is left a round gets at most, as it may take longer than it is thought to.
 MOST, LONG_MOST = 0.9, 0.8
 # How much more than before a round gets at most.

@@ -16,7 +16,7 @@ import sys
 import time
 
 from planning import reports
-from planning.afresh import Afresh, calls_of
+from planning.afresh import CALLS, LONG_CALLS, Afresh, calls_of
 from planning.folder import COMMON, SUMS
 from planning.pace import LEAST, MOST_TURNS, Pace, long_round_seconds, round_seconds
 from planning.reports import gap_of, gap_shown, is_accepted, says_no_plan, whole
@@ -28,8 +28,9 @@ SOLVE, MORE, FIRST_IMPROVE, FIRST_BOUND, LEAST_BOUND = 1000, 4, 200, 0, 100
 # Of how many rounds the gain of a lane is looked at, and the least part that each lane gets.
 LOOKED_AT, LEAST_SHARE = 2, 0.1
 JOIN = os.path.join(os.path.dirname(os.path.dirname(os.path.abspath(__file__))), "join")
-# How many leaves a part of a tree has at least, and how many price lists there can be.
-LEAVES_OF_PART, MOST_LISTS = 4, 16
+# How many leaves a part of a tree has at least, how many parts there are at least where `improve` wants processors, and
+# how many price lists there can be.
+LEAVES_OF_PART, LEAST_PARTS, MOST_LISTS = 4, 4, 16
 # What `bound` answers where it knows the words of a call of which there is no instance.
 NO_INSTANCE, UNREAD = os.path.join(os.devnull, "none"), 7
 # After how many rounds without any call that succeeded a lane is given up.
@@ -132,7 +133,7 @@ class Run:
         # (how long the last `check` took, and the shortest one, which is mostly that of the instance)
         self.reading, self.least_reading = 0.0, None
         # (how long it took to put parts of a tree together, and what waits for processors)
-        self.joining, self.batches, self.paused = 0.0, {}, []
+        self.joining, self.batches, self.paused, self.is_out_of_time = 0.0, {}, [], False
         self.began, self.before = time.monotonic(), float(folder.state["seconds"])
         self.improving = Lane("improve", Pace(FIRST_IMPROVE, 1), 1, words.jobs)
         self.bounding = Lane("bound", Pace(FIRST_BOUND, LEAST_BOUND), 1, words.jobs)
@@ -167,7 +168,7 @@ class Run:
             return "no plan keeps the rules"
         if self.gap() is not None and self.gap() <= self.words.gap:
             return f"the gap is {gap_shown(self.gap(), 2)} %"
-        if self.left() <= 0:
+        if self.left() <= 0 or self.is_out_of_time:
             return "the time is over"
         if self.improving.is_at_rest and self.bounding.is_at_rest and not self.is_solving:
             return "nothing more can be done"
@@ -223,6 +224,8 @@ class Run:
                     for other in paused:
                         self.advance(other, None)
             self.show()
+        # (lanes that wait beside none that runs wait for time)
+        self.is_out_of_time = bool(self.paused) and not self.batches
         for task in self.runner.stop():
             self.count(task, CUT_OFF if task.kind in STEPS else task.kind)
         self.batches.clear()
@@ -244,9 +247,7 @@ class Run:
             return
         for task in batch:
             self.batches[id(task)] = (lane, batch)
-        # (a call of a short round doesn't wait for those of a long one from nothing)
-        is_short = len(self.streams) > 1 and len(batch) == 1 and batch[0].kind == "improve"
-        self.runner.add(batch, is_urgent=is_short or batch[0].kind in URGENT)
+        self.runner.add(batch, is_urgent=batch[0].kind in URGENT)
 
     def show(self):
         running = {}
@@ -289,7 +290,9 @@ class Run:
             pace, slots = (stream.pace, stream.slots) if stream else (lane.pace, lane.slots)
             pace.took(seconds)
             lane.note_gain(self.score if lane is self.improving else self.bound, seconds * max(1, slots))
-            if pace is lane.pace:
+            # (by the clock the last rounds are short, as little time is left, and say little of the pace)
+            is_longest = self.words.rounds is not None or seconds >= state["turns"].get(lane.name, (0, 0.0))[1]
+            if pace is lane.pace and is_longest:
                 state["turns"][lane.name] = [pace.turns, round(seconds, 3)]
         state["tree"] = self.tree.kept()
         self.keep_state()
@@ -443,15 +446,14 @@ class Run:
     # Better plans.
 
     def improve(self, stream):
-        """The rounds of a stream; while there are no processors for it, it waits for another round to end."""
+        """The rounds of a stream; while there are no processors or no time for one, it waits for another to end."""
         lane = self.improving
         while self.may_go_on(lane):
             stream.slots = self.slots_of(stream)
             lane.slots = sum(it.slots for it in self.streams)
-            if not stream.slots:
+            if not (stream.slots and self.set_turns(lane, stream)):
                 yield []
                 continue
-            self.set_turns(lane, stream)
             done = yield from self.spread(lane, self.improve_tasks(stream))
             self.note_failures(lane, done)
             for task in (it for it in done if it.kind == "solve"):
@@ -481,38 +483,38 @@ class Run:
         processor.
         """
         turns, slots, given = stream.pace.turns, stream.slots, self.given("improve")
-        numbered = lambda number: f"long-{number}" if stream.is_long else number
         if self.score is None and (self.is_solving or stream.is_long):
             count = 1 if self.machines else slots
-            return [self.improve_task(numbered(number), number, given, turns) for number in range(1, count + 1)]
+            return [self.improve_task(stream, number, number, given, turns) for number in range(1, count + 1)]
         if self.score is None:
-            is_alone = slots == 1 and len(self.streams) == 1
-            more = f"{self.name_of_round()}-2"
-            solves = [] if is_alone and self.improving.rounds % 2 else [self.solve(more, self.more_of_solve())]
-            return solves + ([] if is_alone and solves else [self.improve_task(1, 1, given, turns)])
+            # (a long round beside it looks for a plan as well)
+            is_turn = self.improving.slots > 1 or self.improving.rounds % 2 == 0
+            solves = [self.solve(f"{self.name_of_round()}-2", self.more_of_solve())] if is_turn else []
+            return solves + ([] if solves and slots == 1 else [self.improve_task(stream, 1, 1, given, turns)])
         count = slots * (self.machines.count if self.machines else 1)
         afresh = self.afresh.take(count)
         calls = [(processor, given, turns) for processor in range(afresh, count)]
-        parts = self.calls_afresh(turns)
+        parts = self.calls_afresh(stream)
         calls += [(processor, "-", turns // parts) for _ in range(parts) for processor in range(afresh)]
-        return [self.improve_task(numbered(number), *call) for number, call in enumerate(calls, 1)]
+        return [self.improve_task(stream, number, *call) for number, call in enumerate(calls, 1)]
 
     def name_of_round(self):
         return f"improve-{self.folder.state['rounds']}"
 
-    def improve_task(self, number, processor, given, turns):
+    def improve_task(self, stream, number, processor, given, turns):
         """A call of a round, by its number, on one of the processors of the round."""
+        number = f"long-{number}" if stream.is_long else number
         place = os.path.join(self.folder.work, f"{self.name_of_round()}-{number}.plan")
         return self.refine("improve", given, place, turns, self.seed(number), out=place, turns=turns,
+                           line=(stream.is_long, processor),
                            details={"processor": processor, "is_afresh": given == "-"})
 
-    def calls_afresh(self, turns):
-        """How many calls from no plan a processor makes in a round of so many turns: in a long one more of the same."""
+    def calls_afresh(self, stream):
+        """How many calls from no plan a processor makes in a round."""
         if self.machines or self.words.is_dry:
             return 1
-        pace = self.improving.pace
-        seconds = None if self.words.rounds is not None else pace.expected()
-        return max(1, turns * calls_of(pace.turns, seconds, self.least_reading) // pace.turns)
+        seconds = None if self.words.rounds is not None else stream.pace.expected()
+        return calls_of(stream.pace.turns, seconds, self.least_reading, LONG_CALLS if stream.is_long else CALLS)
 
     def more_of_solve(self):
         """The turns of the next `solve`: MORE times as many, as far as there is time for them."""
@@ -555,7 +557,9 @@ class Run:
         old = self.certificate() if lane.pace.seconds is not None else None
         while self.may_go_on(lane):
             count = self.parts_for(lane)
-            self.set_turns(lane)
+            if not self.set_turns(lane):
+                yield []
+                continue
             is_taken = yield from (self.raise_parts(lane, count) if count > 1 else self.raise_whole(lane, old))
             if old and lane.pace.turns and not is_taken and self.made == 0:
                 lane.is_at_rest = True
@@ -585,14 +589,17 @@ class Run:
 
     def wanted_parts(self):
         """How many processors are to have parts of the tree, on each machine: the share of the lane, where the tree is
-        large enough. With 0 the tree can't be parted.
+        large enough, and where they are so many that putting parts together is worth it, or would have nothing else to
+        do. With 0 the tree can't be parted.
         """
         machines, lane = self.machines.count if self.machines else 1, self.bounding
         if not (self.knows_parts and not self.tree.is_growing and self.has_certificate):
             return 0
         most = self.words.jobs if self.improving.is_at_rest else max(1, self.words.jobs - 1)
-        return min(lane.most, most, max(1, round(self.words.jobs * self.share(lane))),
-                   self.tree.leaves // (LEAVES_OF_PART * machines))
+        count = min(lane.most, most, max(1, round(self.words.jobs * self.share(lane))),
+                    self.tree.leaves // (LEAVES_OF_PART * machines))
+        is_worth = count >= LEAST_PARTS or machines > 1 or self.improving.is_at_rest
+        return count if is_worth else min(1, count)
 
     def raise_whole(self, lane, old):
         """A round on the whole tree; answers whether its bound is better."""
@@ -668,7 +675,7 @@ class Run:
         for lane in (self.improving, self.bounding):
             lane.pace.next(self.left() if self.words.seconds is not None else LEAST, self.reading, MOST_TURNS)
         bounds = min(self.words.jobs // 2, max(1, self.tree.leaves // LEAVES_OF_PART) if self.knows_parts else 1)
-        self.streams[0].slots = self.words.jobs - bounds
+        self.improving.slots = self.streams[0].slots = self.words.jobs - bounds
         tasks, given = self.improve_tasks(self.streams[0]), self.given("improve")
         common = self.folder.keep_in_work(self.folder.certificate, COMMON) if self.has_certificate else "-"
         if bounds > 1:
@@ -683,17 +690,20 @@ class Run:
         return not (lane.is_at_rest or self.words.rounds is not None and lane.rounds >= self.words.rounds)
 
     def set_turns(self, lane, stream=None):
+        """Sets the turns of the next round; answers whether there is time for one."""
         pace, passed, left = (stream or lane).pace, self.before + self.passed(), self.left()
         if self.words.rounds is not None:
             pace.times(2)
-            return
-        if stream and stream.is_long:
-            seconds = long_round_seconds(passed, left, self.reading)
+            return True
+        # (behind a round of parts comes what puts them together)
+        reading = self.reading if lane is self.improving else max(self.reading, self.joining)
+        if stream.is_long if stream else len(self.streams) > 1:
+            seconds = long_round_seconds(passed, left, reading)
         else:
-            # (behind a round of parts comes what puts them together)
-            reading = self.reading if lane is self.improving else max(self.reading, self.joining)
             seconds = round_seconds(passed, left, reading, self.share(lane) if self.words.jobs == 1 else 1.0)
-        pace.next(seconds, self.reading)
+        if seconds > 0:
+            pace.next(seconds, self.reading)
+        return seconds > 0 or pace.seconds is None
 
     def share(self, lane):
         """The part of the processors, or with one of the time, that a lane is to have: by what the last rounds of both

@@ -26,7 +26,8 @@ NOT_STARTED = 127
 @dataclass
 class Task:
     """A call of a program: what it is for, its words, the file that it writes, and once it has ended its status (below
-    0: the signal), what it said, and the seconds that it took, of the clock and of a processor.
+    0: the signal), what it said, and the seconds that it took, of the clock and of a processor. Of the calls of a line
+    one runs at a time.
     """
 
     kind: str
@@ -38,6 +39,7 @@ class Task:
     seconds: float = 0.0
     processor: float = 0.0
     slots: int = 1
+    line: Optional[tuple] = None
     details: dict = field(default_factory=dict)
 
 
@@ -66,8 +68,16 @@ class Runner:
 
     def start_waiting(self):
         """Starts what there are processors for."""
-        while self.waiting and (not self.running or self.used() + self.waiting[0].slots <= self.jobs):
-            self.start(self.waiting.pop(0))
+        while (at := self.next_at()) is not None:
+            self.start(self.waiting.pop(at))
+
+    def next_at(self):
+        """Which of those that wait starts next: the first of which no call of its line runs, once there is room."""
+        taken = {task.line for task, *_ in self.running.values()} - {None}
+        for at, task in enumerate(self.waiting):
+            if task.line not in taken:
+                return at if not self.running or self.used() + task.slots <= self.jobs else None
+        return None
 
     def used(self):
         return sum(task.slots for task, *_ in self.running.values())
