@@ -18,7 +18,12 @@ pub(crate) fn read_drawn(alloc: Global, seed: u64, count: u32) -> Result<Instanc
 {
     drawn_texts_are_read();
     let text = generate(alloc, seed, count)?;
-    match read_instance(alloc, &Limits::standard(), Fixed::zero(), text.as_slice()) {
+    match read_instance(
+        alloc,
+        &Limits::standard(),
+        Fixed::zero(),
+        text.as_str().as_bytes(),
+    ) {
         Ok(inst) => Ok(inst),
         Err(InstanceFault::Memory) => Err(AllocError),
         Err(_) => unreachable!(),

@@ -23,7 +23,7 @@ fn numbered_name(alloc: Global, letter: &str, number: u32) -> Result<String, All
 
 /// A letter and the numbers from 1 to `n`.
 fn numbered_names(alloc: Global, letter: &str, n: u32) -> Result<TextSet, AllocError>
-    ensures { IfOk result (λ names. map string_bytes names.texts.items ≡ numbered_names letter.now n) }
+    ensures { IfOk result (λ names. map string_bytes names.texts.keys ≡ numbered_names letter.now n) }
 {
     let mut names = TextSet::new(alloc);
     for k in 0..n {
@@ -109,12 +109,12 @@ struct NameSets {
 
 fn all_names(alloc: Global, n: u32) -> Result<NameSets, AllocError>
     ensures resources { IfOk result
-        (λ names. map string_bytes names.resources.texts.items ≡ numbered_names (codes "c") 2) }
-    ensures seasons { IfOk result (λ names. map string_bytes names.seasons.texts.items ≡ numbered_names (codes "s") 2) }
+        (λ names. map string_bytes names.resources.texts.keys ≡ numbered_names (codes "c") 2) }
+    ensures seasons { IfOk result (λ names. map string_bytes names.seasons.texts.keys ≡ numbered_names (codes "s") 2) }
     ensures interventions { IfOk result
-        (λ names. map string_bytes names.interventions.texts.items ≡ numbered_names (codes "I") n) }
+        (λ names. map string_bytes names.interventions.texts.keys ≡ numbered_names (codes "I") n) }
     ensures exclusions { IfOk result
-        (λ names. map string_bytes names.exclusions.texts.items ≡ numbered_names (codes "E") (n / 4)) }
+        (λ names. map string_bytes names.exclusions.texts.keys ≡ numbered_names (codes "E") (n / 4)) }
 {
     Ok(NameSets {
         resources: numbered_names(alloc, "c", 2)?,

@@ -10,8 +10,8 @@ use Rattle.instance_model.specs.Tables.{Tables, tmax, entries_before}
 -- the parts as tables
 abbrev pub tables_of : Parts → Tables
 tables_of p =
-    field_tables p.periods p.alpha p.quantile p.scenarios.items p.resources.texts.items p.upper.items p.lower.items
-    p.seasons.texts.items p.in_season.items p.interventions.texts.items p.delta.items p.exclusions.texts.items
+    field_tables p.periods p.alpha p.quantile p.scenarios.items p.resources.texts.keys p.upper.items p.lower.items
+    p.seasons.texts.keys p.in_season.items p.interventions.texts.keys p.delta.items p.exclusions.texts.keys
     p.excluded.items p.loads.items p.risks p.rounded
 
 -- the lists in a list of vectors

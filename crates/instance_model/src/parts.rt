@@ -50,7 +50,7 @@ pub struct Parts {
     pub risks: RunRisks,
     /// How many numbers of the file were changed by rounding.
     pub rounded: u64,
-    ghost suits: { SuitRuns (field_tables periods alpha quantile scenarios.items resources.texts.items upper.items
-        lower.items seasons.texts.items in_season.items interventions.texts.items delta.items exclusions.texts.items
+    ghost suits: { SuitRuns (field_tables periods alpha quantile scenarios.items resources.texts.keys upper.items
+        lower.items seasons.texts.keys in_season.items interventions.texts.keys delta.items exclusions.texts.keys
         excluded.items loads.items risks rounded) risks } by { SuitRuns-prop _ risks },
 }

@@ -5,12 +5,15 @@ use Rattle.std.specs.Prelude.{string_eq, if◌then◌else◌}
 use Rattle.std.specs.List.{list_any}
 use Rattle.std.specs.declared.string.String.{String}
 use Rattle.std.proofs.lemmas.List.{map-append}
+use Rattle.std.proofs.lemmas.List.Sums.{fold-append}
+use Rattle.indexmap.specs.IndexSet.{insert_key, insert_all}
 use Rattle.json_grammar.specs.Tree.{Event, key}
 use Rattle.instance_shape.specs.declared.spot.Spot.{Spot}
 use Rattle.instance_shape.specs.declared.spot.Spot.TheVariants as spot
 use Rattle.instance_shape.specs.Shape.{kind_of}
 use Rattle.shape_walk.specs.declared.taken.Read.{Read}
 use Rattle.shape_walk.specs.Reads.{read_of_key}
+use Rattle.instance_read.specs.Keepers.{names_kept}
 use Rattle.instance_read.specs.Keeping.{Kept, with_name, keep_rows, keep_read}
 
 -- a text that is none of an exclusion's is kept as a number is
@@ -43,7 +46,7 @@ has_name [] k = refl
 has_name (j ∷ ks) k = ap (λ b. string_eq k j || b) (has_name ks k)
 
 -- what a set of texts holds with one more
-pub name_added : {Y : Type 0} (ks : List (String Y)) (k : String Y)
+name_added : {Y : Type 0} (ks : List (String Y)) (k : String Y)
     → map string_bytes (if list_any (string_eq k) ks then ks else ks ++ k ∷ [])
     ≡ with_name (string_bytes k) (map string_bytes ks)
 name_added ks k =
@@ -54,3 +57,9 @@ name_added ks k =
         ≡ cond b (map string_bytes ks) (map string_bytes ks ++ string_bytes k ∷ [])
     by true = refl
     by false = map-append string_bytes ks (k ∷ [])
+
+-- what names become with one more
+pub name_kept : {Y : Type 0} (ks : List (String Y)) (k : String Y)
+    → names_kept (ks ++ k ∷ []) ≡ with_name (string_bytes k) (names_kept ks)
+name_kept ks k =
+    ap (map string_bytes) (fold-append (insert_key string_eq) [] ks (k ∷ [])) ∙ name_added (insert_all string_eq [] ks) k

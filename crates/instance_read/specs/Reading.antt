@@ -1,5 +1,5 @@
 -- What a reading of an instance answers.
-use Rattle.std.specs.Prelude.{◌≡◌, ◌⊎◌, ℕ, ◌+◌, ◌^◌, ◌<◌, ◌≤◌, List, [], drop, length, Result, Ok, Err, IfSome}
+use Rattle.std.specs.Prelude.{◌≡◌, ◌⊎◌, ℕ, ◌+◌, ◌^◌, ◌<◌, ◌≤◌, false, List, [], drop, length, Result, Ok, Err, IfSome}
 use Rattle.plan_desk.specs.Desk.{Shown, Fault, ShowsSame, after_take_in, after_failed_take_in}
 use Rattle.plan_desk.specs.Faults.{FailsOnce}
 use Rattle.plan_desk.specs.Contents.{WhereToldHolds, HoldsBytes}
@@ -49,7 +49,7 @@ StopsAt name limit old new fault = ((fault ≡ stream.Failed) × ShowsSame new (
 
 -- `Failed` comes only of one call that failed, and the last fault, where told, is such a one; no other answer of any
 abbrev pub CountsStreamFault : {T : Type 0} → (old new : Shown) (Own : Fault → Type 0) → Result T StreamFault → Type 0
-CountsStreamFault old new Own (Err stream.Failed) = FailsOnce Own old new
+CountsStreamFault old new Own (Err stream.Failed) = FailsOnce false Own old new
 CountsStreamFault old new Own (Err stream.TooLong) = new.faults ≡ old.faults
 CountsStreamFault old new Own (Err (stream.Text fault)) = new.faults ≡ old.faults
 CountsStreamFault old new Own (Err stream.Memory) = new.faults ≡ old.faults

@@ -32,9 +32,12 @@ pub fn build(
 {
     match walk.fault() {
         Some(fault) => Err(of_shape(fault)),
-        None => match assemble(alloc, keeper.take_rows(), slack) {
-            Ok(instance) => Ok(instance),
-            Err(fault) => Err(of_rows(fault)),
-        },
+        None => {
+            let rows = keeper.take_rows()?;
+            match assemble(alloc, rows, slack) {
+                Ok(instance) => Ok(instance),
+                Err(fault) => Err(of_rows(fault)),
+            }
+        }
     }
 }

@@ -1,6 +1,6 @@
 //! What is kept of a text, event by event.
 
-ghost use Rattle.std.specs.Prelude.{◌≡◌, ◌+◌, ℕ, List, cond, false, map, string_bytes, OnOk};
+ghost use Rattle.std.specs.Prelude.{◌≡◌, ◌+◌, ℕ, List, cond, false, IfOk, OnOk};
 ghost use Rattle.json_grammar.specs.Tree as json;
 ghost use Rattle.json_grammar.specs.Events.{event_view};
 ghost use Rattle.instance_rows.specs.Views.{rows_view};
@@ -14,6 +14,7 @@ ghost use Rattle.instance_read.specs.Keeping as spec;
 ghost use Rattle.instance_read.specs.Keepers.{kept_of};
 
 use crate::empty::{no_bands, no_rows, no_work, no_workload};
+use crate::name_lists::{Names, add_name, no_names};
 use fixed_num::Fixed;
 use instance_rows::{Bands, FileRows, Load, Work, Workload};
 use instance_shape::Spot;
@@ -27,7 +28,9 @@ use std::mem;
 #[derive(Drop)]
 pub struct Keeper {
     alloc: Global,
+    /// What is closed, without the names.
     rows: FileRows,
+    names: Names,
     /// The resource that is open.
     bands: Bands,
     /// The numbers of its band that is open.
@@ -54,6 +57,7 @@ impl Keeper {
         Keeper {
             alloc,
             rows: no_rows(alloc),
+            names: no_names(alloc),
             bands: no_bands(alloc),
             numbers: Vec::new(alloc),
             season: Vec::new(alloc),
@@ -65,11 +69,17 @@ impl Keeper {
         }
     }
 
-    /// Hands out the rows that are filled.
-    pub fn take_rows(&mut self) -> FileRows
-        ensures { rows_view result ≡ spec.rows_kept (kept_of self.old) }
+    /// Hands out the rows that are filled. The names of a kind become a set only now that all of them are known.
+    pub fn take_rows(&mut self) -> Result<FileRows, AllocError>
+        ensures { IfOk result (λ rows. rows_view rows ≡ spec.rows_kept (kept_of self.old)) }
     {
-        mem::replace(&mut self.rows, no_rows(self.alloc))
+        let mut rows = mem::replace(&mut self.rows, no_rows(self.alloc));
+        let names = mem::replace(&mut self.names, no_names(self.alloc));
+        rows.resources = TextSet::from_vec(self.alloc, names.resources)?;
+        rows.seasons = TextSet::from_vec(self.alloc, names.seasons)?;
+        rows.interventions = TextSet::from_vec(self.alloc, names.interventions)?;
+        rows.exclusions = TextSet::from_vec(self.alloc, names.exclusions)?;
+        Ok(rows)
     }
 
     /// Takes the next event of a text, with its spot and what was read of it.
@@ -281,10 +291,10 @@ impl Keeper {
             → OnOk result (kept_of self.new ≡ spec.keep_rows spot (json.key at end text) read.now (kept_of self.old)) }
     {
         match spot {
-            Spot::Resources => add_name(&mut self.rows.resources, text.into_string()),
-            Spot::Seasons => add_name(&mut self.rows.seasons, text.into_string()),
-            Spot::Interventions => add_name(&mut self.rows.interventions, text.into_string()),
-            Spot::Exclusions => add_name(&mut self.rows.exclusions, text.into_string()),
+            Spot::Resources => add_name(&mut self.names.resources, text.into_string()),
+            Spot::Seasons => add_name(&mut self.names.seasons, text.into_string()),
+            Spot::Interventions => add_name(&mut self.names.interventions, text.into_string()),
+            Spot::Exclusions => add_name(&mut self.names.exclusions, text.into_string()),
             Spot::Workload => {
                 self.workload.resource = text.into_string();
                 Ok(())
@@ -358,16 +368,6 @@ impl Keeper {
             _ => Ok(()),
         }
     }
-}
-
-/// Adds a name, if it is none of those that are there.
-fn add_name(names: &mut TextSet, name: String) -> Result<(), AllocError>
-    ensures { OnOk result
-        (map string_bytes names.new.texts.items
-        ≡ spec.with_name (string_bytes name) (map string_bytes names.old.texts.items)) }
-{
-    names.add(name)?;
-    Ok(())
 }
 
 /// The whole number that was read, if there is one, or an older one.

@@ -6,6 +6,7 @@ mod empty;
 mod fault;
 mod follow;
 mod keeper;
+mod name_lists;
 mod part_faults;
 mod pieces;
 mod read;

@@ -34,13 +34,13 @@ rows_view r = record {
   alpha = r.alpha;
   quantile = r.quantile;
   scenarios = r.scenarios.items;
-  resources = map string_bytes r.resources.texts.items;
+  resources = map string_bytes r.resources.texts.keys;
   bands = map band_view r.bands.items;
-  seasons = map string_bytes r.seasons.texts.items;
+  seasons = map string_bytes r.seasons.texts.keys;
   season_periods = map (λ v. v.items) r.season_periods.items;
-  interventions = map string_bytes r.interventions.texts.items;
+  interventions = map string_bytes r.interventions.texts.keys;
   works = map work_view r.works.items;
-  exclusions = map string_bytes r.exclusions.texts.items;
+  exclusions = map string_bytes r.exclusions.texts.keys;
   exclusion_words = map (λ v. map string_bytes v.items) r.exclusion_words.items;
   rounded = r.rounded;
 }

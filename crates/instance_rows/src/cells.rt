@@ -24,12 +24,12 @@ pub fn load_cells(
 ) -> Result<Vec<LoadCell>, AllocError>
     requires periods { periods ≤ 512 }
     requires starts { length durations.now ≤ 512 }
-    requires few { length resources.now.texts.items ≤ 1024 }
-    requires names { AllPairs (λ a b. a ≢ b) (map string_bytes resources.now.texts.items) }
+    requires few { length resources.now.texts.keys ≤ 1024 }
+    requires names { AllPairs (λ a b. a ≢ b) (map string_bytes resources.now.texts.keys) }
     requires apart { AreWorkloadsApart (map workload_view workloads.now) }
     ensures { IfOk result
         (λ v. v.items
-        ≡ table.each_run periods durations.now (table.cells_at (map string_bytes resources.now.texts.items)
+        ≡ table.each_run periods durations.now (table.cells_at (map string_bytes resources.now.texts.keys)
         (map workload_view workloads.now))) }
 {
     let mut cells = all_cells(alloc, periods, durations, resources, workloads)?;
@@ -47,10 +47,10 @@ fn all_cells(
 ) -> Result<Vec<LoadCell>, AllocError>
     requires periods { periods ≤ 512 }
     requires starts { length durations.now ≤ 512 }
-    requires few { length resources.now.texts.items ≤ 1024 }
+    requires few { length resources.now.texts.keys ≤ 1024 }
     ensures { IfOk result
         (λ v. v.items
-        ≡ all_kept periods durations.now (map string_bytes resources.now.texts.items)
+        ≡ all_kept periods durations.now (map string_bytes resources.now.texts.keys)
         (map workload_view workloads.now)) }
 {
     let mut cells = Vec::new(alloc);

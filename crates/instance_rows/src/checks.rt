@@ -72,8 +72,8 @@ pub fn check_workloads(
     resources: &TextSet,
     workloads: &[Workload],
 ) -> Result<(), RowsFault>
-    requires { length resources.now.texts.items ≤ 1024 }
-    ensures { Tells (first_in (fault.workload_fault (map string_bytes resources.now.texts.items))
+    requires { length resources.now.texts.keys ≤ 1024 }
+    ensures { Tells (first_in (fault.workload_fault (map string_bytes resources.now.texts.keys))
         (map workload_view workloads.now)) result }
 {
     for workload in workloads {

@@ -34,12 +34,12 @@ pub fn work_tables(
     mut orders: Vec<Vec<usize>>,
 ) -> Result<WorkTables, AllocError>
     requires few { periods ≤ 512 }
-    requires few_resources { length resources.now.texts.items ≤ 1024 }
-    requires names { AllPairs (λ a b. a ≢ b) (map string_bytes resources.now.texts.items) }
+    requires few_resources { length resources.now.texts.keys ≤ 1024 }
+    requires names { AllPairs (λ a b. a ≢ b) (map string_bytes resources.now.texts.keys) }
     requires ready { All (λ w. IsReady periods w) (map work_view works.items) }
     requires orders { map (λ o. o.items) orders.items ≡ map (λ w. order_of periods (work_view w)) works.items }
     ensures { IfOk result
-        (AreTablesOf periods (map string_bytes resources.now.texts.items) (map work_view works.items)) }
+        (AreTablesOf periods (map string_bytes resources.now.texts.keys) (map work_view works.items)) }
 {
     let mut tables = WorkTables {
         delta: Vec::with_capacity(alloc, works.len())?,
@@ -63,13 +63,13 @@ fn add_work(
     tables: &mut WorkTables,
 ) -> Result<(), AllocError>
     requires few { periods ≤ 512 }
-    requires few_resources { length resources.now.texts.items ≤ 1024 }
-    requires names { AllPairs (λ a b. a ≢ b) (map string_bytes resources.now.texts.items) }
+    requires few_resources { length resources.now.texts.keys ≤ 1024 }
+    requires names { AllPairs (λ a b. a ≢ b) (map string_bytes resources.now.texts.keys) }
     requires ready { IsReady periods (work_view work) }
     requires order { order.items ≡ order_of periods (work_view work) }
-    ensures { (works : List WorkRow) → AreTablesOf periods (map string_bytes resources.now.texts.items) works tables.old
+    ensures { (works : List WorkRow) → AreTablesOf periods (map string_bytes resources.now.texts.keys) works tables.old
         → OnOk result
-        (AreTablesOf periods (map string_bytes resources.now.texts.items) (works ++ work_view work ∷ []) tables.new) }
+        (AreTablesOf periods (map string_bytes resources.now.texts.keys) (works ++ work_view work ∷ []) tables.new) }
 {
     let mut durations = work.durations;
     durations.truncate(work.tmax as usize);

@@ -11,10 +11,10 @@ use std::alloc::Global;
 
 /// The number of a name among some names, from 0. A fault: it is none of them.
 pub fn number_of(alloc: Global, names: &TextSet, name: &str) -> Result<u32, RowsFault>
-    requires { length names.now.texts.items ≤ 1024 }
-    ensures told { Tells (unless (is_among (map string_bytes names.now.texts.items) name.now) (unknown name.now))
+    requires { length names.now.texts.keys ≤ 1024 }
+    ensures told { Tells (unless (is_among (map string_bytes names.now.texts.keys) name.now) (unknown name.now))
         result }
-    ensures value { IfOk result (λ n. n ≡ number_among (map string_bytes names.now.texts.items) name.now) }
+    ensures value { IfOk result (λ n. n ≡ number_among (map string_bytes names.now.texts.keys) name.now) }
 {
     match names.index_of(name) {
         Some(number) => Ok(number as u32),

@@ -1,4 +1,3 @@
 mod Apart
 mod KeyMarks
 mod MoreKeys
-mod Places

@@ -2,6 +2,7 @@
 #![tactic(auto)]
 
 mod added;
+mod hashes;
 mod keys;
 mod numbers;
 #[cfg(test)]
@@ -9,6 +10,7 @@ mod tests;
 mod texts;
 
 pub use added::Added;
+pub use hashes::TextHashes;
 pub use keys::KeySet;
 pub use numbers::NumberSet;
 pub use texts::TextSet;

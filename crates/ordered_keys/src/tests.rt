@@ -23,6 +23,20 @@ fn texts_are_found_where_they_were_added(rt: HostRuntime) -> Result<(), Fail> {
 }
 
 #[test]
+fn texts_of_a_list_stand_where_they_come_first(rt: HostRuntime) -> Result<(), Fail> {
+    let mut list = Vec::new(rt.alloc());
+    for text in ["south", "north", "south", ""] {
+        list.push(String::from_str(rt.alloc(), text)?)?;
+    }
+    let texts = TextSet::from_vec(rt.alloc(), list)?;
+    assert_eq!(rt; texts.len(), 3);
+    assert_eq!(rt; texts.as_slice()[2].as_str(), "");
+    assert_eq!(rt; texts.index_of("north"), Some(1));
+    assert_eq!(rt; texts.index_of("nort"), None);
+    Ok(())
+}
+
+#[test]
 fn keys_come_once(rt: HostRuntime) -> Result<(), Fail> {
     let mut keys = KeySet::new(rt.alloc());
     for (key, new) in [

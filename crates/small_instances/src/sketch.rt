@@ -67,7 +67,7 @@ impl<'a> Model for Sketch<'a> {
 
 /// The first of three names.
 fn names(alloc: Global, count: usize) -> Result<TextSet, AllocError>
-    ensures { IfOk result (λ names. map string_bytes names.texts.items ≡ names_of count) }
+    ensures { IfOk result (λ names. map string_bytes names.texts.keys ≡ names_of count) }
 {
     let mut names = TextSet::new(alloc);
     if count == 0 {
@@ -154,11 +154,11 @@ struct NameSets {
 
 fn all_names(alloc: Global, sketch: &Sketch) -> Result<NameSets, AllocError>
     ensures resources { IfOk result
-        (λ names. map string_bytes names.resources.texts.items ≡ sketch.now.resource_names) }
-    ensures seasons { IfOk result (λ names. map string_bytes names.seasons.texts.items ≡ sketch.now.season_names) }
-    ensures interventions { IfOk result (λ names. map string_bytes names.interventions.texts.items ≡ sketch.now.names) }
+        (λ names. map string_bytes names.resources.texts.keys ≡ sketch.now.resource_names) }
+    ensures seasons { IfOk result (λ names. map string_bytes names.seasons.texts.keys ≡ sketch.now.season_names) }
+    ensures interventions { IfOk result (λ names. map string_bytes names.interventions.texts.keys ≡ sketch.now.names) }
     ensures exclusions { IfOk result
-        (λ names. map string_bytes names.exclusions.texts.items ≡ sketch.now.exclusion_names) }
+        (λ names. map string_bytes names.exclusions.texts.keys ≡ sketch.now.exclusion_names) }
 {
     Ok(NameSets {
         resources: names(alloc, sketch.resources)?,

@@ -21,9 +21,8 @@ use std::test::Fail;
 const LEAST: i128 = -1_000_000_000_000_000_000_000_000_000_000_000_000;
 
 /// The text of the instance of 20 interventions that the number 7 draws.
-fn instance_text(alloc: Global) -> Result<String, Fail> {
-    let text = generate(alloc, 7, 20)?;
-    Ok(String::from_str(alloc, str::from_utf8(text.as_slice())?)?)
+fn instance_text(alloc: Global) -> Result<String, AllocError> {
+    Ok(generate(alloc, 7, 20)?.into_string())
 }
 
 /// What each start of each intervention adds to a score by its mean.

@@ -10,6 +10,6 @@ loop-k-init c = ap (map string_bytes) c.new-names.ensures
 pub loop-k-preserved : goal.loop-k-preserved
 loop-k-preserved c =
     ap (map string_bytes) c.in_ok-add.ensures.texts
-    ∙ name_added c.loop-k.names.texts.items c.in_ok-name.name c.args.letter.now c.loop-k.k (omega arith)
+    ∙ name_added c.loop-k.names.texts.keys c.in_ok-name.name c.args.letter.now c.loop-k.k (omega arith)
     c.loop-k.invariant
     c.in_ok-name.ensures

@@ -17,9 +17,9 @@ returns c =
     let levels = c.in_ok-levels.levels in
     record {
       tables = tables_from c.args.seed c.args.n drawn levels.scenarios.items
-          (map string_bytes names.resources.texts.items)
-          (map string_bytes names.seasons.texts.items) (map string_bytes names.interventions.texts.items)
-          (map string_bytes names.exclusions.texts.items) levels.upper.items levels.lower.items levels.in_season.items
+          (map string_bytes names.resources.texts.keys)
+          (map string_bytes names.seasons.texts.keys) (map string_bytes names.interventions.texts.keys)
+          (map string_bytes names.exclusions.texts.keys) levels.upper.items levels.lower.items levels.in_season.items
           levels.excluded.items c.in_ok-soft.soft.items (c.draws.view_is ∙ c.in_ok-draws.ensures)
           c.in_ok-levels.ensures.scenarios c.in_ok-names.ensures.resources c.in_ok-names.ensures.seasons
           c.in_ok-names.ensures.interventions c.in_ok-names.ensures.exclusions c.in_ok-levels.ensures.upper

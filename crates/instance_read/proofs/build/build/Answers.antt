@@ -1,9 +1,12 @@
 use Rattle.std.proofs.Common.{◌≡◌, ℕ, List, [], None, sym, ◌∙◌}
 use Rattle.json_laws.proofs.Ascending.{events_ascend}
 use Rattle.instance_model.specs.declared.limits.Limits.{Limits}
-use Rattle.instance_rows.specs.Views.{AreRowsOf}
+use Rattle.instance_rows.specs.Views.{AreRowsOf, rows_view}
+use Rattle.instance_rows.specs.declared.rows.FileRows.{FileRows}
 use Rattle.instance_shape.specs.Ranges.{AreStandard}
 use Rattle.instance_shape.specs.ShapeFaults.{shape_faults}
+use Rattle.instance_read.specs.Keepers.{kept_of}
+use Rattle.instance_read.specs.Keeping.{rows_kept}
 use Rattle.instance_read.specs.Readers.{HaveEnded}
 use Rattle.instance_read.proofs.Building.{rows_are, tells_across}
 use Rattle.instance_read.proofs.build.build.Goals as goal
@@ -15,12 +18,12 @@ shaped : (c : After-take_rows) (limits : Limits) (bytes : List ℕ) (h : HaveEnd
 shaped c limits bytes h =
     (c.fault.ensures.none limits h.root (events_ascend bytes h.root h.text.text) h.taken.stands).0 c.in-None.is
 
-rows : (c : After-take_rows) (limits : Limits) (bytes : List ℕ) (h : HaveEnded limits c.args.walk.now c.args.keeper.now
-    bytes) → AreStandard limits → AreRowsOf limits h.root c.take_rows.result
-rows c limits bytes h s =
+rows : (c : After-take_rows) (taken : FileRows) → rows_view taken ≡ rows_kept (kept_of c.args.keeper.now)
+    → (limits : Limits) (bytes : List ℕ) (h : HaveEnded limits c.args.walk.now c.args.keeper.now bytes)
+    → AreStandard limits → AreRowsOf limits h.root taken
+rows c taken same limits bytes h s =
     let none : c.args.walk.now.fault ≡ None = sym c.fault.ensures.same ∙ c.in-None.is in
-    rows_are limits bytes c.args.walk.now c.args.keeper.now c.take_rows.result h s none
-    (shaped c limits bytes h) c.take_rows.ensures
+    rows_are limits bytes c.args.walk.now c.args.keeper.now taken h s none (shaped c limits bytes h) same
 
 pub assemble-requires-clause-rows : goal.assemble-requires-clause-rows
 assemble-requires-clause-rows c =
@@ -28,7 +31,8 @@ assemble-requires-clause-rows c =
       h.limits,
       (
         h.ended.root,
-        rows (goal.at.assemble-requires-clause-rows c).After-take_rows h.limits h.bytes h.ended h.standard,
+        rows (goal.at.assemble-requires-clause-rows c).After-take_rows c.in_ok-rows-in-None.rows c.in_ok-rows-in-None.ensures h.limits
+            h.bytes h.ended h.standard,
       ),
     )
 
@@ -48,12 +52,14 @@ returns-in-Ok-clause-built c = λ limits bytes s h.
       root = h.root;
       text = h.text;
       shaped = shaped before limits bytes h;
-      fitting = c.in-Ok.ensures.told limits h.root (rows before limits bytes h s);
-      tables = c.in-Ok.ensures.tables limits h.root (rows before limits bytes h s);
+      fitting = c.in-Ok.ensures.told limits h.root
+          (rows before c.in_ok-rows-in-None.rows c.in_ok-rows-in-None.ensures limits bytes h s);
+      tables = c.in-Ok.ensures.tables limits h.root
+          (rows before c.in_ok-rows-in-None.rows c.in_ok-rows-in-None.ensures limits bytes h s);
     }
 
 pub returns-in-Err-clause-fault : goal.returns-in-Err-clause-fault
 returns-in-Err-clause-fault c = λ limits bytes s h.
     let before = (goal.at.returns-in-Err-clause-fault c).After-take_rows in
     rw c.of_rows.ensures (tells_across limits bytes h.root c.in-Err.fault h.text (shaped before limits bytes h)
-    (c.in-Err.ensures.told limits h.root (rows before limits bytes h s)))
+    (c.in-Err.ensures.told limits h.root (rows before c.in_ok-rows-in-None.rows c.in_ok-rows-in-None.ensures limits bytes h s)))

@@ -49,9 +49,9 @@ flags_are periods works read h e = ap (flat_map flags_of) e ∙ all_flags period
 
 -- the tables of the parts
 filled_are : (c : In_ok-filled) → field_tables c.args.rows.periods c.args.rows.alpha c.args.rows.quantile
-    c.args.rows.scenarios.items c.args.rows.resources.texts.items c.in_ok-upper.upper.items c.in_ok-lower.lower.items
-    c.args.rows.seasons.texts.items c.in_ok-in_season.in_season.items c.args.rows.interventions.texts.items
-    c.in_ok-filled.filled.delta.items c.args.rows.exclusions.texts.items c.args.checked.excluded.items
+    c.args.rows.scenarios.items c.args.rows.resources.texts.keys c.in_ok-upper.upper.items c.in_ok-lower.lower.items
+    c.args.rows.seasons.texts.keys c.in_ok-in_season.in_season.items c.args.rows.interventions.texts.keys
+    c.in_ok-filled.filled.delta.items c.args.rows.exclusions.texts.keys c.args.checked.excluded.items
     c.in_ok-filled.filled.loads.items (AsRead c.in_ok-filled.filled.risks) c.args.rows.rounded
     ≡ rows_tables c.args.slack (rows_view c.args.rows)
 filled_are c =

@@ -11,14 +11,14 @@ use Rattle.instance_rows.proofs.cells.all_cells.Goals.{in-Some+in_ok-add_cells, 
 
 pub loop-workload-preserved : goal.loop-workload-preserved
 loop-workload-preserved c =
-    let names = map string_bytes c.args.resources.now.texts.items in let x = c.workload-item.result in
+    let names = map string_bytes c.args.resources.now.texts.keys in let x = c.workload-item.result in
     let ws = map workload_view (take c.loop-workload.workload-index c.args.workloads.now) in
     let so_far : List LoadCell = all_kept c.args.periods c.args.durations.now names ws in
     let ls : List LoadRow = map load_view x.loads.items in
     -- where the name is
     let at : position (bytes_eq (string_bytes x.resource)) names ≡ c.index_of.result =
     ap (λ (t : List ℕ). position (bytes_eq t) names) (sym c.as_str.ensures.value)
-    ∙ position-map (bytes_eq c.as_str.result.now) string_bytes c.args.resources.now.texts.items
+    ∙ position-map (bytes_eq c.as_str.result.now) string_bytes c.args.resources.now.texts.keys
     ∙ sym c.index_of.ensures.index in
     (elim c.match-index_of.branch [
       | in-Some+in_ok-add_cells w ↦

@@ -19,19 +19,19 @@ loop-i-init c = refl
 
 -- the fault of the resource of this turn
 this_turn : (rows : FileRows) (i : ℕ) (names : List (String Global)) (name : String Global) (text : List ℕ)
-    (bands : Bands) → AreSound (rows_view rows) → i < length rows.bands.items → names ≡ rows.resources.texts.items
+    (bands : Bands) → AreSound (rows_view rows) → i < length rows.bands.items → names ≡ rows.resources.texts.keys
     → name ≡ get_or names i name
     → text ≡ string_bytes name → bands ≡ get_or rows.bands.items i bands
     → band_fault rows.periods text (band_view bands) ≡ band_fault_at (rows_view rows) i
 this_turn rows i names name text bands sound l same at is here =
-    let n : i < length rows.resources.texts.items = omega (
+    let n : i < length rows.resources.texts.keys = omega (
       arith,
       sound.bands,
       length-map rows.bands.items band_view,
-      length-map rows.resources.texts.items (string_bytes {Z = Global}),
+      length-map rows.resources.texts.keys (string_bytes {Z = Global}),
     ) in
     ap (λ (t : List ℕ). band_fault rows.periods t (band_view bands))
-    (is ∙ sym (mapped_at string_bytes rows.resources.texts.items names i name [] n same at))
+    (is ∙ sym (mapped_at string_bytes rows.resources.texts.keys names i name [] n same at))
     ∙ ap (band_fault rows.periods (slice_index_or (rows_view rows).resources i []))
     (sym (mapped_at band_view rows.bands.items rows.bands.items i bands no_band l refl here))
 

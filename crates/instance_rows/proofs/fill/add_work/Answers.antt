@@ -17,7 +17,7 @@ invariant_of-push c = record {
 
 pub returns : goal.returns
 returns c = λ works a.
-    let w = work_view c.args.work in let names = map string_bytes c.args.resources.now.texts.items in
+    let w = work_view c.args.work in let names = map string_bytes c.args.resources.now.texts.keys in
     tables_more c.args.periods names works w c.args.tables.now _
     (ap (map (λ (v : Vec ℕ Global). v.items)) c.in_ok-push-3.ensures.items
     ∙ map-append (λ (v : Vec ℕ Global). v.items) c.args.tables.now.delta.items (c.truncate.new.self ∷ [])

@@ -63,7 +63,7 @@ own_order periods works orders now n work order other same t rest is =
 pub add_work-requires-clause-order : goal.add_work-requires-clause-order
 add_work-requires-clause-order c =
     let works = c.args.works.items in let n = length c.loop-work.yielded in
-    let names = map string_bytes c.args.resources.now.texts.items in
+    let names = map string_bytes c.args.resources.now.texts.keys in
     let h = c.into_iter-work-iterator.ensures.into_iter_gives in
     let t = YieldsList-turn (YieldsList-from_vec {s = c.into_iter-work-iterator.result} works h.0 (omega (arith, h.1)))
     c.loop-work.yielded c.loop-work.work-iterator c.loop-work.yielded_by c.next.result c.next.new.self c.in-Some.work
@@ -87,10 +87,10 @@ loop-work-preserved c =
       l,
       length-append c.loop-work.yielded (c.in-Some.work ∷ []),
       c.len-in-loop-work.ensures,
-      count c.args.periods (map string_bytes c.args.resources.now.texts.items) c.loop-work.yielded c.loop-work.tables
+      count c.args.periods (map string_bytes c.args.resources.now.texts.keys) c.loop-work.yielded c.loop-work.tables
           c.loop-work.invariant.tables,
     )) in
-    let names = map string_bytes c.args.resources.now.texts.items in
+    let names = map string_bytes c.args.resources.now.texts.keys in
     let i : c.len-in-loop-work.result ≡ length c.loop-work.yielded = omega (
       arith,
       c.len-in-loop-work.ensures,
@@ -132,7 +132,7 @@ index_mut-requires c =
     omega (
       arith,
       c.len-in-loop-work.ensures,
-      count c.args.periods (map string_bytes c.args.resources.now.texts.items) c.loop-work.yielded c.loop-work.tables
+      count c.args.periods (map string_bytes c.args.resources.now.texts.keys) c.loop-work.yielded c.loop-work.tables
           c.loop-work.invariant.tables,
       in_orders c.args.periods works c.args.orders.items c.loop-work.orders.items (length c.loop-work.yielded)
           c.in-Some.work c.requires.orders (record { below = t.0; item = t.1 }) c.loop-work.invariant.each,

@@ -21,19 +21,19 @@ loop-i-init c = record { none = refl; orders = ap (map (λ (o : Vec ℕ Global).
 
 -- the fault of the intervention of this turn
 this_turn : (rows : FileRows) (i : ℕ) (names : List (String Global)) (name : String Global) (text : List ℕ)
-    (work : Work) → AreSound (rows_view rows) → i < length rows.works.items → names ≡ rows.interventions.texts.items
+    (work : Work) → AreSound (rows_view rows) → i < length rows.works.items → names ≡ rows.interventions.texts.keys
     → name ≡ get_or names i name
     → text ≡ string_bytes name → work ≡ get_or rows.works.items i work
     → work_fault (rows_view rows) text (work_view work) ≡ work_fault_at (rows_view rows) i
 this_turn rows i names name text work sound l same at is here =
-    let n : i < length rows.interventions.texts.items = omega (
+    let n : i < length rows.interventions.texts.keys = omega (
       arith,
       sound.works,
       length-map rows.works.items work_view,
-      length-map rows.interventions.texts.items (string_bytes {Z = Global}),
+      length-map rows.interventions.texts.keys (string_bytes {Z = Global}),
     ) in
     ap (λ (t : List ℕ). work_fault (rows_view rows) t (work_view work))
-    (is ∙ sym (mapped_at string_bytes rows.interventions.texts.items names i name [] n same at))
+    (is ∙ sym (mapped_at string_bytes rows.interventions.texts.keys names i name [] n same at))
     ∙ ap (work_fault (rows_view rows) (slice_index_or (rows_view rows).interventions i []))
     (sym (mapped_at work_view rows.works.items rows.works.items i work no_work l refl here))
 

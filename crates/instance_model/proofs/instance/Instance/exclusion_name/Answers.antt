@@ -8,6 +8,6 @@ pub returns-clause-short : goal.returns-clause-short
 returns-clause-short c =
     let within = subst (λ (t : Tables). c.args.e < length t.exclusion_names) (sym c.self.view_is) c.requires in
     rw c.as_str.ensures.value (name_short string_bytes standard_limits.exclusions
-    c.self.inside.parts.exclusions.texts.items
+    c.self.inside.parts.exclusions.texts.keys
     c.as_slice.result.now c.args.e c.index-as_slice-e.result c.self.invariant.fits.exclusions
     c.as_slice.ensures.texts within c.index-as_slice-e.is)

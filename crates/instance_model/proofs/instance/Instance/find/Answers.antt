@@ -6,12 +6,12 @@ use Rattle.instance_model.proofs.instance.Instance.find.Goals as goal
 
 pub returns-in-Some-clause-value : goal.returns-in-Some-clause-value
 returns-in-Some-clause-value c = c.in-Some.ensures.index
-    ∙ sym (position-map (bytes_eq c.args.name.now) string_bytes c.self.inside.parts.interventions.texts.items)
+    ∙ sym (position-map (bytes_eq c.args.name.now) string_bytes c.self.inside.parts.interventions.texts.keys)
     ∙ ap (λ (x : Tables). position (bytes_eq c.args.name.now) x.names) c.self.view_is
 
 pub returns-in-None-clause-value : goal.returns-in-None-clause-value
 returns-in-None-clause-value c = c.in-None.ensures.index
-    ∙ sym (position-map (bytes_eq c.args.name.now) string_bytes c.self.inside.parts.interventions.texts.items)
+    ∙ sym (position-map (bytes_eq c.args.name.now) string_bytes c.self.inside.parts.interventions.texts.keys)
     ∙ ap (λ (x : Tables). position (bytes_eq c.args.name.now) x.names) c.self.view_is
 
 pub returns-in-Some-clause-found : goal.returns-in-Some-clause-found

@@ -8,6 +8,6 @@ pub returns-clause-short : goal.returns-clause-short
 returns-clause-short c =
     let within = subst (λ (t : Tables). c.args.i < length t.names) (sym c.self.view_is) c.requires in
     rw c.as_str.ensures.value
-    (name_short string_bytes standard_limits.interventions c.self.inside.parts.interventions.texts.items
+    (name_short string_bytes standard_limits.interventions c.self.inside.parts.interventions.texts.keys
     c.as_slice.result.now c.args.i c.index-as_slice-i.result c.self.invariant.fits.names c.as_slice.ensures.texts
     within c.index-as_slice-i.is)

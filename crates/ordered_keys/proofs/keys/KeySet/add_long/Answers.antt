@@ -4,9 +4,8 @@ use Rattle.std.specs.BTreeSet.{contains_text}
 use Rattle.std.specs.List.{list_any}
 use Rattle.std.proofs.lemmas.Grind.{common_steps}
 use Rattle.std.proofs.lemmas.Map.Text.{btree_set_updates_text}
-use Rattle.ordered_keys.proofs.Apart.{keys_apart}
+use Rattle.ordered_keys.proofs.Apart.{keys_apart, turned}
 use Rattle.ordered_keys.proofs.MoreKeys.{absent, any_more, shorter_kept}
-use Rattle.ordered_keys.proofs.Places.{turned}
 use Rattle.ordered_keys.proofs.keys.KeySet.add_long.Goals as goal
 
 pub invariant_of-self-2 : goal.invariant_of-self-2
