@@ -4,7 +4,7 @@ use Rattle.std.specs.Prelude.{Result, Ok, Err, OnOk, IfOk, IfErr}
 use Rattle.plan_desk.specs.Desk.{Shown}
 use Rattle.plan_desk.specs.Faults.{one_more}
 use Rattle.plan_desk.specs.Contents.{Says, OnlyReads, KeepsFiles}
-use Rattle.plan_desk.proofs.Composed.{fails_since}
+use Rattle.plan_desk.proofs.Composed.{fails_since, one_until}
 use Rattle.command_frame.specs.Lines.{memory_line}
 use Rattle.command_frame.specs.Ending.{Writing, Answer, files_of, reply, writing_at, OrMemory, IsQuiet, CountsRead, IsUnsaid}
 use Rattle.command_frame.specs.Ending.{SaysUnwritten, IsUnwritten, Ends, Behind, IsAllowed, IsAnswered, NoFault}
@@ -43,7 +43,7 @@ keeps_more old mid new first second = second ∙ first
 counts_until : (status : ℕ) (old mid new : Shown) → new.faults ≡ mid.faults → CountsRead status old mid
     → CountsRead status old new
 counts_until status old mid new same (counts_none none) = counts_none (same ∙ none)
-counts_until status old mid new same (counts_one is one) = counts_one is (ap (λ f. f.count) same ∙ one)
+counts_until status old mid new same (counts_one is one) = counts_one is (one_until old mid new same one)
 
 -- files were read, and then what is due was said, or saying it failed
 pub said_ends : (Due : Shown → Answer → Type 0) (old mid new : Shown) (due : ℕ) (text : List ℕ) (status : ℕ)
@@ -190,22 +190,46 @@ none_twice old mid new calm (inl same) one = none_failed old new calm (one ∙ a
 none_twice old mid new calm (inr one) two = omega (arith, calm.same, calm.below, one, two)
 
 unsaid_fails : (Due : Shown → Answer → Type 0) (old new : Shown) → IsUnsaid Due old new → NoFault old new → ⊥
-unsaid_fails Due old new u calm = none_twice old u.before new calm (counted u.counts) u.fails.one
+unsaid_fails Due old new u calm = none_twice old u.before new calm (counted u.counts) u.fails.one.count
   where
     counted : CountsRead u.answer.status old u.before
         → (u.before.faults.count ≡ old.faults.count) ⊎ (u.before.faults.count ≡ one_more old.faults.count)
     counted (counts_none none) = inl (ap (λ f. f.count) none)
-    counted (counts_one is one) = inr one
+    counted (counts_one is one) = inr one.count
 
 unwritten_fails : (Due : Shown → Answer → Type 0) (old new : Shown) → IsUnwritten Due old new → NoFault old new → ⊥
 unwritten_fails Due old new u calm = line u.says
   where
     stopped : u.stopped.faults.count ≡ one_more old.faults.count
-    stopped = (fails_since old u.before u.stopped u.quiet u.fails).one
+    stopped = (fails_since old u.before u.stopped u.quiet u.fails).one.count
 
     line : SaysUnwritten (writing_at u.answer.writes u.n).word u.stopped new → ⊥
     line (line_said says same) = none_failed old new calm (ap (λ f. f.count) same ∙ stopped)
-    line (line_unsaid part within says fails) = none_twice old u.stopped new calm (inr stopped) fails.one
+    line (line_unsaid part within says fails) = none_twice old u.stopped new calm (inr stopped) fails.one.count
+
+read_says : (status : ℕ) (old mid : Shown) → CountsRead status old mid → mid.faults.of_say ≡ old.faults.of_say
+read_says status old mid (counts_none none) = ap (λ f. f.of_say) none
+read_says status old mid (counts_one is one) = one.of_say
+
+-- one `say` failed where an answer could not be said
+pub unsaid_once : (Due : Shown → Answer → Type 0) (old new : Shown) → IsUnsaid Due old new
+    → new.faults.of_say ≡ one_more old.faults.of_say
+unsaid_once Due old new u = u.fails.one.of_say ∙ ap one_more (read_says u.answer.status old u.before u.counts)
+
+-- however a run ends, no more than one did
+pub one_say : (Due : Shown → Answer → Type 0) (old new : Shown) (status : ℕ) → Ends Due old new status
+    → (new.faults.of_say ≡ old.faults.of_say) ⊎ (new.faults.of_say ≡ one_more old.faults.of_say)
+one_say Due old new status (done n d) = inl (read_says n old new d.counts)
+one_say Due old new status (unsaid u) = inr (unsaid_once Due old new u)
+one_say Due old new status (unwritten u) = line u.says
+  where
+    stopped : u.stopped.faults.of_say ≡ old.faults.of_say
+    stopped = u.fails.one.of_say ∙ ap (λ f. f.of_say) u.quiet
+
+    line : SaysUnwritten (writing_at u.answer.writes u.n).word u.stopped new
+        → (new.faults.of_say ≡ old.faults.of_say) ⊎ (new.faults.of_say ≡ one_more old.faults.of_say)
+    line (line_said says same) = inl (ap (λ f. f.of_say) same ∙ stopped)
+    line (line_unsaid part within says fails) = inr (fails.one.of_say ∙ ap one_more stopped)
 
 -- the status of an answer that was given, or of want of memory
 pub ends_behind : (Answers : Shown → Answer → Type 0) (OfCommand : ℕ → Type 0) (old new : Shown) (status : ℕ)

@@ -137,7 +137,7 @@ pub exact_reading : (name bytes : List ℕ) (old new : Shown) → TellsBytes old
     → Carries (reading old new) name by_bytes bytes
 exact_reading name bytes old new tells calm =
     record {
-      fails = λ fails. none_failed old new calm fails.one;
+      fails = λ fails. none_failed old new calm fails.one.count;
       holds = λ b held. sym (read_such old name b (λ c. c ≡ bytes) held tells);
     }
 

@@ -2,8 +2,8 @@
 use Rattle.std.proofs.Common.{◌≡◌, ℕ, ◌<◌, inl, inr, List, length, Option, Some, refl, sym, ◌∙◌, ap, subst}
 use Rattle.std.specs.Prelude.{ℤ, pos}
 use Rattle.plan_desk.specs.Desk.{Shown}
-use Rattle.plan_desk.specs.Faults.{one_more}
 use Rattle.plan_desk.specs.Contents.{WhereToldHolds}
+use Rattle.plan_desk.proofs.Composed.{one_since}
 use Rattle.plan_moves.specs.declared.script_line.ScriptLine.{ScriptLine}
 use Rattle.instance_model.specs.declared.limits.Limits.{Limits}
 use Rattle.instance_model.specs.Tables.{Tables}
@@ -163,7 +163,7 @@ counts_none old new refusal.Memory without same = same
 -- what failed since earlier files were read failed since before them
 pub kept_before : (old mid new : Shown) (r : Refusal) → mid.faults ≡ old.faults → CountsRefusal mid new r
     → CountsRefusal old new r
-kept_before old mid new (refusal.Unread w) same kept = kept ∙ ap (λ f. one_more f.count) same
+kept_before old mid new (refusal.Unread w) same kept = one_since old mid new same kept
 kept_before old mid new refusal.LongInstance same kept = kept ∙ same
 kept_before old mid new (refusal.Instance fault) same kept = kept ∙ same
 kept_before old mid new refusal.LongPlan same kept = kept ∙ same

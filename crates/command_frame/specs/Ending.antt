@@ -1,13 +1,13 @@
 -- How a run ends: what is due is written and said, or writing or saying it fails.
 --
 -- `old` and `new` are what the desk shows before and after a run.
-use Rattle.std.specs.Prelude.{◌≡◌, ◌≢◌, ◌⊎◌, ℕ, ◌-◌, ◌^◌, ◌<◌, List, [], ◌∷◌, length, take, map, slice_index_or, Some}
+use Rattle.std.specs.Prelude.{◌≡◌, ◌≢◌, ◌⊎◌, ℕ, ◌-◌, ◌^◌, ◌<◌, false, List, [], ◌∷◌, length, take, map, slice_index_or}
+use Rattle.std.specs.Prelude.{Some}
 use Rattle.plan_desk.specs.Desk.{Shown}
-use Rattle.plan_desk.specs.Faults.{FailsOnce, IsFaultOf, one_more}
+use Rattle.plan_desk.specs.Faults.{OneFails, FailsOnce, SayFails, IsFaultOf}
 use Rattle.plan_desk.specs.Contents.{Says}
 use Rattle.plan_desk.specs.FileWrites.{FileWrite, after_writes, StopsWrites}
 use Rattle.plan_desk.specs.declared.call.DeskCall.{DeskCall}
-use Rattle.plan_desk.specs.declared.call.DeskCall.TheVariants.{Say}
 use Rattle.command_frame.specs.Lines.{memory_line, write_line}
 
 -- ---- answers
@@ -51,14 +51,11 @@ pub data OrMemory (Answers : Answer → Type 0) : Answer → Type 0 where
 abbrev pub IsQuiet : ℕ → (old new : Shown) → Type 0
 IsQuiet status old new = status ≢ 7 → status ≢ 8 → new.faults ≡ old.faults
 
--- no call failed before an answer of this status is told; or it is that a file could not be read (7), and one failed
+-- No call failed before an answer of this status is told. Or the answer is that a file could not be read (7), and one
+-- call failed, no `say`.
 pub data CountsRead (status : ℕ) (old new : Shown) : Type 0 where
   none : new.faults ≡ old.faults → CountsRead status old new
-  one : status ≡ 7 → new.faults.count ≡ one_more old.faults.count → CountsRead status old new
-
--- one call failed, a `say`
-abbrev pub SayFails : (old new : Shown) → Type 0
-SayFails = FailsOnce (IsFaultOf Say (Some []))
+  one : status ≡ 7 → OneFails false old new → CountsRead status old new
 
 -- An answer was due, its files were written, and its text was said. `Due` says what is due after what the desk shows.
 pub record IsDone (Due : Shown → Answer → Type 0) (old new : Shown) (status : ℕ) : Type 0 where
@@ -71,7 +68,8 @@ pub record IsDone (Due : Shown → Answer → Type 0) (old new : Shown) (status 
 
 -- An answer was due, its files were written, and saying its text failed after a first part of it was said but not all.
 -- Nothing was said before or after that. `before` is what the desk may have shown as the saying began. From then on one
--- call failed, so no other was made after it.
+-- call failed, a `say`, and no other was made after it. Before it no `say` failed, so one `say` more failed than at the
+-- start.
 pub record IsUnsaid (Due : Shown → Answer → Type 0) (old new : Shown) : Type 0 where
   pub before : Shown
   pub answer : Answer
@@ -84,12 +82,12 @@ pub record IsUnsaid (Due : Shown → Answer → Type 0) (old new : Shown) : Type
   pub says : Says (take part answer.text) old new
   pub fails : SayFails before new
 
--- one call failed, which was this one at the file of this name
+-- one call failed, no `say` but this one at the file of this name
 abbrev pub WriteFails : DeskCall → List ℕ → (old new : Shown) → Type 0
-WriteFails call name = FailsOnce (IsFaultOf call (Some name))
+WriteFails call name = FailsOnce false (IsFaultOf call (Some name))
 
 -- The line of a file that could not be written was said, and no other call failed; or saying it failed after a first
--- part of it, which is a second failed call
+-- part of it, which is a second failed call and the only failed `say`
 pub data SaysUnwritten (word : ℕ) (stopped new : Shown) : Type 0 where
   said : Says (write_line word) stopped new → new.faults ≡ stopped.faults → SaysUnwritten word stopped new
   unsaid : (part : ℕ) → part < length (write_line word) → Says (take part (write_line word)) stopped new

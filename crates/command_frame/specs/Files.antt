@@ -3,7 +3,7 @@
 -- The files are read, and refused, in the order of the words: the answer to a later file stands beside what was read of
 -- the ones before. Of a desk that leaves its contents untold, a file still was read as some bytes for which the rest is
 -- right. `old` and `new` are what the desk shows before and after.
-use Rattle.std.specs.Prelude.{◌≡◌, ℕ, ⊤, List, Option, Some, None, IsSomeAnd}
+use Rattle.std.specs.Prelude.{◌≡◌, ℕ, ⊤, false, List, Option, Some, None, IsSomeAnd}
 use Rattle.plan_desk.specs.Desk.{Shown}
 use Rattle.plan_desk.specs.Faults.{FailsOnce, IsReadFaultOf}
 use Rattle.plan_desk.specs.Contents.{WhereToldHolds, TellsSuch, Says}
@@ -27,7 +27,7 @@ pub record Meeting : Type 1 where
 
 -- one call failed, a `take_in` or a `read` of the file of this name
 abbrev pub ReadFails : List ℕ → (old new : Shown) → Type 0
-ReadFails name = FailsOnce (IsReadFaultOf name)
+ReadFails name = FailsOnce false (IsReadFaultOf name)
 
 -- these are the bytes that the file of this name holds, where that is told
 abbrev pub ReadsBytes : List ℕ → Shown → List ℕ → Type 0

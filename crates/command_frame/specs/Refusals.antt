@@ -1,7 +1,8 @@
 -- The status and the line of a refusal, and how what is due is said. No part of any promise.
-use Rattle.std.specs.Prelude.{◌≡◌, ◌≢◌, ◌⊎◌, ℕ, ◌<◌, ⊤, List, [], length, take, Option, Some, None, Result, Ok, Err}
+use Rattle.std.specs.Prelude.{◌≡◌, ◌≢◌, ◌⊎◌, ℕ, ◌<◌, ⊤, false, List, [], length, take, Option, Some, None, Result, Ok}
+use Rattle.std.specs.Prelude.{Err}
 use Rattle.plan_desk.specs.Desk.{Shown, ShowsSame, after_take_in}
-use Rattle.plan_desk.specs.Faults.{one_more}
+use Rattle.plan_desk.specs.Faults.{OneFails, SayFails}
 use Rattle.plan_desk.specs.Contents.{WhereToldHolds, Says}
 use Rattle.instance_model.specs.declared.limits.Limits.{Limits}
 use Rattle.instance_model.specs.Tables.{Tables}
@@ -15,7 +16,7 @@ use Rattle.command_frame.specs.declared.report.Report.{Report}
 use Rattle.command_frame.specs.Lines.{memory_line, read_line, long_instance_line, instance_fault_line, long_plan_line}
 use Rattle.command_frame.specs.Lines.{plan_fault_line, long_script_line, script_fault_line, long_certificate_line}
 use Rattle.command_frame.specs.Lines.{certificate_fault_line}
-use Rattle.command_frame.specs.Ending.{Answer, reply, SayFails}
+use Rattle.command_frame.specs.Ending.{Answer, reply}
 use Rattle.command_frame.specs.Bytes.{IsLongInstance, IsOneFault, IsLongPlan, HasFault, IsLongScript, HasFaultyLine}
 use Rattle.command_frame.specs.Bytes.{CertificateTexts, IsLongCertificate, HasOneFaultBy, plain_texts}
 use Rattle.command_frame.specs.Files.{ReadFails, ReadsSuch}
@@ -51,9 +52,9 @@ line_of (Certificate fault) = certificate_fault_line fault
 line_of (Unread word) = read_line word
 line_of Memory = memory_line
 
--- no call failed, but one where a file could not be read
+-- no call failed, but one where a file could not be read, which was no `say`
 abbrev pub CountsRefusal : (old new : Shown) → Refusal → Type 0
-CountsRefusal old new (Unread word) = new.faults.count ≡ one_more old.faults.count
+CountsRefusal old new (Unread word) = OneFails false old new
 CountsRefusal old new _ = new.faults ≡ old.faults
 
 -- it comes without a call that failed

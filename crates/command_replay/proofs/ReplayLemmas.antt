@@ -5,6 +5,7 @@ use Rattle.std.specs.Prelude.{Result, Ok, Err}
 use Rattle.std.proofs.lemmas.Bool.{cases_lt}
 use Rattle.plan_desk.specs.Desk.{Shown, ShowsSame, after_say}
 use Rattle.plan_desk.specs.Contents.{Says}
+use Rattle.plan_desk.specs.Faults.{SayFails}
 use Rattle.instance_model.specs.Tables.{Tables}
 use Rattle.instance_model.specs.Plans.{AreAllowedStarts}
 use Rattle.plan_moves.specs.declared.script_line.ScriptLine.{ScriptLine}
@@ -14,7 +15,7 @@ use Rattle.move_script.specs.declared.replay_fault.ReplayFault.{ReplayFault}
 use Rattle.move_script.specs.declared.replay_fault.ReplayFault.TheVariants as fault
 use Rattle.move_script.specs.Replays.{replay_text, script_line, FailsByStart, FailsByUndo}
 use Rattle.command_frame.specs.Lines.{memory_line, end_line, not_allowed_line, nothing_to_undo_line}
-use Rattle.command_frame.specs.Ending.{Answer, reply, SayFails}
+use Rattle.command_frame.specs.Ending.{Answer, reply}
 use Rattle.command_frame.specs.Files.{reading}
 use Rattle.command_frame.specs.Files.OnFile.{stands}
 use Rattle.command_frame.specs.Openings.{OpensAs}

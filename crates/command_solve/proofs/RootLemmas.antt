@@ -1,5 +1,5 @@
 -- The bound of a search is at least the worth of its list over all starts.
-use Rattle.std.proofs.Common.{◌≡◌, ℕ, zero, suc, ◌≤◌, inl, inr, refl, sym, ap, subst, arith, ℤ, ◌≤ℤ◌, List, []}
+use Rattle.std.proofs.Common.{◌≡◌, ℕ, zero, suc, ◌≤◌, inl, inr, sym, ap, subst, arith, ℤ, ◌≤ℤ◌, List, []}
 use Rattle.std.proofs.Common.{◌∷◌, ◌++◌, length, get_or, map, Option, Some, All}
 use Rattle.std.proofs.lemmas.List.Elements.{All-head}
 use Rattle.instance_model.specs.Tables.{Tables}
@@ -19,7 +19,7 @@ use Rattle.certificate_tree.specs.Holding.{Worths, list_at, worth_by}
 use Rattle.certificate_tree.proofs.RootLemmas.{root_at}
 use Rattle.certificate_tree.proofs.Refuting.{feasible_allowed}
 use Rattle.branch_search.specs.Splits.{split_boxes}
-use Rattle.branch_search.specs.Best.{IsBestOver}
+use Rattle.branch_search.specs.Best.{IsBestOver, IsNumber}
 use Rattle.branch_search.specs.Searched.{IsSplitBox, IsCostLeaf, IsBounding, IsCostOf, IsAmong, IsLeastOf, IsSearched}
 use Rattle.price_ladder.specs.Raised.{root_worth}
 use Rattle.branch_search.specs.declared.tree_end.TreeEnd.{TreeEnd}
@@ -81,7 +81,8 @@ module _ (inst : Tables) (prices : PriceList) (given best : Option (List ℕ)) (
 
   tree_above : WorthBoundsPlans risk_base risk_value → IsFitting inst → IsPriceList inst prices
       → IsBestOver risk_value inst given best → (t : Tree)
-      → All (IsSplitBox risk_value inst (length cert.lists) worths given cert.bound) (split_boxes (root_box inst) t)
+      → All (IsSplitBox risk_value inst (length cert.lists) worths given (IsNumber cert.bound))
+      (split_boxes (root_box inst) t)
       → All (λ leaf. IsBounding risk_value inst (length cert.lists) worths best leaf.box leaf.node)
       (leaves (root_box inst) t)
       → IsLeastOf (IsAmong risk_value inst worths best (leaves (root_box inst) t)) cert.bound
@@ -93,9 +94,10 @@ module _ (inst : Tables) (prices : PriceList) (given best : Option (List ℕ)) (
       ((subst (IsLeastOf (IsAmong risk_value inst worths best
       ((record { box = root_box inst; node = n }) ∷ []))) bound least).0)
   tree_above law fit range over (split i m l r) splits bounding least =
-      let here = All-head (IsSplitBox risk_value inst (length cert.lists) worths given cert.bound) (root_box inst)
+      let here = All-head (IsSplitBox risk_value inst (length cert.lists) worths given (IsNumber cert.bound))
+      (root_box inst)
       (split_boxes (below (root_box inst) i m) l ++ split_boxes (above (root_box inst) i m) r) splits in
-      rw (sym by_one) (here.within_bound 1 b first bound)
+      rw (sym by_one) (here.at_most 1 b first bound)
 
 pub above_root : (inst : Tables) (prices : PriceList) (given : Option (List ℕ)) (turns : ℕ) (answer : TreeEnd)
     → WorthBoundsPlans risk_base risk_value → IsFitting inst → IsPriceList inst prices
@@ -103,4 +105,4 @@ pub above_root : (inst : Tables) (prices : PriceList) (given : Option (List ℕ)
     → root_worth inst prices ≤ℤ b
 above_root inst prices given turns answer law fit range searched b bound =
     tree_above inst prices given answer.best answer.cert searched.lists b bound law fit range searched.by.best
-    searched.by.tree (searched.by.splits refl) searched.by.bounding searched.by.bound
+    searched.by.tree searched.splits searched.by.bounding searched.by.bound

@@ -1,8 +1,7 @@
 //! A script is replayed from an opening plan.
 ghost use Rattle.std.specs.Prelude.{◌≡◌, ◌≢◌, ◌+◌, ◌<◌, ◌≤◌, ◌&&◌, ℕ, [], ◌∷◌, length, slice_index, All, Some, None};
 ghost use Rattle.std.specs.Prelude.{IfOk, IfErr, Err, OnOk, OnErr, IsErrOf};
-ghost use Rattle.plan_desk.specs.Faults.{FailsOnce, IsFaultOf};
-ghost use Rattle.plan_desk.specs.declared.call.DeskCall.{DeskCall};
+ghost use Rattle.plan_desk.specs.Faults.{SayFails};
 ghost use Rattle.instance_model.specs.Tables.{is_allowed};
 ghost use Rattle.instance_model.specs.Plans.{AreAllowedStarts};
 ghost use Rattle.plan_moves.specs.KeptPlans.{present};
@@ -38,8 +37,7 @@ pub fn replay<R: Row, D: Desk>(
     ensures nothing_to_undo { (n : ℕ) → result ≡ Err (ReplayFault.NothingToUndo n)
         → FailsByUndo inst.now starts.now script.now n }
     ensures said { SaysKeys result (replay_text inst.now starts.now script.now) (D.shows desk.old) (D.shows desk.new) }
-    ensures failed { IsErrOf result ReplayFault.Failed
-        → FailsOnce (IsFaultOf DeskCall.Say (Some [])) (D.shows desk.old) (D.shows desk.new) }
+    ensures failed { IsErrOf result ReplayFault.Failed → SayFails (D.shows desk.old) (D.shows desk.new) }
     ensures same { (result ≢ Err ReplayFault.Failed) → (D.shows desk.new).faults ≡ (D.shows desk.old).faults }
 {
     let lines = script.as_slice();
@@ -82,8 +80,7 @@ fn replay_lines<R: Row, L: Ledger, D: Desk>(
         → FailsByUndo kept.old.instance (present kept.old.plans) script.now n }
     ensures said { SaysKeys result (replay_text kept.old.instance (present kept.old.plans) script.now)
         (D.shows desk.old) (D.shows desk.new) }
-    ensures failed { IsErrOf result ReplayFault.Failed
-        → FailsOnce (IsFaultOf DeskCall.Say (Some [])) (D.shows desk.old) (D.shows desk.new) }
+    ensures failed { IsErrOf result ReplayFault.Failed → SayFails (D.shows desk.old) (D.shows desk.new) }
     ensures same { (result ≢ Err ReplayFault.Failed) → (D.shows desk.new).faults ≡ (D.shows desk.old).faults }
 {
     let mut steps = Steps::<L>::zero(blank);

@@ -1,8 +1,8 @@
 -- One call of a desk after another, as its callers compose them.
 use Rattle.std.proofs.Common.{◌≡◌, List, ℕ, ◌++◌, refl, sym, ◌∙◌, ap, subst, append_assoc}
-use Rattle.std.specs.Prelude.{Option, Some, None, option_map, IfSome, IsSomeAnd}
+use Rattle.std.specs.Prelude.{Bool, Option, Some, None, option_map, IfSome, IsSomeAnd}
 use Rattle.plan_desk.specs.Desk.{Shown, Input, Output, Fault, Faults, ShowsSame, after_take_in, after_say}
-use Rattle.plan_desk.specs.Faults.{FailsOnce, one_more}
+use Rattle.plan_desk.specs.Faults.{FailsOnce, OneFails, one_more, count_after}
 use Rattle.plan_desk.specs.Contents.{WhereToldHolds, TellsSuch, Says, OnlyReads, KeepsFiles}
 
 -- a piece was said
@@ -71,14 +71,28 @@ told_holds name P Q s tells holds = go s.input.unread s.output.holds tells holds
     go (Some xs) (Some files) p q = held_such (files name) p q
 
 -- nothing failed before the call that did, nor after it
-pub fails_since : {Own : Fault → Type 0} (old mid new : Shown) → mid.faults ≡ old.faults → FailsOnce Own mid new
-    → FailsOnce Own old new
-fails_since old mid new same fails = record { one = fails.one ∙ ap (λ f. one_more f.count) same; own = fails.own }
+pub one_since : {say : Bool} (old mid new : Shown) → mid.faults ≡ old.faults → OneFails say mid new
+    → OneFails say old new
+one_since {say = say} old mid new same one = record {
+  count = one.count ∙ ap (λ f. one_more f.count) same;
+  of_say = one.of_say ∙ ap (λ f. count_after say f.of_say) same;
+}
 
-pub fails_until : {Own : Fault → Type 0} (old mid new : Shown) → new.faults ≡ mid.faults → FailsOnce Own old mid
-    → FailsOnce Own old new
+pub fails_since : {say : Bool} {Own : Fault → Type 0} (old mid new : Shown) → mid.faults ≡ old.faults
+    → FailsOnce say Own mid new → FailsOnce say Own old new
+fails_since old mid new same fails = record { one = one_since old mid new same fails.one; own = fails.own }
+
+pub one_until : {say : Bool} (old mid new : Shown) → new.faults ≡ mid.faults → OneFails say old mid
+    → OneFails say old new
+one_until old mid new same one = record {
+  count = ap (λ f. f.count) same ∙ one.count;
+  of_say = ap (λ f. f.of_say) same ∙ one.of_say;
+}
+
+pub fails_until : {say : Bool} {Own : Fault → Type 0} (old mid new : Shown) → new.faults ≡ mid.faults
+    → FailsOnce say Own old mid → FailsOnce say Own old new
 fails_until {Own = Own} old mid new same fails = record {
-  one = ap (λ f. f.count) same ∙ fails.one;
+  one = one_until old mid new same fails.one;
   own = subst (λ (f : Faults). IfSome f.last Own) (sym same) fails.own;
 }
 

@@ -8,6 +8,7 @@ use Rattle.std.proofs.lemmas.Bool.{true≢false, cases_eq}
 use Rattle.plan_desk.specs.declared.files.Place.{Place}
 use Rattle.plan_desk.specs.declared.files.LastFault.{LastFault}
 use Rattle.plan_desk.specs.declared.files.LastFault.TheVariants.{Named, OfFile, Said}
+use Rattle.plan_desk.specs.declared.fault.FaultCounts.{FaultCounts}
 use Rattle.plan_desk.specs.Stored.{Stored}
 use Rattle.plan_desk.specs.Calls.{TakesIn, PutsOut, Writes}
 use Rattle.plan_desk.specs.Faults.{CountsFault}
@@ -66,34 +67,34 @@ module _ (old new : List Stored)
   last_still (Some Said) at = at
 
 -- what is shown of these parts
-abbrev pub shown : List Stored → Option Place → Option ℕ → List ℕ → ℕ → Option Fault → Shown
+abbrev pub shown : List Stored → Option Place → Option ℕ → List ℕ → FaultCounts → Option Fault → Shown
 shown files taken writing spoken faults last = record {
   input = mem_input files taken;
   output = mem_output files writing;
   said = Some spoken;
-  faults = record { count = faults; last = last };
+  faults = record { count = faults.count; of_say = faults.of_say; last = last };
 }
 
 -- a call that succeeds counts no fault
-no_fault : (faults : ℕ) (input mid : Input) (output wrote : Output) (said spoke : Option (List ℕ)) (last kept : Option
-    Fault) (Own : Fault → Type 0) {T : Type 0} (x : T) → kept ≡ last
-    → CountsFault (record {
+no_fault : (faults : FaultCounts) (input mid : Input) (output wrote : Output) (said spoke : Option (List ℕ))
+    (last kept : Option Fault) (Own : Fault → Type 0) {T : Type 0} (x : T) → kept ≡ last
+    → CountsFault false (record {
       input = input;
       output = output;
       said = said;
-      faults = record { count = faults; last = last };
+      faults = record { count = faults.count; of_say = faults.of_say; last = last };
     }) (record {
       input = mid;
       output = wrote;
       said = spoke;
-      faults = record { count = faults; last = kept };
+      faults = record { count = faults.count; of_say = faults.of_say; last = kept };
     }) Own (Ok x)
 no_fault faults input mid output wrote said spoke last kept Own x e =
-    record { same = λ j. record { count = faults; last = e j }; fails = tt }
+    record { same = λ j. record { count = faults.count; of_say = faults.of_say; last = e j }; fails = tt }
 
 -- the first file of a name was taken in
 pub takes_in : (files : List Stored) (i : ℕ) (name : List ℕ) (taken : Option Place) (writing : Option ℕ)
-    (spoken : List ℕ) (faults : ℕ) (last : Option Fault) (old : Shown) → IsAt files i name
+    (spoken : List ℕ) (faults : FaultCounts) (last : Option Fault) (old : Shown) → IsAt files i name
     → shown files taken writing spoken faults last ≡ old
     → TakesIn {T = Unit {0}} name old (shown files (Some (record { file = i; from = 0 })) writing spoken faults last)
     (Ok tt)
@@ -115,7 +116,7 @@ takes_in files i name taken writing spoken faults last old at e = subst
 
 -- a file was put out
 pub puts_out : (files new : List Stored) (i : ℕ) (name : List ℕ) (taken : Option Place) (writing : Option ℕ)
-    (spoken : List ℕ) (faults : ℕ) (last : Option LastFault) (old : Shown)
+    (spoken : List ℕ) (faults : FaultCounts) (last : Option LastFault) (old : Shown)
     → IsPut files new i (record { name = name; bytes = []; put_out = true }) → IsLastAt files last
     → shown files taken writing spoken faults (option_map (fault_of files) last) ≡ old
     → PutsOut {T = Unit {0}} name old (shown new None (Some i) spoken faults (option_map (fault_of new) last)) (Ok tt)
@@ -139,7 +140,7 @@ puts_out files new i name taken writing spoken faults last old put kept e = subs
 
 -- a file was put there
 pub put_shown : (files new : List Stored) (i : ℕ) (name bytes : List ℕ) (taken : Option Place) (writing : Option ℕ)
-    (spoken : List ℕ) (faults : ℕ) (last : Option LastFault) (old : Shown)
+    (spoken : List ℕ) (faults : FaultCounts) (last : Option LastFault) (old : Shown)
     → IsPut files new i (record { name = name; bytes = bytes; put_out = false }) → IsLastAt files last
     → shown files taken writing spoken faults (option_map (fault_of files) last) ≡ old
     → shown new None None spoken faults (option_map (fault_of new) last) ≡ after_put_file name bytes old
@@ -154,7 +155,11 @@ put_shown files new i name bytes taken writing spoken faults last old put kept e
         written = Some (put.files (λ f. if f.put_out then Some f.bytes else None) j);
       };
       said = Some spoken;
-      faults = record { count = faults; last = last_same files new put.names last kept j };
+      faults = record {
+        count = faults.count;
+        of_say = faults.of_say;
+        last = last_same files new put.names last kept j;
+      };
     })
 
 -- a file with a piece behind its bytes
@@ -275,7 +280,7 @@ module _ (old : List Stored) (i : ℕ) (piece : List ℕ) (first : IsAt old i (f
       (still_at old i (grown piece (file_at old i)) first refl i first)
 
   -- the whole piece was written
-  pub writes : (new : List Stored) (w : Option ℕ) (taken : Option Place) (spoken : List ℕ) (faults : ℕ)
+  pub writes : (new : List Stored) (w : Option ℕ) (taken : Option Place) (spoken : List ℕ) (faults : FaultCounts)
       (last : Option LastFault) (shows : Shown) → new ≡ set old i (grown piece (file_at old i)) → w ≡ Some i
       → IsTakenAt old taken → IsLastAt old last
       → shown old taken w spoken faults (option_map (fault_of old) last) ≡ shows

@@ -25,10 +25,11 @@ pub record Output : Type 0 where
   pub holds : Option (List ℕ → Option (List ℕ))
   pub written : Option (List ℕ → Option (List ℕ))
 
--- how often a call has failed, a count that stops at 2 ^ 64 - 1; and the last call that failed (None: there is none, or
--- it is not told)
+-- how often a call has failed, and how often a `say` has, counts that stop at 2 ^ 64 - 1; and the last call that failed
+-- (None: there is none, or it is not told)
 pub record Faults : Type 0 where
   pub count : ℕ
+  pub of_say : ℕ
   pub last : Option Fault
 
 -- What a desk shows: its files; the bytes that were said (None: it is not told); and what has failed.

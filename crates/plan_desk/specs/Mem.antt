@@ -7,16 +7,17 @@ use Rattle.plan_desk.specs.declared.files.Place.{Place}
 use Rattle.plan_desk.specs.declared.files.Listed.{Listed}
 use Rattle.plan_desk.specs.declared.files.LastFault.{LastFault}
 use Rattle.plan_desk.specs.declared.files.LastFault.TheVariants.{Named, OfFile, Said}
+use Rattle.plan_desk.specs.declared.fault.FaultCounts.{FaultCounts}
 use Rattle.plan_desk.specs.declared.call.DeskCall.{DeskCall}
 use Rattle.plan_desk.specs.declared.call.DeskCall.TheVariants.{TakeIn, Read, PutOut, Write, FinishOut, Say}
 use Rattle.plan_desk.specs.declared.call.Failed.{Failed}
 use Rattle.plan_desk.specs.Desk.{Shown, Input, Output, Fault, put_at, none_taken}
-use Rattle.plan_desk.specs.Faults.{count_after}
+use Rattle.plan_desk.specs.Faults.{count_after, is_say}
 use Rattle.plan_desk.specs.Stored.{Stored}
 
 -- A desk in memory: its files, each name's first being the one that counts; the place of the file that is taken in, and
 -- how many bytes of it were read; the place of the file that is open for writing; what was said; the largest piece of a
--- read; the calls that are to fail; how many calls of each kind were made; the count of faults; and the last fault.
+-- read; the calls that are to fail; how many calls of each kind were made; the counts of faults; and the last fault.
 pub record MemState : Type 0 where
   pub files : List Stored
   pub taken : Option Place
@@ -25,7 +26,7 @@ pub record MemState : Type 0 where
   pub most : ℕ
   pub listed : List Listed
   pub made : List ℕ
-  pub faults : ℕ
+  pub faults : FaultCounts
   pub last : Option Fault
 
 -- no file, no call yet, and none that is to fail
@@ -38,7 +39,7 @@ empty_state = record {
   most = 2 ^ 64 - 1;
   listed = [];
   made = 0 ∷ 0 ∷ 0 ∷ 0 ∷ 0 ∷ 0 ∷ [];
-  faults = 0;
+  faults = record { count = 0; of_say = 0 };
   last = None;
 }
 
@@ -107,7 +108,7 @@ mem_shows d = record {
   input = mem_input d.files d.taken;
   output = mem_output d.files d.writing;
   said = Some d.spoken;
-  faults = record { count = d.faults; last = d.last };
+  faults = record { count = d.faults.count; of_say = d.faults.of_say; last = d.last };
 }
 
 -- the fault that was kept, whose name may be that of a file
@@ -163,7 +164,8 @@ is_due d call = list_any (λ l. (number_of l.call == number_of call) && (l.nth =
 -- to fail and how much is read at a time is the same
 pub record CountsCall {T : Type 0} (call : DeskCall) (old new : MemState) (result : Result T Failed) : Type 0 where
   pub made : new.made ≡ slice_set old.made (number_of call) (next_of old.made call)
-  pub faults : new.faults ≡ count_after (is_err result) old.faults
+  pub faults : new.faults.count ≡ count_after (is_err result) old.faults.count
+  pub of_say : new.faults.of_say ≡ count_after (is_say call && is_err result) old.faults.of_say
   pub listed : new.listed ≡ old.listed
   pub most : new.most ≡ old.most
 

@@ -1,5 +1,5 @@
 -- What a text leaves behind that is written, or said, by one call or by several: whole, or to where a call failed.
-use Rattle.std.specs.Prelude.{◌≡◌, ℕ, ◌<◌, List, [], length, take, Some, Result, OnOk, OnErr}
+use Rattle.std.specs.Prelude.{◌≡◌, ℕ, ◌<◌, Bool, true, false, List, [], length, take, Some, Result, OnOk, OnErr}
 use Rattle.plan_desk.specs.declared.call.DeskCall.TheVariants.{Write, Say}
 use Rattle.plan_desk.specs.declared.call.Failed.{Failed}
 use Rattle.plan_desk.specs.Desk.{Shown, Fault, ShowsSame, after_write, after_say}
@@ -15,7 +15,12 @@ abbrev pub after_text : Way → List ℕ → Shown → Shown
 after_text writing text s = after_write text s
 after_text saying text s = after_say text s
 
--- a fault of the call by which it goes out
+-- the call by which it goes out is a `say`
+abbrev pub is_said : Way → Bool
+is_said writing = false
+is_said saying = true
+
+-- a fault of that call
 abbrev pub IsFaultIn : Way → Shown → Fault → Type 0
 IsFaultIn writing s fault = IsFaultOf Write s.output.name fault
 IsFaultIn saying s fault = IsFaultOf Say (Some []) fault
@@ -29,7 +34,7 @@ PutsPart way text old new = (n : ℕ) × (n < length text) × ShowsSame new (aft
 pub record PutsText {T : Type 0} (way : Way) (text : List ℕ) (old new : Shown) (result : Result T Failed) : Type 0 where
   pub ok : OnOk result (ShowsSame new (after_text way text old))
   pub err : OnErr result (PutsPart way text old new)
-  pub faults : CountsFault old new (IsFaultIn way old) result
+  pub faults : CountsFault (is_said way) old new (IsFaultIn way old) result
 
 -- a text is written to the file that is open
 abbrev pub WritesText : {T : Type 0} → List ℕ → (old new : Shown) → Result T Failed → Type 0

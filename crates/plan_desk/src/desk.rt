@@ -9,8 +9,8 @@ use crate::Failed;
 ///
 /// A desk tells what it shows or leaves parts of it untold; what is told stays told. A desk that tells its last fault,
 /// or what files hold, tells the names of its files too, so that what is written to one is told. A call that answers
-/// `Failed` adds one to the count of faults and makes itself the last; no other call changes either. No call changes a
-/// file but the one that is open for writing.
+/// `Failed` adds one to the count of faults and makes itself the last fault. A failed `say` adds one to the count of
+/// failed `say`s too. No other call changes any of these. No call changes a file but the one that is open for writing.
 pub trait Desk {
     /// Its files, what was said, and its faults.
     ghost shows: { Self → Shown };

@@ -1,7 +1,8 @@
 //! Devices: files that are read and written, and what is said.
 //!
 //! The rest of the program meets the outside by the trait [`Desk`] alone. Contracts see a desk as what it shows: the
-//! file that is taken in, what files hold, what was said, a count of faults and the last fault.
+//! file that is taken in, what files hold, what was said, how many calls failed, how many of them were a `say`, and the
+//! last fault.
 #![tactic(auto)]
 
 mod bytes;

@@ -5,7 +5,7 @@ ghost use Rattle.plan_desk.specs.Calls.{TakesIn, Reads, PutsOut, Writes, Finishe
 ghost use Rattle.plan_desk.specs.declared.call.DeskCall.{DeskCall};
 
 use crate::due::is_listed;
-use crate::fault::{fail, named};
+use crate::fault::{FaultCounts, fail, named};
 use crate::files::{LastFault, Listed, MemFile, Place};
 use crate::find::{append, copy_part, find, held, put};
 use crate::{Desk, DeskCall, Failed};
@@ -22,7 +22,7 @@ pub struct MemDesk {
     most: usize,
     listed: Vec<Listed>,
     made: [u64; 6],
-    faults: u64,
+    faults: FaultCounts,
     last: Option<LastFault>,
 }
 
@@ -81,7 +81,10 @@ impl MemDesk {
             most: usize::MAX,
             listed: Vec::new(alloc),
             made: [0; 6],
-            faults: 0,
+            faults: FaultCounts {
+                count: 0,
+                of_say: 0,
+            },
             last: None,
         }
     }
@@ -156,7 +159,7 @@ impl Desk for MemDesk {
         }
         self.taken = None;
         let fault = named(DeskCall::TakeIn, name);
-        Err(fail(&mut self.faults, &mut self.last, fault))
+        Err(fail(&mut self.faults, &mut self.last, DeskCall::TakeIn, fault))
     }
 
     fn read(&mut self, buf: &mut [u8]) -> Result<usize, Failed>
@@ -175,7 +178,7 @@ impl Desk for MemDesk {
         };
         if is_listed(&mut self.made, &self.listed, DeskCall::Read) {
             let fault = Some(LastFault::OfFile(DeskCall::Read, place.file));
-            return Err(fail(&mut self.faults, &mut self.last, fault));
+            return Err(fail(&mut self.faults, &mut self.last, DeskCall::Read, fault));
         }
         let n = copy_part(&self.files, place.file, place.from, self.most, buf);
         self.taken = Some(Place {
@@ -196,7 +199,7 @@ impl Desk for MemDesk {
         self.writing = None;
         if is_listed(&mut self.made, &self.listed, DeskCall::PutOut) {
             let fault = named(DeskCall::PutOut, name);
-            return Err(fail(&mut self.faults, &mut self.last, fault));
+            return Err(fail(&mut self.faults, &mut self.last, DeskCall::PutOut, fault));
         }
         match put(
             self.alloc,
@@ -211,7 +214,7 @@ impl Desk for MemDesk {
             }
             Err(_) => {
                 let fault = named(DeskCall::PutOut, name);
-                Err(fail(&mut self.faults, &mut self.last, fault))
+                Err(fail(&mut self.faults, &mut self.last, DeskCall::PutOut, fault))
             }
         }
     }
@@ -229,13 +232,13 @@ impl Desk for MemDesk {
         };
         if is_listed(&mut self.made, &self.listed, DeskCall::Write) {
             let fault = Some(LastFault::OfFile(DeskCall::Write, at));
-            return Err(fail(&mut self.faults, &mut self.last, fault));
+            return Err(fail(&mut self.faults, &mut self.last, DeskCall::Write, fault));
         }
         match append(&mut self.files, at, piece) {
             Ok(()) => Ok(piece.len()),
             Err(_) => {
                 let fault = Some(LastFault::OfFile(DeskCall::Write, at));
-                Err(fail(&mut self.faults, &mut self.last, fault))
+                Err(fail(&mut self.faults, &mut self.last, DeskCall::Write, fault))
             }
         }
     }
@@ -253,7 +256,7 @@ impl Desk for MemDesk {
         self.writing = None;
         if is_listed(&mut self.made, &self.listed, DeskCall::FinishOut) {
             let fault = Some(LastFault::OfFile(DeskCall::FinishOut, at));
-            return Err(fail(&mut self.faults, &mut self.last, fault));
+            return Err(fail(&mut self.faults, &mut self.last, DeskCall::FinishOut, fault));
         }
         Ok(())
     }
@@ -266,11 +269,21 @@ impl Desk for MemDesk {
         ensures count { CountsCall DeskCall.Say self.old self.new result }
     {
         if is_listed(&mut self.made, &self.listed, DeskCall::Say) {
-            return Err(fail(&mut self.faults, &mut self.last, Some(LastFault::Said)));
+            return Err(fail(
+                &mut self.faults,
+                &mut self.last,
+                DeskCall::Say,
+                Some(LastFault::Said),
+            ));
         }
         match self.spoken.extend_from_slice(piece) {
             Ok(()) => Ok(piece.len()),
-            Err(_) => Err(fail(&mut self.faults, &mut self.last, Some(LastFault::Said))),
+            Err(_) => Err(fail(
+                &mut self.faults,
+                &mut self.last,
+                DeskCall::Say,
+                Some(LastFault::Said),
+            )),
         }
     }
 }

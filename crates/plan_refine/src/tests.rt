@@ -2,12 +2,10 @@
 ghost use Rattle.std.specs.Prelude.{◌≤◌};
 
 use crate::run_refine;
-use branch_search::Part;
-use command_bound::bound_files;
 use command_frame::Source;
 use command_rebound::rebound_files_by;
 use instance_model::Limits;
-use plan_desk::{DeskCall, MemDesk};
+use plan_desk::MemDesk;
 use refined_files::VersionedCertificate;
 use std::alloc::{AllocError, Global};
 use std::test::Fail;
@@ -511,43 +509,6 @@ fn files_of_improve_are_refused_in_order(rt: HostRuntime) -> Result<(), Fail> {
     Ok(())
 }
 
-#[test]
-fn a_write_that_fails_is_told(rt: HostRuntime) -> Result<(), Fail> {
-    let alloc = rt.alloc();
-    let bound = ["bound", "I", "P", "C", "O", "1"];
-    let rebound = ["rebound", "I", "C", "O"];
-    let improve = ["improve", "I", "P", "O", "0", "7"];
-    for (words, told) in [
-        (bound.as_slice(), "refused write 5\n"),
-        (rebound.as_slice(), "refused write 4\n"),
-        (improve.as_slice(), "refused write 4\n"),
-    ] {
-        let mut desk = desk(alloc, BANDED, APART, OLD)?;
-        desk.fail_at(DeskCall::PutOut, 1)?;
-        let (status, said) = ran(alloc, words, &mut desk)?;
-        assert_eq!(rt; status, 8, "{told}");
-        assert_eq!(rt; said.as_slice(), told.as_bytes());
-        assert!(rt; desk.file("O").is_none(), "{told}");
-    }
-    Ok(())
-}
-
-/// The status of a bound without a turn where a certificate file may have so many bytes.
-fn bounded(alloc: Global, bytes: u64, desk: &mut MemDesk) -> u8
-    requires { bytes ≤ 268_435_456 }
-{
-    let limits = Limits {
-        certificate_bytes: bytes,
-        ..Limits::standard()
-    };
-    let source = Source {
-        instance: "I",
-        slack: 0,
-    };
-    let part = Part::whole();
-    bound_files(alloc, &limits, &source, None, None, "O", 0, part, desk)
-}
-
 /// The status where the certificate C is rebound, and a certificate file may have so many bytes.
 fn rebound(alloc: Global, bytes: u64, desk: &mut MemDesk) -> u8
     requires { bytes ≤ 268_435_456 }
@@ -561,17 +522,6 @@ fn rebound(alloc: Global, bytes: u64, desk: &mut MemDesk) -> u8
         slack: 0,
     };
     rebound_files_by::<VersionedCertificate, MemDesk>(alloc, &limits, &source, "C", "O", desk)
-}
-
-/// What would be written has 37 bytes at least: those of a bound of one digit, no list, and one `cost` leaf.
-#[test]
-fn a_bound_that_is_too_long_is_not_written(rt: HostRuntime) -> Result<(), Fail> {
-    let alloc = rt.alloc();
-    let mut desk = desk(alloc, BANDED, APART, OLD)?;
-    assert_eq!(rt; bounded(alloc, 36, &mut desk), 12);
-    assert_eq!(rt; desk.spoken(), b"refused output too long 5\n".as_slice());
-    assert!(rt; desk.file("O").is_none());
-    Ok(())
 }
 
 /// The new certificate has 95 bytes.

@@ -1,10 +1,13 @@
-//! The commands of planner_cli and plan_repair, over the same files in memory.
+//! The commands of the programs, over the same files in memory.
 
+use branch_search::Part;
 use command_audit::audit_files;
-use command_check::check_files;
+use command_bound::bound_files;
+use command_check::{check_files, check_files_by};
 use command_evaluate::evaluate_files;
 use command_frame::Source;
-use command_rebound::rebound_files;
+use command_improve::improve_files;
+use command_rebound::{rebound_files, rebound_files_by};
 use command_rehearse::rehearse_drawn;
 use command_repair::{RepairFiles, repair_files};
 use command_replay::replay_files;
@@ -14,6 +17,7 @@ use command_table::table_files;
 use instance_model::Limits;
 use plan_desk::MemDesk;
 use quantile_index::TreeRow;
+use refined_files::VersionedCertificate;
 use std::alloc::{AllocError, Global};
 
 /// Two interventions that are too much together, and one scenario a period.
@@ -32,15 +36,19 @@ const INSTANCE: &str = r#"{"Resources":{"c":{"max":[10,10],"min":[0,0]}},"Season
 const CERTIFICATE: &str =
     "mpcert 1\nbound 0\nlists 0\ntree\nsplit 1 1\nsplit 2 1\nband 1 1 over\ncost 0\ncost 0\n";
 
+/// A certificate of version 3 with two leaves.
+const REFINED: &str = "mpcert 3\nbound 0\nlists 0\ntree\nsplit 1 1\ncost 0\ncost 0\n";
+
 /// What the files hold that a command may write.
 pub(crate) const OLD: &str = "old\n";
 
-/// The files of a desk with their texts. Those behind the certificate may be written.
-pub(crate) const FILES: [(&str, &str); 7] = [
+/// The files of a desk with their texts. Those behind the certificates may be written.
+pub(crate) const FILES: [(&str, &str); 8] = [
     ("I", INSTANCE),
     ("P", "I1 1\nI2 2\n"),
     ("S", "swap I1 I2\nundo\n"),
     ("C", CERTIFICATE),
+    ("R", REFINED),
     ("D", OLD),
     ("M", OLD),
     ("O", OLD),
@@ -60,13 +68,14 @@ const SOURCE: Source<'static> = Source {
     slack: 0,
 };
 
-/// A command with its words. `Bound` is `check` without a plan.
+/// A command with its words. `CheckAlone` is `check` without a plan. `CheckRefined` and `ReboundRefined` take a
+/// certificate of any version.
 #[derive(Clone, Copy, Debug)]
 pub(crate) enum Command {
     Evaluate,
     Replay,
     Check,
-    Bound,
+    CheckAlone,
     Solve,
     Table,
     Rebound,
@@ -74,13 +83,17 @@ pub(crate) enum Command {
     Rehearse,
     Repair,
     Audit,
+    CheckRefined,
+    ReboundRefined,
+    Bound,
+    Improve,
 }
 
-pub(crate) const COMMANDS: [Command; 11] = [
+pub(crate) const COMMANDS: [Command; 15] = [
     Command::Evaluate,
     Command::Replay,
     Command::Check,
-    Command::Bound,
+    Command::CheckAlone,
     Command::Solve,
     Command::Table,
     Command::Rebound,
@@ -88,19 +101,27 @@ pub(crate) const COMMANDS: [Command; 11] = [
     Command::Rehearse,
     Command::Repair,
     Command::Audit,
+    Command::CheckRefined,
+    Command::ReboundRefined,
+    Command::Bound,
+    Command::Improve,
 ];
 
 impl Command {
     /// The files that it reads, in this order.
     pub fn inputs(self) -> &'static [Word] {
         match self {
-            Command::Evaluate | Command::Table | Command::Roll | Command::Repair => {
-                &[(2, "I"), (3, "P")]
-            }
+            Command::Evaluate
+            | Command::Table
+            | Command::Roll
+            | Command::Repair
+            | Command::Improve => &[(2, "I"), (3, "P")],
             Command::Replay => &[(2, "I"), (3, "P"), (4, "S")],
             Command::Check | Command::Audit => &[(2, "I"), (3, "P"), (4, "C")],
-            Command::Bound => &[(2, "I"), (4, "C")],
+            Command::CheckAlone => &[(2, "I"), (4, "C")],
+            Command::CheckRefined | Command::Bound => &[(2, "I"), (3, "P"), (4, "R")],
             Command::Rebound => &[(2, "I"), (3, "C")],
+            Command::ReboundRefined => &[(2, "I"), (3, "R")],
             Command::Solve => &[(2, "I")],
             Command::Rehearse => &[],
         }
@@ -110,8 +131,8 @@ impl Command {
     pub fn outputs(self) -> &'static [Word] {
         match self {
             Command::Solve => &[(4, "D"), (5, "M"), (3, "O")],
-            Command::Rebound => &[(4, "O")],
-            Command::Roll => &[(5, "O")],
+            Command::Rebound | Command::ReboundRefined | Command::Improve => &[(4, "O")],
+            Command::Roll | Command::Bound => &[(5, "O")],
             Command::Repair => &[(4, "D"), (5, "O")],
             _ => &[],
         }
@@ -123,7 +144,7 @@ impl Command {
             Command::Evaluate => evaluate_files(alloc, &SOURCE, "P", desk),
             Command::Replay => replay(alloc, desk),
             Command::Check => check_files(alloc, &SOURCE, Some("P"), "C", desk),
-            Command::Bound => check_files(alloc, &SOURCE, None, "C", desk),
+            Command::CheckAlone => check_files(alloc, &SOURCE, None, "C", desk),
             Command::Solve => solve(alloc, desk),
             Command::Table => table_files(alloc, &SOURCE, "P", 1, 2, desk),
             Command::Rebound => rebound(alloc, ANY, desk),
@@ -131,6 +152,10 @@ impl Command {
             Command::Rehearse => rehearse(alloc, desk),
             Command::Repair => repair(alloc, desk),
             Command::Audit => audit_files(alloc, &SOURCE, "P", "C", desk),
+            Command::CheckRefined => check_refined(alloc, desk),
+            Command::ReboundRefined => rebound_refined(alloc, desk),
+            Command::Bound => bound(alloc, desk),
+            Command::Improve => improve(alloc, desk),
         }
     }
 }
@@ -181,6 +206,37 @@ fn repair(alloc: Global, desk: &mut MemDesk) -> u8 {
         out: "O",
     };
     repair_files::<TreeRow, MemDesk>(alloc, &SOURCE, "P", &files, 3, desk)
+}
+
+fn check_refined(alloc: Global, desk: &mut MemDesk) -> u8 {
+    check_files_by::<VersionedCertificate, MemDesk>(alloc, &SOURCE, Some("P"), "R", desk)
+}
+
+fn rebound_refined(alloc: Global, desk: &mut MemDesk) -> u8 {
+    let limits = Limits::standard();
+    rebound_files_by::<VersionedCertificate, MemDesk>(alloc, &limits, &SOURCE, "R", "O", desk)
+}
+
+/// Without a turn.
+fn bound(alloc: Global, desk: &mut MemDesk) -> u8 {
+    let limits = Limits::standard();
+    let part = Part::whole();
+    bound_files(
+        alloc,
+        &limits,
+        &SOURCE,
+        Some("P"),
+        Some("R"),
+        "O",
+        0,
+        part,
+        desk,
+    )
+}
+
+/// Without a turn.
+fn improve(alloc: Global, desk: &mut MemDesk) -> u8 {
+    improve_files::<TreeRow, MemDesk>(alloc, &SOURCE, Some("P"), "O", 0, 7, desk)
 }
 
 /// A desk with all files, which are read by small pieces.

@@ -1,4 +1,4 @@
-//! A call of the desk that fails, at each place of a run, for each command of two programs.
+//! A call of the desk that fails, at each place of a run, for each command of the programs.
 //!
 //! It holds tests alone. What is due follows from the kind of the call and the files of the command.
 #![tactic(auto)]
