@@ -30,9 +30,9 @@ use Rattle.branch_search.specs.Splits.{split_count}
 use Rattle.branch_search.specs.Tasks.{Task, given_claim, freed}
 use Rattle.branch_search.specs.Growing.{cell_at, node_at, box_at, IsLeafNode, IsLinked, AreBoxesOf, split_cells}
 use Rattle.branch_search.specs.Growing.{split_list}
-use Rattle.branch_search.specs.Shapes.{Shape, tip, fork, forks, times, Stands, IsShapeOf, grown}
+use Rattle.branch_search.specs.Shapes.{Shape, tip, forks, times, IsShapeOf, grown}
 use Rattle.branch_search.specs.Settled.{IsWaitingBox, IsSettled, IsWorthOf, IsImprovedIn, IsLeafOf}
-use Rattle.branch_search.specs.States.{entries_of, AreEntries, IsFloor, IsGrown}
+use Rattle.branch_search.specs.States.{entries_of, AreEntries, IsFloor, IsOpened, IsGrown}
 use Rattle.branch_search.specs.Aside.{IsFiled}
 use Rattle.branch_search.specs.Parted.{Place, IsApart, IsNoEntry, Stage, Continues}
 use Rattle.branch_search.specs.Begun.{with_leaf, nodes_at, AreApart, IsOneOf, IsOpen, AreOpen, IsBegun}
@@ -40,13 +40,13 @@ use Rattle.branch_search.proofs.SplitLemmas.{leaf_count}
 use Rattle.branch_search.proofs.CellLemmas.{length_split, at_split, at_left, at_right, box_left, box_right}
 use Rattle.branch_search.proofs.CellLemmas.{leaf_linked, are_boxes_more, split_is_no_leaf, cost_is_no_split, Where}
 use Rattle.branch_search.proofs.CellLemmas.{where_is}
-use Rattle.branch_search.proofs.ShapeLemmas.{same_is, same_not, shape_more, forks_more}
+use Rattle.branch_search.proofs.ShapeLemmas.{same_is, shape_more, forks_more}
 use Rattle.branch_search.proofs.LeafLemmas.{leaf_for, still_best, some_is, still_settled, given_under}
 use Rattle.branch_search.proofs.ChangeLemmas.{IsChangedAt, point_is_no_cost, length_leaf, at_leaf, leaf_changes}
 use Rattle.branch_search.proofs.ChangeLemmas.{shape_leaf, boxes_leaf, split_changes, entries_changed}
 use Rattle.branch_search.proofs.EntryLemmas.{all_front, all_back}
 use Rattle.branch_search.proofs.AsideLemmas.{aside_after, filed_all, filed_waits, filed_stays, filed_here}
-use Rattle.branch_search.proofs.PartLemmas.{place_continues, continues_laid, continues_split}
+use Rattle.branch_search.proofs.PartLemmas.{place_continues, continues_with, continues_laid, continues_split}
 
 -- the plan handed in is no worse than itself
 pub best_at_first : (task : Task) (best : Option (List ℕ)) → best ≡ task.incumbent
@@ -70,17 +70,6 @@ tail_is x y xs ys e = cc
 
 some_are_none : {A : Type 0} (x : A) (xs : List A) → x ∷ xs ≡ [] → ⊥
 some_are_none x xs e = cc
-
--- ---- splits
--- a split among the numbers is a fork of the shape
-fork_is_there : (cells : List Cell) (k i m : ℕ) (s : Shape) → node_at cells k ≡ Split i m → Stands cells s
-    → 0 < times k s → 0 < forks s
-fork_is_there cells k i m (tip j) e h some = at (cases_eq j k)
-  where
-    at : (j ≡ k) ⊎ (j ≡ k → ⊥) → 0 < 0
-    at (inl f) = absurd (split_is_no_leaf (node_at cells j) i m (ap (node_at cells) f ∙ e) h)
-    at (inr d) = absurd (omega (arith, some, same_not j k d))
-fork_is_there cells k i m (fork j l r) e h some = omega arith
 
 -- ---- places
 apart_of_open : (task : Task) (cells : List Cell) (boxes : List (List Span)) (n : ℕ) (places : List Place)
@@ -187,6 +176,7 @@ begun_first task may best t stack fits one nodes law best_is is = record {
   };
   continues = place_continues (record {
     may = may;
+    was_split = λ j. ⊥;
     cells = (record { node = Point; parent = 0; left = 0 }) ∷ [];
     waiting = [];
     aside = [];
@@ -234,6 +224,7 @@ pub record IsTop (task : Task) (may : ℕ → Type 0) (given : Tree) (cells : Li
   pub waits : AreEntries task cells boxes (waiting ++ aside)
   pub continues : Continues (record {
     may = may;
+    was_split = λ j. ⊥;
     cells = cells;
     waiting = waiting;
     aside = aside;
@@ -246,7 +237,15 @@ pub record IsTop (task : Task) (may : ℕ → Type 0) (given : Tree) (cells : Li
 
 abbrev stage_at : (may : ℕ → Type 0) (cells : List Cell) (waiting aside : List (ℤ × ℕ)) (seen : ℕ) → List Place → Stage
 stage_at may cells waiting aside seen places =
-    record { may = may; cells = cells; waiting = waiting; aside = aside; next = seen; places = places }
+    record {
+      may = may;
+      was_split = λ j. ⊥;
+      cells = cells;
+      waiting = waiting;
+      aside = aside;
+      next = seen;
+      places = places;
+    }
 
 pub at_top : (task : Task) (may : ℕ → Type 0) (given : Tree) (cells : List Cell) (waiting aside : List (ℤ × ℕ))
     (best : Option (List ℕ)) (stack under : List ℕ) (k seen : ℕ) (rest : List Node)
@@ -419,6 +418,7 @@ module _ (task : Task) (may : ℕ → Type 0) (given : Tree) (cells : List Cell)
 
   still_continues : Continues (record {
     may = may;
+    was_split = λ j. ⊥;
     cells = with_leaf cells k here.node;
     waiting = new;
     aside = aside_after may_split here.worth k aside;
@@ -434,6 +434,7 @@ module _ (task : Task) (may : ℕ → Type 0) (given : Tree) (cells : List Cell)
       (all_back (λ (e : ℤ × ℕ). e.1 ≡ k → ⊥) old aside no_entry)) 0 given g.shape
       (subst (λ (t : Tree). Continues (record {
         may = may;
+        was_split = λ j. ⊥;
         cells = cells;
         waiting = old;
         aside = aside;
@@ -538,7 +539,7 @@ module _ (task : Task) (may : ℕ → Type 0) (given : Tree) (cells : List Cell)
       (node_at (split_cells cells k i m Point Point) t)) (sym e)
       (subst (λ (c : Cell). IsSettled task best (box_at (split_list g.boxes k i m) k) c.node)
       (sym (at_split cells k i m Point Point split_known))
-      (λ none. let s = g.splits_are in absurd (omega (arith, s, none)))))
+      tt))
   split_settled j (inr (inl (l, d))) = other (g.settled j l)
     where
       other : (k ≡ j) ⊎ IsOneOf j g.others ⊎ IsSettled task best (box_at g.boxes j) (node_at cells j)
@@ -611,6 +612,7 @@ module _ (task : Task) (may : ℕ → Type 0) (given : Tree) (cells : List Cell)
         g.others g.apart_first 0 given g.shape g.is_shape.within
         (subst (λ (t : Tree). Continues (record {
           may = may;
+          was_split = λ j. ⊥;
           cells = cells;
           waiting = waiting;
           aside = aside;
@@ -645,19 +647,12 @@ module _ (task : Task) (may : ℕ → Type 0) (given : Tree) (cells : List Cell)
     is_shape = h.is_shape;
     splits_are = let s = h.splits_are in omega (arith, s);
     settled = λ k l. settled k h.places h.rest_is (h.settled k l);
-    level = λ none k i m j l e s. absurd (let f = fork_is_there cells k i m h.shape e h.is_shape.stands
-        (omega (arith, h.is_shape.once k l)) in
-        let q = h.splits_are in omega (arith, f, q, none));
     floors = h.floors;
     waits = h.waits;
-    continues = subst (λ (places : List Place). Continues (record {
-      may = may;
-      cells = cells;
-      waiting = waiting;
-      aside = aside;
-      next = seen;
-      places = places;
-    }) 0 given h.shape) (no_places h.places h.rest_is) h.continues;
+    continues = continues_with may (λ j. ⊥) (λ k. IsOpened task best waiting (box_at h.boxes k)) cells waiting aside
+        seen [] (λ k o. absurd o) 0 given h.shape
+        (subst (λ (places : List Place). Continues (stage_at may cells waiting aside seen places) 0 given h.shape)
+        (no_places h.places h.rest_is) h.continues);
     best_is = h.best_is;
   }
     where

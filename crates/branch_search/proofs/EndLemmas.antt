@@ -26,7 +26,7 @@ use Rattle.branch_search.specs.declared.tree.growth.Growth.{Growth}
 use Rattle.branch_search.specs.declared.search_end.SearchEnd.{SearchEnd}
 use Rattle.branch_search.specs.Splits.{split_boxes}
 use Rattle.branch_search.specs.Best.{IsReached, IsShort, bound_of, Reaches}
-use Rattle.branch_search.specs.Searched.{IsSplitBox, IsBounding, IsCostOf, IsAmong, IsLeastOf, IsUnfinishedLeaf}
+use Rattle.branch_search.specs.Searched.{IsBounding, IsCostOf, IsAmong, IsLeastOf, IsUnfinishedLeaf}
 use Rattle.branch_search.specs.Searched.{IsSearchedBy}
 use Rattle.branch_search.specs.Tasks.{Task, splits_before, given_claim}
 use Rattle.branch_search.specs.Growing.{node_at, box_at, IsLeafNode}
@@ -34,7 +34,7 @@ use Rattle.branch_search.specs.Shapes.{top, numbers, tree_of}
 use Rattle.branch_search.specs.Settled.{IsSettled}
 use Rattle.branch_search.specs.Valued.{plan_in, IsBelow, IsValued}
 use Rattle.branch_search.specs.States.{IsGrowth, IsEntry, IsFloor, IsLeftWorth, NoneIsLeft, bound_with}
-use Rattle.branch_search.proofs.TreeLemmas.{order_is, in_range, each_leaf, each_split, some_leaf, splits_are}
+use Rattle.branch_search.proofs.TreeLemmas.{order_is, in_range, each_leaf, some_leaf, splits_are}
 use Rattle.branch_search.proofs.LeafLemmas.{at_most_trans, below_is_at_most}
 
 -- ---- the kept value
@@ -47,12 +47,6 @@ pub below_short : (value : PlanValue) (inst : Tables) (best : Option Best) (z : 
     → IsBelow best z → IsShort value inst (plan_in best) z
 below_short value inst None z v h = h
 below_short value inst (Some b) z v h = subst (λ (x : ℤ). z <ℤ x) v.is h
-
-least_is : (a b : ℤ) → Least a ≡ Least b → a ≡ b
-least_is a b e = cc
-
-none_least : (b : ℤ) → NoPlan ≡ Least b → ⊥
-none_least b e = cc
 
 not_below : (a b : ℤ) → (a <ℤ b → ⊥) → b ≤ℤ a
 not_below a b h = by_lt_z a b (λ l. absurd (h l)) (λ l. l)
@@ -214,16 +208,6 @@ least_of task best (Some z) ls v some h = (inr (some z refl), h)
 least_of task None None ls v some h = h
 least_of task (Some b) None ls v some h = (inl (b.starts, refl, sym v.is), h)
 
--- a split's worth is at most the bound
-split_at_most : (task : Task) (best : Option Best) (left : Option ℤ) (y b : ℤ) → IsValued task.value task.inst best
-    → ((z : ℤ) → left ≡ Some z → y ≤ℤ z)
-    → ((plan : List ℕ) → plan_in best ≡ Some plan → y ≤ℤ task.value task.inst plan)
-    → bound_with left best ≡ Least b → y ≤ℤ b
-split_at_most task best (Some z) y b v some h e = subst (λ (x : ℤ). y ≤ℤ x) (least_is z b e) (some z refl)
-split_at_most task None None y b v some h e = absurd (none_least b e)
-split_at_most task (Some best) None y b v some h e = subst (λ (x : ℤ). y ≤ℤ x) (sym v.is ∙ least_is best.value b e)
-    (h best.starts refl)
-
 finished_of : (value : PlanValue) (inst : Tables) (best : Option Best) (left : Option ℤ) → IsValued value inst best
     → OnFalse (is_some left) (bound_with left best ≡ bound_of value inst (plan_in best))
 finished_of value inst best (Some z) v = tt
@@ -311,13 +295,6 @@ module _ (task : Task) (part : Part) (growth : Growth) (g : IsGrowth task part g
           (g.state.settled k l));
       stay = omega (arith, few_of task part growth g left some none);
       few = omega (arith, few, few_of task part growth g left some none);
-      splits = λ first. subst
-          (λ (b : List Span). All (IsSplitBox task.value task.inst task.lists task.worths task.incumbent
-          (bound_with left growth.best)) (split_boxes b (tree_of growth.cells.items g.state.shape)))
-          (root_is task part growth g left some none)
-          (each_split task.inst growth.cells.items g.state.boxes g.state.are_boxes
-          (IsSplitBox task.value task.inst task.lists task.worths task.incumbent (bound_with left growth.best))
-          (λ k i m l e. split_box first k i m l e) g.state.shape g.state.is_shape.stands g.state.is_shape.within);
       bounding = each task part growth g left some none
           (λ leaf. IsBounding task.value task.inst task.lists task.worths (plan_in growth.best) leaf.box leaf.node)
           (λ k l leaf. bounding_at task part growth g left some none (box_at g.state.boxes k)
@@ -356,23 +333,6 @@ module _ (task : Task) (part : Part) (growth : Growth) (g : IsGrowth task part g
       finished = finished_of task.value task.inst growth.best left g.valued;
     }
       where
-        split_box : splits_before task ≡ 0 → (k i m : ℕ) → k < length growth.cells.items
-            → node_at growth.cells.items k ≡ Split i m
-            → IsSplitBox task.value task.inst task.lists task.worths task.incumbent (bound_with left growth.best)
-            (box_at g.state.boxes k)
-        split_box first k i m l e =
-            let h = subst (IsSettled task (plan_in growth.best) (box_at g.state.boxes k)) e (g.state.settled k l) in
-            record {
-              unrefuted = (h first).0;
-              below_given = (h first).1;
-              within_bound = λ j b s f.
-                  let floor = g.state.level first k i m j l e s in
-                  split_at_most task growth.best left (task.worths (box_at g.state.boxes k) j) b g.valued
-                  (λ z q. left_floor (Least (task.worths (box_at g.state.boxes k) j)) z
-                  (left_of left (IsLeftWorth growth.best (growth.waiting ++ g.aside)) z q some) floor)
-                  floor.under_best f;
-            }
-
         none_unfinished : NoneIsLeft growth.best (growth.waiting ++ g.aside)
             → Any (IsUnfinishedLeaf task.value task.inst task.worths (plan_in growth.best))
             (leaves (root_box task.inst) (tree_of growth.cells.items g.state.shape)) → ⊥

@@ -1,6 +1,6 @@
 -- What the last state shows of the part that was searched: the statement.
 use Rattle.std.proofs.Common.{◌≡◌, ℕ, ◌+◌, ◌%◌, ◌<◌, ◌≤◌, ◌⊎◌, inl, inr, refl, sym, ◌∙◌, ap, subst, arith, ℤ}
-use Rattle.std.proofs.Common.{List, length, Contains, Option, IsTrue, true, false}
+use Rattle.std.proofs.Common.{List, ◌∷◌, ◌++◌, length, All, Contains, Option, IsTrue, true, false, ◌≤ℤ◌}
 use Rattle.std.specs.Prelude.{Any}
 use Rattle.std.proofs.Math.Nat.{mod-lt}
 use Rattle.std.proofs.lemmas.Bool.{cases_Bool, cases_lt}
@@ -11,8 +11,8 @@ use Rattle.instance_model.specs.Fitting.{IsFitting}
 use Rattle.lagrange_bound.specs.declared.span.Span.{Span}
 use Rattle.lagrange_bound.specs.Goals.{PlanValue}
 use Rattle.certificate_tree.specs.declared.node.Node.{Node}
-use Rattle.certificate_tree.specs.declared.node.Node.TheVariants.{Cost}
-use Rattle.certificate_tree.specs.Trees.{Tree, leaf, split, Leaf, leaves, root_box, below, above}
+use Rattle.certificate_tree.specs.declared.node.Node.TheVariants.{Split, Cost}
+use Rattle.certificate_tree.specs.Trees.{Tree, leaf, split, pre_order, Leaf, leaves, root_box, below, above}
 use Rattle.certificate_tree.specs.Ranges.{AreNodesOf}
 use Rattle.certificate_tree.specs.Holding.{Worths}
 use Rattle.certificate_tree.proofs.OneTree.{nodes_are_one_tree}
@@ -20,18 +20,19 @@ use Rattle.branch_search.specs.declared.part.Part.{Part}
 use Rattle.branch_search.specs.declared.tree.growth.Growth.{Growth}
 use Rattle.branch_search.specs.declared.search_end.SearchEnd.{SearchEnd}
 use Rattle.branch_search.specs.Splits.{split_boxes, split_count}
-use Rattle.branch_search.specs.Searched.{IsUnfinishedLeaf, IsSearchedBy}
+use Rattle.branch_search.specs.Best.{IsNumber}
+use Rattle.branch_search.specs.Searched.{IsSplitBox, IsCostOf, IsAmong, IsLeastOf, IsUnfinishedLeaf, IsSearchedBy}
 use Rattle.branch_search.specs.Tasks.{Task, splits_before}
 use Rattle.branch_search.specs.Parts.{IsOfPart, whole_part, leaf_total, GoesOnFrom, AnyBeneath, IsLeftToOthers}
-use Rattle.branch_search.specs.Parts.{IsGoneOnBy}
+use Rattle.branch_search.specs.Parts.{AllSplitBeneath, IsAmongPart, IsGoneOnBy}
 use Rattle.branch_search.specs.Growing.{node_at, box_at, IsLeafNode}
 use Rattle.branch_search.specs.Shapes.{tree_of}
 use Rattle.branch_search.specs.Valued.{plan_in}
 use Rattle.branch_search.specs.Parted.{IsNoEntry}
-use Rattle.branch_search.specs.States.{IsGrowth, NoneIsLeft, IsAnswerOf}
+use Rattle.branch_search.specs.States.{IsUnder, IsOpened, IsGrowth, NoneIsLeft, IsAnswerOf}
 use Rattle.branch_search.proofs.VolumeLemmas.{any_parts, too_few}
 use Rattle.branch_search.proofs.EndLemmas.{none_short, of_tree, root_is, few_of, searched}
-use Rattle.branch_search.proofs.PartLemmas.{goes_on, of_beneath}
+use Rattle.branch_search.proofs.PartLemmas.{goes_on, of_beneath, split_beneath}
 
 -- ---- the one part of all leaves
 
@@ -55,6 +56,13 @@ beneath_any may Such n box (split i q l r) (split j k x y) m g h =
     at il ir (inl o) = inl (il o)
     at il ir (inr o) = inr (ir o)
 
+-- a tree without splits has only new ones
+all_beneath : (P : List Span → Type 0) (box : List Span) (t u : Tree) → split_count (pre_order t) ≡ 0
+    → AllSplitBeneath P box t u → All P (split_boxes box u)
+all_beneath P box (leaf a) u e h = h
+all_beneath P box (split i m l r) u e h =
+    absurd (let z : split_count (Split i m ∷ (pre_order l ++ pre_order r)) ≡ 0 = e in omega (arith, z))
+
 -- ---- the last state
 
 module _ (task : Task) (part : Part) (growth : Growth) (g : IsGrowth task part growth) (turns : ℕ) (answer : SearchEnd)
@@ -76,9 +84,13 @@ module _ (task : Task) (part : Part) (growth : Growth) (g : IsGrowth task part g
   made = subst (λ (t : Tree). length (split_boxes (root_box task.inst) t) ≡ splits_before task + growth.splits) tree_is
       (few_of task part growth g a.left a.some a.none)
 
+  -- what is known of a number that was split
+  abbrev was_split : ℕ → Type 0
+  was_split k = IsOpened task (plan_in growth.best) growth.waiting (box_at g.state.boxes k)
+
   stays : GoesOnFrom (IsOfPart part) 0 g.given by.tree
   stays = subst (GoesOnFrom (IsOfPart part) 0 g.given) tree_is
-      (goes_on (IsOfPart part) growth.cells.items growth.waiting g.aside g.seen 0 g.given g.state.shape
+      (goes_on (IsOfPart part) was_split growth.cells.items growth.waiting g.aside g.seen 0 g.given g.state.shape
       g.state.continues)
 
   -- a leaf whose number is not set aside waits
@@ -101,7 +113,7 @@ module _ (task : Task) (part : Part) (growth : Growth) (g : IsGrowth task part g
   none_beneath : NoneIsLeft growth.best growth.waiting
       → AnyBeneath (IsOfPart part) (Unfinished (plan_in growth.best)) 0 (root_box task.inst) g.given tree → ⊥
   none_beneath none h =
-      of_beneath (IsOfPart part) growth.cells.items growth.waiting g.aside g.seen task.inst g.state.boxes
+      of_beneath (IsOfPart part) was_split growth.cells.items growth.waiting g.aside g.seen task.inst g.state.boxes
       g.state.are_boxes
       (λ (x : Leaf). (j : ℕ) → x.node ≡ Cost j → (n : ℕ) × Contains growth.waiting (task.worths x.box j, n))
       waits ⊥ (Unfinished (plan_in growth.best))
@@ -127,6 +139,52 @@ module _ (task : Task) (part : Part) (growth : Growth) (g : IsGrowth task part g
       at (inr l) = absurd (done none (beneath_any (IsOfPart part) (Unfinished answer.best) 0 (root_box task.inst)
           g.given
           by.tree (all_of_one part some l) stays (by.unfinished.0 still)))
+
+  -- ---- the boxes that were split
+
+  -- z is the value of a best plan, or the worth of a `cost` leaf of the part, in a tree that goes on from the given one
+  abbrev Among : Option (List ℕ) → Tree → ℤ → Type 0
+  Among best t = IsAmongPart task.value task.inst task.worths best part g.given t
+
+  abbrev SplitBoxOf : (ℤ → Type 0) → List Span → Type 0
+  SplitBoxOf among = IsSplitBox task.value task.inst task.lists task.worths task.incumbent among
+
+  under_among : (z y : ℤ) → IsUnder task (plan_in growth.best) growth.waiting y → Among (plan_in growth.best) tree z
+      → y ≤ℤ z
+  under_among z y h (inl (plan, e, v)) = subst (λ (x : ℤ). y ≤ℤ x) v (h.under_best plan e)
+  under_among z y h (inr u) =
+      of_beneath (IsOfPart part) was_split growth.cells.items growth.waiting g.aside g.seen task.inst g.state.boxes
+      g.state.are_boxes
+      (λ (x : Leaf). (j : ℕ) → x.node ≡ Cost j → (n : ℕ) × Contains growth.waiting (task.worths x.box j, n))
+      waits (y ≤ℤ z) (IsCostOf task.worths z)
+      (λ x c w. let found = w c.list c.node in subst (λ (b : ℤ). y ≤ℤ b) c.worth
+      (All-contains (λ (e : ℤ × ℕ). y ≤ℤ e.0) growth.waiting (task.worths x.box c.list, found.0) h.under_waiting
+      found.1))
+      0 g.given g.state.shape g.state.is_shape.stands g.state.is_shape.within g.state.continues
+      (subst (λ (b : List Span). AnyBeneath (IsOfPart part) (IsCostOf task.worths z) 0 b g.given tree)
+      (sym (root_is task part growth g a.left a.some a.none)) u)
+
+  splits_beneath : AllSplitBeneath (SplitBoxOf (Among (plan_in growth.best) tree)) (root_box task.inst) g.given tree
+  splits_beneath = subst
+      (λ (b : List Span). AllSplitBeneath (SplitBoxOf (Among (plan_in growth.best) tree)) b g.given tree)
+      (root_is task part growth g a.left a.some a.none)
+      (split_beneath (IsOfPart part) was_split growth.cells.items growth.waiting g.aside g.seen task.inst g.state.boxes
+      g.state.are_boxes (SplitBoxOf (Among (plan_in growth.best) tree))
+      (λ k l h. record {
+        unrefuted = h.unrefuted;
+        below_given = h.below_given;
+        at_most = λ j z s w. under_among z (task.worths (box_at g.state.boxes k) j) (h.under j s) w;
+      })
+      0 g.given g.state.shape g.state.is_shape.stands g.state.is_shape.within g.state.continues)
+
+  new_splits : AllSplitBeneath (SplitBoxOf (Among answer.best by.tree)) (root_box task.inst) g.given by.tree
+  new_splits = subst
+      (λ (b : Option (List ℕ)). AllSplitBeneath (SplitBoxOf (Among b by.tree)) (root_box task.inst) g.given by.tree)
+      (sym a.best)
+      (subst (λ (t : Tree). AllSplitBeneath (SplitBoxOf (Among (plan_in growth.best) t)) (root_box task.inst) g.given
+      t) tree_is splits_beneath)
+
+  -- ---- when the search stopped
 
   when_spent : IsTrue answer.unfinished → (growth.splits ≡ turns)
       ⊎ IsLeftToOthers task.value task.inst task.worths answer.best part g.given by.tree
@@ -159,6 +217,7 @@ module _ (task : Task) (part : Part) (growth : Growth) (g : IsGrowth task part g
     given = g.given;
     of_nodes = g.of_nodes;
     stays = stays;
+    new_splits = new_splits;
     spent = when_spent;
     enough = when_enough;
   }
@@ -168,17 +227,16 @@ module _ (task : Task) (part : Part) (growth : Growth) (g : IsGrowth task part g
 module _ (value : PlanValue) (inst : Tables) (lists : ℕ) (worths : Worths) (incumbent : Option (List ℕ))
     (nodes : List Node) (turns : ℕ) (answer : SearchEnd)
     (h : IsGoneOnBy value inst lists worths incumbent nodes whole_part turns answer) where
-  no_others : IsLeftToOthers value inst worths answer.best whole_part h.given h.by.tree → ⊥
+  pub no_others : IsLeftToOthers value inst worths answer.best whole_part h.given h.by.tree → ⊥
   no_others o = let l = o.others in omega (arith, l)
 
-  pub whole_searched : IsSearchedBy value inst lists worths incumbent (split_count nodes) turns answer
+  abbrev pub whole_searched : IsSearchedBy value inst lists worths incumbent (split_count nodes) turns answer
   whole_searched = record {
     tree = h.by.tree;
     of_nodes = h.by.of_nodes;
     holds = h.by.holds;
     stay = h.by.stay;
     few = let m = h.made in let f = h.few in omega (arith, m, f);
-    splits = h.by.splits;
     bounding = h.by.bounding;
     best = h.by.best;
     bound = h.by.bound;
@@ -191,6 +249,27 @@ module _ (value : PlanValue) (inst : Tables) (lists : ℕ) (worths : Worths) (in
           → length (split_boxes (root_box inst) h.by.tree) ≡ split_count nodes + turns
       at (inl e) = h.made ∙ ap (λ (n : ℕ). split_count nodes + n) e
       at (inr o) = absurd (no_others o)
+
+  -- of a tree of one leaf each split is a new one, and no worth of it is above the bound
+  pub whole_splits : split_count nodes ≡ 0
+      → All (IsSplitBox value inst lists worths incumbent (IsNumber answer.bound)) (split_boxes (root_box inst)
+      h.by.tree)
+  whole_splits none k d l =
+      let here = all_beneath (IsSplitBox value inst lists worths incumbent
+      (IsAmongPart value inst worths answer.best whole_part h.given h.by.tree)) (root_box inst) h.given h.by.tree
+      (ap split_count h.of_nodes.order ∙ none) h.new_splits k d l in
+      record {
+        unrefuted = here.unrefuted;
+        below_given = here.below_given;
+        at_most = λ j z s e. here.at_most j z s (among z (subst (IsLeastOf (IsAmong value inst worths answer.best
+            (leaves (root_box inst) h.by.tree))) e h.by.bound).0);
+      }
+    where
+      among : (z : ℤ) → IsAmong value inst worths answer.best (leaves (root_box inst) h.by.tree) z
+          → IsAmongPart value inst worths answer.best whole_part h.given h.by.tree z
+      among z (inl w) = inl w
+      among z (inr w) = inr (beneath_any (IsOfPart whole_part) (IsCostOf worths z) 0 (root_box inst) h.given h.by.tree
+          (all_of_one whole_part (omega arith) (omega arith)) h.stays w)
 
   pub whole_enough : count_product (length inst.names) (tmax inst) ≤ split_count nodes + turns + 1
       → answer.unfinished ≡ false

@@ -2,44 +2,30 @@
 use Rattle.std.proofs.Common.{◌≡◌, ℕ, suc, ◌+◌, ◌<◌, ◌≤◌, ◌⊎◌, inl, inr, refl, sym, ◌∙◌, ap, subst, arith, ℤ}
 use Rattle.std.proofs.Common.{List, [], ◌∷◌, ◌++◌, length, All, Bool, true, false, cond, eqb, Option}
 use Rattle.std.specs.Prelude.{IsPermutation}
-use Rattle.std.proofs.lemmas.Bool.{eq-eqb, ne_eqb, cases_eq, cases_lt}
-use Rattle.std.proofs.lemmas.List.Elements.{All-nil, All-cons, All-head, All-tail, All-append, All-contains}
+use Rattle.std.proofs.lemmas.Bool.{eq-eqb, ne_eqb, cases_eq}
+use Rattle.std.proofs.lemmas.List.Elements.{All-nil, All-cons, All-tail, All-append, All-contains}
 use Rattle.std.proofs.lemmas.List.Sorted.{All-permutation}
 use Rattle.instance_model.specs.Tables.{Tables}
 use Rattle.lagrange_bound.specs.declared.span.Span.{Span}
 use Rattle.certificate_tree.specs.declared.node.Node.{Node}
 use Rattle.certificate_tree.specs.declared.node.Node.TheVariants.{Split, Point}
-use Rattle.certificate_tree.specs.Trees.{Tree, leaf, split, pre_order, Leaf, leaves, below, above}
+use Rattle.certificate_tree.specs.Trees.{Tree, leaf, split, Leaf, leaves, below, above}
 use Rattle.branch_search.specs.declared.tree.cell.Cell.{Cell}
-use Rattle.branch_search.specs.Splits.{split_count}
-use Rattle.branch_search.specs.Parts.{leaf_total, GoesOnFrom, AnyBeneath}
+use Rattle.branch_search.specs.Splits.{split_boxes}
+use Rattle.branch_search.specs.Parts.{leaf_total, GoesOnFrom, AnyBeneath, AllSplitBeneath}
 use Rattle.branch_search.specs.Growing.{node_at, box_at, IsLeafNode, AreBoxesOf, split_cells}
-use Rattle.branch_search.specs.Shapes.{Shape, tip, fork, top, tips, IsWithin, IsForkAt, Stands, IsShapeOf}
-use Rattle.branch_search.specs.Shapes.{tree_of}
+use Rattle.branch_search.specs.Shapes.{Shape, tip, fork, top, IsWithin, IsForkAt, Stands, tree_of}
 use Rattle.branch_search.specs.Shapes.{number_of, last_of, grown}
 use Rattle.branch_search.specs.Entries.{with_entry}
-use Rattle.branch_search.specs.Parted.{Place, IsApart, IsPlaceOf, IsNoEntry, AllTips, Stage, IsLeftLeaf, Continues}
+use Rattle.branch_search.specs.Parted.{Place, IsApart, IsPlaceOf, IsNoEntry, AllTips, AllForks, Stage, IsLeftLeaf}
+use Rattle.branch_search.specs.Parted.{Continues}
 use Rattle.branch_search.specs.Begun.{with_leaf}
 use Rattle.branch_search.proofs.CellLemmas.{at_split, at_other, split_is_no_leaf}
-use Rattle.branch_search.proofs.ShapeLemmas.{same_not, tips_are}
 use Rattle.branch_search.proofs.TreeLemmas.{parting}
 use Rattle.branch_search.proofs.EntryLemmas.{all_with, popped}
 use Rattle.branch_search.proofs.ChangeLemmas.{off_leaf}
 
--- ---- numbers that are no splits
-
-pub tip_such : (Such : ℕ → Type 0) (j : ℕ) (s : Shape) → AllTips Such s → 0 < tips j s → Such j
-tip_such Such j (tip k) h some = at (cases_eq k j)
-  where
-    at : (k ≡ j) ⊎ (k ≡ j → ⊥) → Such j
-    at (inl e) = subst Such e h
-    at (inr d) = absurd (omega (arith, some, same_not k j d))
-tip_such Such j (fork k l r) h some =
-    at (λ o. tip_such Such j l h.0 o) (λ o. tip_such Such j r h.1 o) (cases_lt 0 (tips j l))
-  where
-    at : (0 < tips j l → Such j) → (0 < tips j r → Such j) → (0 < tips j l) ⊎ (tips j l ≤ 0) → Such j
-    at il ir (inl o) = il o
-    at il ir (inr o) = ir (omega (arith, some, o))
+-- ---- numbers of a shape that grows
 
 tips_grown : (Such : ℕ → Type 0) (n a : ℕ) (s : Shape) → AllTips Such s → Such a → Such (suc a)
     → AllTips Such (grown n a s)
@@ -49,6 +35,19 @@ tips_grown Such n a (tip k) h x y = at (eqb k n)
     at true = (x, y)
     at false = h
 tips_grown Such n a (fork k l r) h x y = (tips_grown Such n a l h.0 x y, tips_grown Such n a r h.1 x y)
+
+forks_grown : (Such Other : ℕ → Type 0) (n a count : ℕ) (s : Shape) → ((k : ℕ) → k < count → Such k → Other k)
+    → Other n → IsWithin count s → AllForks Such s → AllForks Other (grown n a s)
+forks_grown Such Other n a count (tip k) so x w h = at (eqb k n)
+  where
+    at : (b : Bool) → AllForks Other (cond b (fork n (tip a) (tip (suc a))) (tip k))
+    at true = (x, tt, tt)
+    at false = tt
+forks_grown Such Other n a count (fork k l r) so x w h = (
+  so k w.0 h.0,
+  forks_grown Such Other n a count l so x w.1 h.1,
+  forks_grown Such Other n a count r so x w.2 h.2,
+)
 
 grown_at : (n a k : ℕ) → k ≡ n → fork n (tip a) (tip (suc a)) ≡ grown n a (tip k)
 grown_at n a k e = sym (ap (λ (b : Bool). cond b (fork n (tip a) (tip (suc a))) (tip k)) (eq-eqb k n e))
@@ -80,6 +79,43 @@ pub place_continues : (stage : Stage) (n : ℕ) (t : Tree) (k : ℕ) → IsPlace
 place_continues stage n (leaf a) k p = inl p
 place_continues stage n (split i m l r) k p = p
 
+-- what is known of numbers that were split, where more is known of each
+forks_with : (Such Other : ℕ → Type 0) → ((k : ℕ) → Such k → Other k) → (s : Shape) → AllForks Such s
+    → AllForks Other s
+forks_with Such Other so (tip k) h = tt
+forks_with Such Other so (fork k l r) h =
+    (so k h.0, forks_with Such Other so l h.1, forks_with Such Other so r h.2)
+
+pub continues_with : (may Such Other : ℕ → Type 0) (cells : List Cell) (waiting aside : List (ℤ × ℕ)) (next : ℕ)
+    (places : List Place) → ((k : ℕ) → Such k → Other k) → (n : ℕ) (t : Tree) (s : Shape)
+    → Continues (record {
+      may = may;
+      was_split = Such;
+      cells = cells;
+      waiting = waiting;
+      aside = aside;
+      next = next;
+      places = places;
+    }) n t s
+    → Continues (record {
+      may = may;
+      was_split = Other;
+      cells = cells;
+      waiting = waiting;
+      aside = aside;
+      next = next;
+      places = places;
+    }) n t s
+continues_with may Such Other cells waiting aside next places so n (leaf a) (tip k) h = h
+continues_with may Such Other cells waiting aside next places so n (leaf a) (fork k l r) h =
+    (h.0, h.1, forks_with Such Other so (fork k l r) h.2, h.3, h.4)
+continues_with may Such Other cells waiting aside next places so n (split i m a b) (tip k) h = h
+continues_with may Such Other cells waiting aside next places so n (split i m a b) (fork k l r) h = (
+  h.0,
+  continues_with may Such Other cells waiting aside next places so n a l h.1,
+  continues_with may Such Other cells waiting aside next places so (n + leaf_total a) b r h.2,
+)
+
 -- ---- a leaf is laid
 
 module _ (may : ℕ → Type 0) (cells : List Cell) (k : ℕ) (node given : Node) (known : k < length cells)
@@ -90,6 +126,7 @@ module _ (may : ℕ → Type 0) (cells : List Cell) (k : ℕ) (node given : Node
   abbrev before_leaf : Stage
   before_leaf = record {
     may = may;
+    was_split = λ j. ⊥;
     cells = cells;
     waiting = old;
     aside = aside;
@@ -100,6 +137,7 @@ module _ (may : ℕ → Type 0) (cells : List Cell) (k : ℕ) (node given : Node
   abbrev after_leaf : Stage
   after_leaf = record {
     may = may;
+    was_split = λ j. ⊥;
     cells = with_leaf cells k node;
     waiting = new;
     aside = after;
@@ -145,6 +183,7 @@ module _ (may : ℕ → Type 0) (cells : List Cell) (k i m : ℕ) (known : k < l
   abbrev before_split : Stage
   before_split = record {
     may = may;
+    was_split = λ j. ⊥;
     cells = cells;
     waiting = waiting;
     aside = aside;
@@ -155,6 +194,7 @@ module _ (may : ℕ → Type 0) (cells : List Cell) (k i m : ℕ) (known : k < l
   abbrev after_split : Stage
   after_split = record {
     may = may;
+    was_split = λ j. ⊥;
     cells = split_cells cells k i m Point Point;
     waiting = waiting;
     aside = aside;
@@ -222,13 +262,23 @@ module _ (may : ℕ → Type 0) (cells : List Cell) (k i m : ℕ) (known : k < l
 module _ (may : ℕ → Type 0) (cells : List Cell) (n i m : ℕ) (a b : Node) (known : n < length cells)
     (plain : IsLeafNode (node_at cells n)) (old new aside : List (ℤ × ℕ)) (seen : ℕ)
     (waits : (k : ℕ) → k < length cells → IsNoEntry old k → IsNoEntry new k)
-    (waited : IsNoEntry old n → ⊥) (within : All (λ (e : ℤ × ℕ). e.1 < length cells) aside) where
+    (waited : IsNoEntry old n → ⊥) (within : All (λ (e : ℤ × ℕ). e.1 < length cells) aside)
+    (Such Other : ℕ → Type 0) (still_split : (k : ℕ) → k < length cells → Such k → Other k) (now_split : Other n) where
   abbrev before_step : Stage
-  before_step = record { may = may; cells = cells; waiting = old; aside = aside; next = seen; places = [] }
+  before_step = record {
+    may = may;
+    was_split = Such;
+    cells = cells;
+    waiting = old;
+    aside = aside;
+    next = seen;
+    places = [];
+  }
 
   abbrev after_step : Stage
   after_step = record {
     may = may;
+    was_split = Other;
     cells = split_cells cells n i m a b;
     waiting = new;
     aside = aside;
@@ -249,6 +299,7 @@ module _ (may : ℕ → Type 0) (cells : List Cell) (n i m : ℕ) (a b : Node) (
       at (inl e) (inl w) = subst (Continues after_step x (leaf c)) (grown_at n (length cells) k e) (
         refl,
         w.0,
+        (now_split, tt, tt),
         new_number (length cells) (omega arith),
         new_number (suc (length cells)) (omega arith),
       )
@@ -264,9 +315,10 @@ module _ (may : ℕ → Type 0) (cells : List Cell) (n i m : ℕ) (a b : Node) (
   continues_grown x (leaf c) (fork k l r) w h = (
     h.0,
     h.1,
-    tips_grown (IsNoEntry aside) n (length cells) l h.2 (new_number (length cells) (omega arith))
+    forks_grown Such Other n (length cells) (length cells) (fork k l r) still_split now_split w h.2,
+    tips_grown (IsNoEntry aside) n (length cells) l h.3 (new_number (length cells) (omega arith))
         (new_number (suc (length cells)) (omega arith)),
-    tips_grown (IsNoEntry aside) n (length cells) r h.3 (new_number (length cells) (omega arith))
+    tips_grown (IsNoEntry aside) n (length cells) r h.4 (new_number (length cells) (omega arith))
         (new_number (suc (length cells)) (omega arith)),
   )
   continues_grown x (split j q t u) (tip k) w h = absurd h
@@ -292,57 +344,26 @@ pub waited : (n : ℕ) (z : ℤ) (old rest : List (ℤ × ℕ)) → IsPermutatio
 waited n z old rest p h =
     All-contains (λ (e : ℤ × ℕ). e.1 ≡ n → ⊥) old (z, n) h (popped old rest (z, n) p) refl
 
--- ---- a tree of one leaf
+-- ---- the tree at last
 
--- entries have numbers of leaves
-abbrev pub AreOfLeaves : List Cell → List (ℤ × ℕ) → Type 0
-AreOfLeaves cells entries =
-    All (λ (e : ℤ × ℕ). (e.1 < length cells) × IsLeafNode (node_at cells e.1)) entries
-
-once_tip : (cells : List Cell) (s : Shape) (k : ℕ) → IsShapeOf cells s → k < length cells
-    → IsLeafNode (node_at cells k) → 0 < tips k s
-once_tip cells s k h l plain = let e = tips_are cells k s plain h.stands in let o = h.once k l in omega (arith, e, o)
-
-none_aside : (cells : List Cell) (s : Shape) (aside : List (ℤ × ℕ)) → IsShapeOf cells s → AreOfLeaves cells aside
-    → AllTips (IsNoEntry aside) s → aside ≡ []
-none_aside cells s [] h f t = refl
-none_aside cells s (e ∷ es) h f t =
-    let w = All-head (λ (x : ℤ × ℕ). (x.1 < length cells) × IsLeafNode (node_at cells x.1)) e es f in
-    absurd (All-head (λ (x : ℤ × ℕ). x.1 ≡ e.1 → ⊥) e es
-    (tip_such (IsNoEntry (e ∷ es)) e.1 s t (once_tip cells s e.1 h w.0 w.1)) refl)
-
-module _ (may : ℕ → Type 0) (cells : List Cell) (waiting aside : List (ℤ × ℕ)) (seen : ℕ) where
+module _ (may was_split : ℕ → Type 0) (cells : List Cell) (waiting aside : List (ℤ × ℕ)) (seen : ℕ) where
   abbrev at_last : Stage
-  at_last = record { may = may; cells = cells; waiting = waiting; aside = aside; next = seen; places = [] }
+  at_last = record {
+    may = may;
+    was_split = was_split;
+    cells = cells;
+    waiting = waiting;
+    aside = aside;
+    next = seen;
+    places = [];
+  }
 
   -- where one number is split, its leaf may be
   beneath_leaf : (x : ℕ) (c : Node) (s : Shape) → may x → Continues at_last x (leaf c) s → AllTips (IsNoEntry aside) s
   beneath_leaf x c (tip k) m (inl h) = absurd h
   beneath_leaf x c (tip k) m (inr (u, inl h)) = h.1
   beneath_leaf x c (tip k) m (inr (u, inr h)) = absurd (h.0 m)
-  beneath_leaf x c (fork k l r) m h = (h.2, h.3)
-
-  -- where one number waits that is of a tree without splits, none is set aside
-  one_leaf : (n : ℕ) (x : ℕ) (c : Node) (s : Shape) → IsShapeOf cells s → AreOfLeaves cells aside → n < length cells
-      → IsLeafNode (node_at cells n) → (IsNoEntry waiting n → ⊥) → Continues at_last x (leaf c) s → aside ≡ []
-  one_leaf n x c (tip k) h f l plain w (inl g) = absurd g
-  one_leaf n x c (tip k) h f l plain w (inr (u, inl g)) = none_aside cells (tip k) aside h f g.1
-  one_leaf n x c (tip k) h f l plain w (inr (u, inr g)) = at (cases_eq k n)
-    where
-      at : (k ≡ n) ⊎ (k ≡ n → ⊥) → aside ≡ []
-      at (inl e) = absurd (w (subst (IsNoEntry waiting) e g.1))
-      at (inr d) = absurd (let o = h.once n l in omega (arith, o, same_not k n d))
-  one_leaf n x c (fork k p q) h f l plain w g = none_aside cells (fork k p q) aside h f (g.2, g.3)
-
-  pub alone : (n : ℕ) (t : Tree) (nodes : List Node) (s : Shape) → pre_order t ≡ nodes → split_count nodes ≡ 0
-      → IsShapeOf cells s → AreOfLeaves cells aside → n < length cells → IsLeafNode (node_at cells n)
-      → (IsNoEntry waiting n → ⊥) → Continues at_last 0 t s → aside ≡ []
-  alone n (leaf c) nodes s e none h f l plain w g = one_leaf n 0 c s h f l plain w g
-  alone n (split i m a b) nodes s e none h f l plain w g =
-      absurd (let z : split_count (Split i m ∷ (pre_order a ++ pre_order b)) ≡ 0 = ap split_count e ∙ none in
-      omega (arith, z))
-
-  -- ---- the tree at last
+  beneath_leaf x c (fork k l r) m h = (h.3, h.4)
 
   pub goes_on : (x : ℕ) (t : Tree) (s : Shape) → Continues at_last x t s → GoesOnFrom may x t (tree_of cells s)
   goes_on x (leaf c) (tip k) h = tt
@@ -355,9 +376,7 @@ module _ (may : ℕ → Type 0) (cells : List Cell) (waiting aside : List (ℤ �
     goes_on (x + leaf_total a) b r h.2,
   )
 
-  module _ (inst : Tables) (boxes : List (List Span)) (w : AreBoxesOf inst cells boxes) (P : Leaf → Type 0)
-      (each : (k : ℕ) → k < length cells → IsLeafNode (node_at cells k) → IsNoEntry aside k
-      → P (record { box = box_at boxes k; node = node_at cells k })) where
+  module _ (inst : Tables) (boxes : List (List Span)) (w : AreBoxesOf inst cells boxes) where
     left_box : (k : ℕ) (l r : Shape) → k < length cells → IsForkAt cells k (top l) (top r)
         → box_at boxes (top l) ≡ below (box_at boxes k) (number_of (node_at cells k)) (last_of (node_at cells k))
     left_box k l r n h =
@@ -370,31 +389,67 @@ module _ (may : ℕ → Type 0) (cells : List Cell) (waiting aside : List (ℤ �
         let p = parting inst cells boxes k (top l) (top r) w n h in
         p.right_is ∙ ap (λ (x : Node). above (box_at boxes k) (number_of x) (last_of x)) (sym h.node)
 
-    -- what holds of each leaf whose number is not set aside
-    each_tip : (s : Shape) → Stands cells s → IsWithin (length cells) s → AllTips (IsNoEntry aside) s
-        → All P (leaves (box_at boxes (top s)) (tree_of cells s))
-    each_tip (tip k) h l t = All-cons P (record { box = box_at boxes k; node = node_at cells k }) [] (each k l h t)
-        (All-nil P)
-    each_tip (fork k l r) h v t =
-        All-append P
-        (leaves (below (box_at boxes k) (number_of (node_at cells k)) (last_of (node_at cells k))) (tree_of cells l))
-        (leaves (above (box_at boxes k) (number_of (node_at cells k)) (last_of (node_at cells k))) (tree_of cells r))
-        (subst (λ (b : List Span). All P (leaves b (tree_of cells l))) (left_box k l r v.0 h.0)
-        (each_tip l h.1 v.1 t.0))
-        (subst (λ (b : List Span). All P (leaves b (tree_of cells r))) (right_box k l r v.0 h.0)
-        (each_tip r h.2 v.2 t.1))
+    module _ (P : Leaf → Type 0)
+        (each : (k : ℕ) → k < length cells → IsLeafNode (node_at cells k) → IsNoEntry aside k
+        → P (record { box = box_at boxes k; node = node_at cells k })) where
+      -- what holds of each leaf whose number is not set aside
+      each_tip : (s : Shape) → Stands cells s → IsWithin (length cells) s → AllTips (IsNoEntry aside) s
+          → All P (leaves (box_at boxes (top s)) (tree_of cells s))
+      each_tip (tip k) h l t = All-cons P (record { box = box_at boxes k; node = node_at cells k }) [] (each k l h t)
+          (All-nil P)
+      each_tip (fork k l r) h v t =
+          All-append P
+          (leaves (below (box_at boxes k) (number_of (node_at cells k)) (last_of (node_at cells k))) (tree_of cells l))
+          (leaves (above (box_at boxes k) (number_of (node_at cells k)) (last_of (node_at cells k))) (tree_of cells r))
+          (subst (λ (b : List Span). All P (leaves b (tree_of cells l))) (left_box k l r v.0 h.0)
+          (each_tip l h.1 v.1 t.0))
+          (subst (λ (b : List Span). All P (leaves b (tree_of cells r))) (right_box k l r v.0 h.0)
+          (each_tip r h.2 v.2 t.1))
 
-    -- so it holds of one beneath a leaf that may be split
-    pub of_beneath : (R : Type 0) (Such : Leaf → Type 0) → ((x : Leaf) → Such x → P x → R) → (n : ℕ) (t : Tree)
-        (s : Shape) → Stands cells s → IsWithin (length cells) s → Continues at_last n t s
-        → AnyBeneath may Such n (box_at boxes (top s)) t (tree_of cells s) → R
-    of_beneath R Such so n (leaf c) s h v g (m, (k, x, l, e, u)) = so x u
-        (subst P e (each_tip s h v (beneath_leaf n c s m g) k x l))
-    of_beneath R Such so n (split i m a b) (tip k) h v g u = absurd u
-    of_beneath R Such so n (split i m a b) (fork k l r) h v g (inl u) =
-        of_beneath R Such so n a l h.1 v.1 g.1
-        (subst (λ (x : List Span). AnyBeneath may Such n x a (tree_of cells l)) (sym (left_box k l r v.0 h.0)) u)
-    of_beneath R Such so n (split i m a b) (fork k l r) h v g (inr u) =
-        of_beneath R Such so (n + leaf_total a) b r h.2 v.2 g.2
-        (subst (λ (x : List Span). AnyBeneath may Such (n + leaf_total a) x b (tree_of cells r))
-        (sym (right_box k l r v.0 h.0)) u)
+      -- so it holds of one beneath a leaf that may be split
+      pub of_beneath : (R : Type 0) (Such : Leaf → Type 0) → ((x : Leaf) → Such x → P x → R) → (n : ℕ) (t : Tree)
+          (s : Shape) → Stands cells s → IsWithin (length cells) s → Continues at_last n t s
+          → AnyBeneath may Such n (box_at boxes (top s)) t (tree_of cells s) → R
+      of_beneath R Such so n (leaf c) s h v g (m, (k, x, l, e, u)) = so x u
+          (subst P e (each_tip s h v (beneath_leaf n c s m g) k x l))
+      of_beneath R Such so n (split i m a b) (tip k) h v g u = absurd u
+      of_beneath R Such so n (split i m a b) (fork k l r) h v g (inl u) =
+          of_beneath R Such so n a l h.1 v.1 g.1
+          (subst (λ (x : List Span). AnyBeneath may Such n x a (tree_of cells l)) (sym (left_box k l r v.0 h.0)) u)
+      of_beneath R Such so n (split i m a b) (fork k l r) h v g (inr u) =
+          of_beneath R Such so (n + leaf_total a) b r h.2 v.2 g.2
+          (subst (λ (x : List Span). AnyBeneath may Such (n + leaf_total a) x b (tree_of cells r))
+          (sym (right_box k l r v.0 h.0)) u)
+
+    -- what holds of each box that was split beneath a leaf of the given tree
+    module _ (P : List Span → Type 0) (each : (k : ℕ) → k < length cells → was_split k → P (box_at boxes k)) where
+      each_fork : (s : Shape) → Stands cells s → IsWithin (length cells) s → AllForks was_split s
+          → All P (split_boxes (box_at boxes (top s)) (tree_of cells s))
+      each_fork (tip k) h v f = All-nil P
+      each_fork (fork k l r) h v f =
+          All-cons P (box_at boxes k)
+          (split_boxes (below (box_at boxes k) (number_of (node_at cells k)) (last_of (node_at cells k)))
+          (tree_of cells l)
+          ++ split_boxes (above (box_at boxes k) (number_of (node_at cells k)) (last_of (node_at cells k)))
+          (tree_of cells r)) (each k v.0 f.0)
+          (All-append P
+          (split_boxes (below (box_at boxes k) (number_of (node_at cells k)) (last_of (node_at cells k)))
+          (tree_of cells l))
+          (split_boxes (above (box_at boxes k) (number_of (node_at cells k)) (last_of (node_at cells k)))
+          (tree_of cells r))
+          (subst (λ (b : List Span). All P (split_boxes b (tree_of cells l))) (left_box k l r v.0 h.0)
+          (each_fork l h.1 v.1 f.1))
+          (subst (λ (b : List Span). All P (split_boxes b (tree_of cells r))) (right_box k l r v.0 h.0)
+          (each_fork r h.2 v.2 f.2)))
+
+      pub split_beneath : (n : ℕ) (t : Tree) (s : Shape) → Stands cells s → IsWithin (length cells) s
+          → Continues at_last n t s → AllSplitBeneath P (box_at boxes (top s)) t (tree_of cells s)
+      split_beneath n (leaf c) (tip k) h v g = All-nil P
+      split_beneath n (leaf c) (fork k l r) h v g = each_fork (fork k l r) h v g.2
+      split_beneath n (split i m a b) (tip k) h v g = absurd g
+      split_beneath n (split i m a b) (fork k l r) h v g = (
+        subst (λ (x : List Span). AllSplitBeneath P x a (tree_of cells l)) (left_box k l r v.0 h.0)
+            (split_beneath n a l h.1 v.1 g.1),
+        subst (λ (x : List Span). AllSplitBeneath P x b (tree_of cells r)) (right_box k l r v.0 h.0)
+            (split_beneath (n + leaf_total a) b r h.2 v.2 g.2),
+      )

@@ -1,8 +1,7 @@
 -- What is searched by some worths is searched by the same ones.
-use Rattle.std.proofs.Common.{◌≡◌, ℕ, ◌<◌, inl, inr, sym, ◌∙◌, subst, ℤ, ◌≤ℤ◌, ◌<ℤ◌, List, length, get_or}
-use Rattle.std.proofs.Common.{◌++◌, All, Option}
+use Rattle.std.proofs.Common.{◌≡◌, ℕ, ◌<◌, inl, inr, sym, ◌∙◌, subst, ℤ, List, length, get_or}
+use Rattle.std.proofs.Common.{All, Option}
 use Rattle.std.specs.Prelude.{Any}
-use Rattle.std.proofs.lemmas.List.Elements.{All-nil, All-cons, All-append}
 use Rattle.instance_model.specs.Tables.{Tables}
 use Rattle.instance_model.specs.Fitting.{IsFitting}
 use Rattle.lagrange_bound.specs.declared.span.Span.{Span}
@@ -12,43 +11,20 @@ use Rattle.certificate_lines.specs.declared.line.Bound.{Bound}
 use Rattle.certificate_lines.specs.declared.line.Bound.TheVariants.{NoPlan, Least}
 use Rattle.certificate_tree.specs.declared.node.Node.{Node}
 use Rattle.certificate_tree.specs.declared.node.Node.TheVariants.{Split, Cost, Point, Band, Excl, Empty}
-use Rattle.certificate_tree.specs.Trees.{Tree, leaf, split, Leaf, leaves, root_box, below, above}
-use Rattle.certificate_tree.specs.Ranges.{IsTreeInRange}
+use Rattle.certificate_tree.specs.Trees.{Tree, Leaf, leaves, root_box}
 use Rattle.certificate_tree.specs.Holding.{Worths}
 use Rattle.certificate_tree.specs.Validity.{ClaimLeafHolds, IsProved, AreSameWorths}
-use Rattle.certificate_tree.proofs.RootLemmas.{root_is_box, parts_are_boxes}
+use Rattle.certificate_tree.proofs.RootLemmas.{root_is_box}
 use Rattle.certificate_tree.proofs.OneTree.{nodes_are_one_tree}
 use Rattle.certificate_tree.proofs.LeafLemmas.{leaves_in_range}
 use Rattle.certificate_tree.proofs.SameWorths.{same_worths_prove_the_same}
 use Rattle.certificate_tree.proofs.GreatestLemmas.{greatest_same}
 use Rattle.branch_search.specs.declared.search_end.SearchEnd.{SearchEnd}
-use Rattle.branch_search.specs.Splits.{split_boxes}
 use Rattle.branch_search.specs.Best.{IsReached, IsShort}
-use Rattle.branch_search.specs.Searched.{IsSplitBox, IsCostLeaf, IsBounding, IsAmong, IsLeastOf}
+use Rattle.branch_search.specs.Searched.{IsCostLeaf, IsBounding, IsAmong, IsLeastOf}
 use Rattle.branch_search.specs.Searched.{IsUnfinishedLeaf, claim_in, IsSearchedBy}
 
--- the boxes of splits are boxes of the instance
-splits_are_boxes : (inst : Tables) (lists : ℕ) (box : List Span) (t : Tree) → IsBox inst box
-    → IsTreeInRange inst lists box t → All (IsBox inst) (split_boxes box t)
-splits_are_boxes inst lists box (leaf n) b r = All-nil (IsBox inst)
-splits_are_boxes inst lists box (split i m l x) b r =
-    let parts = parts_are_boxes inst box i m b r.0 in
-    All-cons (IsBox inst) box (split_boxes (below box i m) l ++ split_boxes (above box i m) x) b
-    (All-append (IsBox inst) (split_boxes (below box i m) l) (split_boxes (above box i m) x)
-    (splits_are_boxes inst lists (below box i m) l parts.0 r.1)
-    (splits_are_boxes inst lists (above box i m) x parts.1 r.2))
-
 -- ---- one box
-same_split : (value : PlanValue) (inst : Tables) (lists : ℕ) (worths others : Worths) (incumbent : Option (List ℕ))
-    (bound : Bound) (box : List Span) → AreSameWorths inst lists worths others → IsBox inst box
-    → IsSplitBox value inst lists worths incumbent bound box → IsSplitBox value inst lists others incumbent bound box
-same_split value inst lists worths others incumbent bound box same b h = record {
-  unrefuted = h.unrefuted;
-  below_given = λ j plan l e. subst (λ (z : ℤ). z <ℤ value inst plan) (same box j l b h.unrefuted.starts)
-      (h.below_given j plan l e);
-  within_bound = λ j y l e. subst (λ (z : ℤ). z ≤ℤ y) (same box j l b h.unrefuted.starts) (h.within_bound j y l e);
-}
-
 same_bounding : (value : PlanValue) (inst : Tables) (lists : ℕ) (worths others : Worths) (best : Option (List ℕ))
     (box : List Span) (node : Node) → AreSameWorths inst lists worths others → IsBox inst box
     → IsBounding value inst lists worths best box node → IsBounding value inst lists others best box node
@@ -127,9 +103,6 @@ searched_same value inst lists worths others incumbent before turns answer fits 
       proved.holds;
   stay = h.stay;
   few = h.few;
-  splits = λ none k d l. same_split value inst lists worths others incumbent answer.bound
-      (get_or (split_boxes (root_box inst) h.tree) k d) same
-      (splits_are_boxes inst lists (root_box inst) h.tree root h.of_nodes.in_range k d l) (h.splits none k d l);
   bounding = bounding;
   best = h.best;
   bound = least_same (IsAmong value inst worths answer.best ls) (IsAmong value inst others answer.best ls) answer.bound

@@ -15,6 +15,8 @@ use Rattle.lagrange_bound.specs.Boxes.{IsBox}
 use Rattle.lagrange_bound.specs.Tabulated.{PriceRows}
 use Rattle.certificate_lines.specs.declared.line.Version.{Version}
 use Rattle.certificate_lines.specs.declared.line.Version.TheVariants.{Two}
+use Rattle.certificate_tree.specs.declared.node.Node.{Node}
+use Rattle.certificate_tree.specs.declared.node.Node.TheVariants.{Cost}
 use Rattle.certificate_tree.specs.Trees.{IsSplit}
 use Rattle.certificate_tree.specs.Ranges.{HasPricesOf, IsBoundInRange, IsInRange}
 use Rattle.certificate_tree.specs.Holding.{worth_by, IsSingle}
@@ -28,7 +30,7 @@ use Rattle.branch_search.specs.declared.splitting.settling.Settled.{Settled}
 use Rattle.branch_search.specs.declared.search_end.SearchEnd.{SearchEnd}
 use Rattle.branch_search.specs.declared.tree_end.TreeEnd.{TreeEnd}
 use Rattle.branch_search.specs.Best.{IsShort}
-use Rattle.branch_search.specs.Searched.{lists_of, IsSearchedBy, IsSearched}
+use Rattle.branch_search.specs.Searched.{lists_of, IsSearched}
 use Rattle.branch_search.specs.Tasks.{Task, freed}
 use Rattle.branch_search.specs.Boxes.{IsUnrefuted}
 use Rattle.branch_search.specs.CurrentBoxes.{IsCurrentBox}
@@ -36,7 +38,7 @@ use Rattle.branch_search.specs.Growing.{box_at, node_at, split_cells, AreBoxesOf
 use Rattle.branch_search.specs.Settled.{ArePartsOf}
 use Rattle.branch_search.specs.Valued.{plan_in, IsSmallValue, IsBelow, IsValued}
 use Rattle.branch_search.specs.Entries.{with_entry}
-use Rattle.branch_search.specs.Parts.{IsOfPart}
+use Rattle.branch_search.specs.Parts.{IsOfPart, whole_part, IsGoneOnBy}
 use Rattle.branch_search.specs.Aside.{IsLeastWorth}
 use Rattle.branch_search.specs.States.{IsEntry, IsGrown, IsGrowth, IsLeftWorth, IsKept}
 use Rattle.branch_search.proofs.WorthLemmas.{GrowInParts}
@@ -45,7 +47,8 @@ use Rattle.branch_search.proofs.EntryLemmas.{all_front, all_back, popped}
 use Rattle.branch_search.proofs.AsideLemmas.{least_small, below_less}
 use Rattle.branch_search.proofs.StepLemmas.{waits_at, grown_more}
 use Rattle.branch_search.proofs.EndLemmas.{below_short}
-use Rattle.branch_search.proofs.SameLemmas.{searched_same}
+use Rattle.branch_search.proofs.GoneLemmas.{whole_searched, whole_splits}
+use Rattle.branch_search.proofs.SamePartLemmas.{gone_on_same}
 
 -- ---- sizes
 small_value : (value : PlanValue) (inst : Tables) (best : Option Best) → IsValued value inst best → IsSmallValue best
@@ -165,7 +168,7 @@ step_kept task part old new n i m c1 c2 left right y z rest mid spans law grow g
     same splits v current =
     let short = popped_short task.value task.inst old.best old.waiting rest y z n g.valued w p l in
     let next = grown_more task (IsOfPart part) g.given old.cells.items n i m left right (plan_in old.best)
-    (plan_in new.best) y old.waiting rest mid new.waiting g.aside g.seen old.splits g.of_nodes.order g.state p l short
+    (plan_in new.best) y old.waiting rest mid new.waiting g.aside g.seen old.splits g.state p l short
     law grow
     (subst (λ (b : List Span). IsSplit b i m) e s)
     (subst
@@ -191,7 +194,7 @@ step_kept task part old new n i m c1 c2 left right y z rest mid spans law grow g
 pub searched_by_lists : (base : Bases) (value : PlanValue) (inst : Tables) (prices : Option PriceList)
     (incumbent : Option (List ℕ)) (turns : ℕ) (lists : List PriceList) (tables : List PriceRows) (answer : SearchEnd)
     → IsFitting inst → AreTables base inst lists tables → lists ≡ lists_of prices
-    → IsSearchedBy value inst (length tables - 1) (table_worths tables) incumbent 0 turns answer
+    → IsGoneOnBy value inst (length tables - 1) (table_worths tables) incumbent (Cost 0 ∷ []) whole_part turns answer
     → IsSearched base value inst prices incumbent turns (record {
       cert = record { version = Two; bound = answer.bound; lists = lists; nodes = answer.nodes };
       best = answer.best;
@@ -199,12 +202,16 @@ pub searched_by_lists : (base : Bases) (value : PlanValue) (inst : Tables) (pric
     })
 searched_by_lists base value inst prices incumbent turns lists tables answer fits h e s =
     let each : length tables - 1 ≡ length lists = omega (arith, h.each) in
+    let one : List Node = Cost 0 ∷ [] in
+    let gone_on = gone_on_same value inst (length lists) (table_worths tables) (worth_by base inst lists) incumbent one
+    whole_part turns answer fits h.same
+    (subst (λ (n : ℕ). IsGoneOnBy value inst n (table_worths tables) incumbent one whole_part turns answer) each s) in
     record {
       version = refl;
       lists = e;
-      by = searched_same value inst (length lists) (table_worths tables) (worth_by base inst lists) incumbent 0 turns
-          answer fits h.same
-          (subst (λ (n : ℕ). IsSearchedBy value inst n (table_worths tables) incumbent 0 turns answer) each s);
+      by = whole_searched value inst (length lists) (worth_by base inst lists) incumbent one turns answer gone_on;
+      splits = whole_splits value inst (length lists) (worth_by base inst lists) incumbent one turns answer gone_on
+          refl;
     }
 
 -- ---- ranges

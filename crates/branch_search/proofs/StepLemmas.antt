@@ -1,40 +1,39 @@
 -- One step of a search: the leaf of least worth is split.
-use Rattle.std.proofs.Common.{◌≡◌, ℕ, ◌+◌, ◌≤◌, inl, inr, sym, ◌∙◌, ap, subst, arith, ℤ, ◌≤ℤ◌, List, ◌∷◌, length, All}
-use Rattle.std.proofs.Common.{[], ◌++◌, get_or, Option, Some, None}
+use Rattle.std.proofs.Common.{◌≡◌, ℕ, ◌+◌, ◌<◌, ◌≤◌, inl, inr, sym, ◌∙◌, ap, subst, arith, ℤ, ◌≤ℤ◌, List, ◌∷◌, length, All}
+use Rattle.std.proofs.Common.{◌++◌, get_or, Option, Some, None}
 use Rattle.std.specs.Prelude.{IsPermutation}
-use Rattle.std.proofs.lemmas.List.Elements.{All-contains, All-nil, All-cons, All-append}
-use Rattle.std.proofs.lemmas.List.Sorted.{Contains-permutation, IsPermutation-append_left}
-use Rattle.fixed_num.proofs.SignedLemmas.{signed_arith}
+use Rattle.std.proofs.lemmas.List.Elements.{All-contains}
+use Rattle.std.proofs.lemmas.List.Sorted.{IsPermutation-append_left}
 use Rattle.lagrange_bound.specs.declared.span.Span.{Span}
 use Rattle.lagrange_bound.specs.Boxes.{IsBox}
 use Rattle.certificate_lines.specs.declared.line.Bound.{Bound}
 use Rattle.certificate_lines.specs.declared.line.Bound.TheVariants.{Least}
 use Rattle.certificate_tree.specs.declared.node.Node.{Node}
 use Rattle.certificate_tree.specs.declared.node.Node.TheVariants.{Split, Cost}
-use Rattle.certificate_tree.specs.Trees.{Tree, pre_order, below, above, IsSplit}
+use Rattle.certificate_tree.specs.Trees.{Tree, below, above, IsSplit}
 use Rattle.certificate_tree.specs.Holding.{IsAtLeast}
 use Rattle.certificate_tree.specs.Validity.{BoundBoxes}
 use Rattle.certificate_tree.proofs.RootLemmas.{parts_are_boxes}
 use Rattle.branch_search.specs.declared.tree.cell.Cell.{Cell}
 use Rattle.branch_search.specs.declared.splitting.settling.Settled.{Settled}
 use Rattle.branch_search.specs.Best.{IsShort, IsBestOver}
-use Rattle.branch_search.specs.Tasks.{Task, splits_before, freed, IsBelowGiven}
+use Rattle.branch_search.specs.Tasks.{Task, freed, IsBelowGiven}
 use Rattle.branch_search.specs.Growing.{node_at, box_at, IsLeafNode, split_cells, split_list}
 use Rattle.branch_search.specs.Shapes.{grown}
 use Rattle.branch_search.specs.Settled.{IsWaitingBox, IsSettled, IsImprovedIn, IsLeafOf, ArePartsOf}
 use Rattle.branch_search.specs.Entries.{with_entry}
-use Rattle.branch_search.specs.States.{IsEntry, AreEntries, IsFloor, IsGrown}
+use Rattle.branch_search.specs.States.{IsEntry, IsFloor, IsUnder, IsOpened, IsGrown}
 use Rattle.branch_search.proofs.CellLemmas.{length_split, at_split, at_other, at_left, at_right, box_before, box_left}
-use Rattle.branch_search.proofs.CellLemmas.{box_right, are_boxes_more, cost_is_no_split, split_is_no_leaf, Where}
+use Rattle.branch_search.proofs.CellLemmas.{box_right, are_boxes_more, cost_is_no_split, Where}
 use Rattle.branch_search.proofs.CellLemmas.{where_is}
 use Rattle.branch_search.proofs.ShapeLemmas.{shape_more, forks_more}
 use Rattle.branch_search.proofs.WorthLemmas.{IsPart, GrowInParts, below_is_part, above_is_part}
 use Rattle.branch_search.proofs.LeafLemmas.{at_most_trans, below_at_most, at_most_below, below_is_at_most}
 use Rattle.branch_search.proofs.LeafLemmas.{none_is_not_some, some_is, at_least_more, leaf_for, still_settled}
 use Rattle.branch_search.proofs.LeafLemmas.{still_best}
-use Rattle.branch_search.proofs.EntryLemmas.{all_back, entries_more, popped}
+use Rattle.branch_search.proofs.EntryLemmas.{all_back, all_with, cost_of_worth, entries_more, popped}
 use Rattle.branch_search.proofs.AsideLemmas.{more_wait}
-use Rattle.branch_search.proofs.PartLemmas.{AreOfLeaves, continues_grown, waits_after, waited, alone}
+use Rattle.branch_search.proofs.PartLemmas.{continues_grown, waits_after, waited}
 
 -- what a part waits with is at least the worth of the box
 pub part_waits : (task : Task) (part box : List Span) (q j : ℕ) → GrowInParts task.inst task.lists task.worths
@@ -51,29 +50,11 @@ leaf_of_cost : (node : Node) (j : ℕ) → node ≡ Cost j → IsLeafNode node
 leaf_of_cost node j e = subst IsLeafNode (sym e) tt
 
 -- ---- floors
-floor_under : (task : Task) (cells : List Cell) (boxes : List (List Span)) (best : Option (List ℕ)) (y z : ℤ)
-    → y ≤ℤ z → IsFloor task cells boxes best (Least z) → IsFloor task cells boxes best (Least y)
-floor_under task cells boxes best y z l h = record {
-  under_best = λ plan e. at_most_trans y z (task.value task.inst plan) l (h.under_best plan e);
-  under_costs = λ k j m e. at_most_trans y z (task.worths (box_at boxes k) j) l (h.under_costs k j m e);
-}
-
 short_floor : (task : Task) (best : Option (List ℕ)) (z : ℤ) → IsShort task.value task.inst best z
     → (plan : List ℕ) → best ≡ Some plan → z ≤ℤ task.value task.inst plan
 short_floor task best z h plan e =
     below_is_at_most z (task.value task.inst plan) (subst (λ (o : Option (List ℕ)). IsShort task.value task.inst o z)
     e h)
-
--- the least of what waits is at most each worth that waits
-least_floor : (task : Task) (cells : List Cell) (boxes : List (List Span)) (best : Option (List ℕ))
-    (old rest : List (ℤ × ℕ)) (z : ℤ) (n : ℕ) → AreEntries task cells boxes old → IsPermutation old ((z, n) ∷ rest)
-    → All (λ e. z ≤ℤ e.0) rest → IsShort task.value task.inst best z → IsFloor task cells boxes best (Least z)
-least_floor task cells boxes best old rest z n h p l s = record {
-  under_best = short_floor task best z s;
-  under_costs = λ k j m e. All-contains (λ (x : ℤ × ℕ). z ≤ℤ x.0) ((z, n) ∷ rest) (task.worths (box_at boxes k) j, k)
-      (All-cons (λ (x : ℤ × ℕ). z ≤ℤ x.0) (z, n) rest (omega (arith, signed_arith)) l)
-      (Contains-permutation old ((z, n) ∷ rest) (task.worths (box_at boxes k) j, k) p (h.complete k j m e));
-}
 
 -- ---- below the plan handed in
 below_given : (task : Task) (best : Option (List ℕ)) (box : List Span) (z : ℤ)
@@ -87,7 +68,7 @@ below_given task (Some plan) box z h s b j given l e = at_most_below (task.worth
 -- ---- the step
 module _ (task : Task) (may : ℕ → Type 0) (given : Tree) (cells : List Cell) (n i m : ℕ) (left right : Settled)
     (old new : Option (List ℕ)) (z : ℤ) (before rest mid after aside : List (ℤ × ℕ)) (seen splits : ℕ)
-    (of_nodes : pre_order given ≡ task.given) (g : IsGrown task may given cells before aside old seen splits)
+    (g : IsGrown task may given cells before aside old seen splits)
     (p : IsPermutation before ((z, n) ∷ rest)) (least : All (λ e. z ≤ℤ e.0) rest)
     (short : IsShort task.value task.inst old z) where
   all_popped : IsPermutation (before ++ aside) ((z, n) ∷ (rest ++ aside))
@@ -105,23 +86,6 @@ module _ (task : Task) (may : ℕ → Type 0) (given : Tree) (cells : List Cell)
 
   set_aside : All (IsEntry task cells g.boxes) aside
   set_aside = all_back (IsEntry task cells g.boxes) before aside g.waits.sound
-
-  aside_leaves : AreOfLeaves cells aside
-  aside_leaves k d l =
-      let h = set_aside k d l in (h.within, leaf_of_cost (node_at cells (get_or aside k d).1) h.list h.node)
-
-  -- where the tree had no splits at first, its one leaf may be split, and so nothing is set aside
-  none_aside : splits_before task ≡ 0 → aside ≡ []
-  none_aside none = alone may cells before aside seen n given task.given g.shape of_nodes none g.is_shape aside_leaves
-      entry.within leaf (waited n z before rest p) g.continues
-
-  least_of_all : splits_before task ≡ 0 → All (λ (e : ℤ × ℕ). z ≤ℤ e.0) (rest ++ aside)
-  least_of_all none = All-append (λ (e : ℤ × ℕ). z ≤ℤ e.0) rest aside least
-      (subst (All (λ (e : ℤ × ℕ). z ≤ℤ e.0)) (sym (none_aside none)) (All-nil (λ (e : ℤ × ℕ). z ≤ℤ e.0)))
-
-  floor : splits_before task ≡ 0 → IsFloor task cells g.boxes old (Least z)
-  floor none = least_floor task cells g.boxes old (before ++ aside) (rest ++ aside) z n g.waits all_popped
-      (least_of_all none) short
 
   worths_at_most : (j : ℕ) → j ≤ task.lists → task.worths (box_at g.boxes n) j ≤ℤ z
   worths_at_most j l = subst (λ (y : ℤ). task.worths (box_at g.boxes n) j ≤ℤ y) (sym entry.worth)
@@ -154,7 +118,7 @@ module _ (task : Task) (may : ℕ → Type 0) (given : Tree) (cells : List Cell)
         (sym (at_split cells n i m left.node right.node entry.within))
         (subst (λ (b : List Span). IsSettled task new b (Split i m))
         (sym (box_before g.boxes n i m n (omega (arith, entry.within, each))))
-        (λ none. (waiting.unrefuted, below_given task old (box_at g.boxes n) z worths_at_most short g.best_is))))
+        tt))
     settled_at k (inr (inl (l, d))) = subst
         (λ (c : Cell). IsSettled task new (box_at (split_list g.boxes n i m) k) c.node)
         (sym (at_other cells n i m left.node right.node entry.within k l d))
@@ -173,19 +137,20 @@ module _ (task : Task) (may : ℕ → Type 0) (given : Tree) (cells : List Cell)
         (sym (box_right g.boxes n i m k (ap (λ (t : ℕ). t + 1) each ∙ q))) two.settled)
 
     -- ---- floors
-    best_floor : (bound : Bound) → IsAtLeast bound z → IsFloor task cells g.boxes old bound → (plan : List ℕ)
+    best_floor : (bound : Bound) → IsAtLeast bound z
+        → ((plan : List ℕ) → old ≡ Some plan → IsAtLeast bound (task.value task.inst plan)) → (plan : List ℕ)
         → new ≡ Some plan → IsAtLeast bound (task.value task.inst plan)
-    best_floor bound l h plan e = at improved
+    best_floor bound l under plan e = at improved
       where
         at : IsImprovedIn task.value task.inst (box_at g.boxes n) old new → IsAtLeast bound (task.value task.inst plan)
-        at (inl f) = h.under_best plan (sym f ∙ e)
+        at (inl f) = under plan (sym f ∙ e)
         at (inr (other, f, b)) =
             let s = some_is other plan (sym f ∙ e) in
-            let under = law (box_at g.boxes n) other entry.list waiting.list.number
+            let l_other = law (box_at g.boxes n) other entry.list waiting.list.number
             (g.are_boxes.boxed n entry.within) b.inside in
             subst (λ (x : List ℕ). IsAtLeast bound (task.value task.inst x)) s
             (at_least_more bound z (task.value task.inst other) l
-            (subst (λ (x : ℤ). x ≤ℤ task.value task.inst other) (sym entry.worth) under))
+            (subst (λ (x : ℤ). x ≤ℤ task.value task.inst other) (sym entry.worth) l_other))
 
     boxes_of_parts : IsBox task.inst (below (box_at g.boxes n) i m) × IsBox task.inst (above (box_at g.boxes n) i m)
     boxes_of_parts = parts_are_boxes task.inst (box_at g.boxes n) i m (g.are_boxes.boxed n entry.within) split
@@ -223,7 +188,7 @@ module _ (task : Task) (may : ℕ → Type 0) (given : Tree) (cells : List Cell)
     floor_more : (bound : Bound) → IsAtLeast bound z → IsFloor task cells g.boxes old bound
         → IsFloor task (split_cells cells n i m left.node right.node) (split_list g.boxes n i m) new bound
     floor_more bound l h = record {
-      under_best = best_floor bound l h;
+      under_best = best_floor bound l h.under_best;
       under_costs = λ k j s e. cost_floor bound l h k j e (where_is (length cells) n k
           (omega (arith, s, length_split cells n i m left.node right.node entry.within)));
     }
@@ -233,35 +198,54 @@ module _ (task : Task) (may : ℕ → Type 0) (given : Tree) (cells : List Cell)
     floor_reaches bound h =
         subst (IsAtLeast bound) (sym entry.worth) (h.under_costs n entry.list entry.within entry.node)
 
-    no_split : (k a b : ℕ) (node : Node) → node_at (split_cells cells n i m left.node right.node) k ≡ node
-        → IsLeafNode node → node_at (split_cells cells n i m left.node right.node) k ≡ Split a b → ⊥
-    no_split k a b node e h f = split_is_no_leaf node a b (sym e ∙ f) h
+    -- ---- what is at most the worth of the box
+    part_under : (y : ℤ) → y ≤ℤ z → (part : List Span) (leaf : Settled) → IsBox task.inst part
+        → IsPart part (box_at g.boxes n) → IsLeafOf task new part leaf → (x : ℤ) → leaf.worth ≡ Some x → y ≤ℤ x
+    part_under y l part leaf b q h x e =
+        let c = cost_of_worth task part leaf.node leaf.worth x e h.worth in
+        subst (λ (w : ℤ). y ≤ℤ w) (sym c.2)
+        (part_floor part leaf.node c.0 (Least y) l b q c.1 h.settled)
 
-    level_at : splits_before task ≡ 0 → (k a b j : ℕ)
-        → node_at (split_cells cells n i m left.node right.node) k ≡ Split a b → j ≤ task.lists
-        → Where (length cells) n k
-        → IsFloor task (split_cells cells n i m left.node right.node) (split_list g.boxes n i m) new
-        (Least (task.worths (box_at (split_list g.boxes n i m) k) j))
-    level_at none k a b j e s (inl q) = subst
-        (λ (x : List Span). IsFloor task (split_cells cells n i m left.node right.node) (split_list g.boxes n i m) new
-        (Least (task.worths x j)))
-        (sym (box_before g.boxes n i m n (omega (arith, entry.within, each)))
-        ∙ ap (box_at (split_list g.boxes n i m)) (sym q))
-        (floor_more (Least (task.worths (box_at g.boxes n) j)) (worths_at_most j s)
-        (floor_under task cells g.boxes old (task.worths (box_at g.boxes n) j) z (worths_at_most j s) (floor none)))
-    level_at none k a b j e s (inr (inl (l, d))) =
-        let f = sym (ap (λ (c : Cell). c.node) (at_other cells n i m left.node right.node entry.within k l d)) ∙ e in
-        let h = g.level none k a b j l f s in
-        subst
-        (λ (x : List Span). IsFloor task (split_cells cells n i m left.node right.node) (split_list g.boxes n i m) new
-        (Least (task.worths x j)))
-        (sym (box_before g.boxes n i m k (omega (arith, l, each))))
-        (floor_more (Least (task.worths (box_at g.boxes k) j))
-        (floor_reaches (Least (task.worths (box_at g.boxes k) j)) h) h)
-    level_at none k a b j e s (inr (inr (inl q))) = absurd (no_split k a b left.node
-        (ap (λ (c : Cell). c.node) (at_left cells n i m left.node right.node entry.within k q)) one.no_split e)
-    level_at none k a b j e s (inr (inr (inr q))) = absurd (no_split k a b right.node
-        (ap (λ (c : Cell). c.node) (at_right cells n i m left.node right.node entry.within k q)) two.no_split e)
+    waiting_under : (y : ℤ) → y ≤ℤ z → All (λ (e : ℤ × ℕ). y ≤ℤ e.0) after
+    waiting_under y l =
+        all_with (λ (e : ℤ × ℕ). y ≤ℤ e.0) right.worth (length cells + 1) mid after pr
+        (part_under y l (above (box_at g.boxes n) i m) right boxes_of_parts.1 (above_is_part (box_at g.boxes n) i m
+        split) two)
+        (all_with (λ (e : ℤ × ℕ). y ≤ℤ e.0) left.worth (length cells) rest mid pl
+        (part_under y l (below (box_at g.boxes n) i m) left boxes_of_parts.0 (below_is_part (box_at g.boxes n) i m
+        split) one)
+        (λ k d s. at_most_trans y z (get_or rest k d).0 l (least k d s)))
+
+    under_more : (y : ℤ) → y ≤ℤ z → ((plan : List ℕ) → old ≡ Some plan → y ≤ℤ task.value task.inst plan)
+        → IsUnder task new after y
+    under_more y l under = record {
+      under_best = best_floor (Least y) l under;
+      under_waiting = waiting_under y l;
+    }
+
+    -- ---- the boxes that were split
+    still_opened : (k : ℕ) → k < length cells → IsOpened task old before (box_at g.boxes k)
+        → IsOpened task new after (box_at (split_list g.boxes n i m) k)
+    still_opened k l h = subst (IsOpened task new after) (sym (box_before g.boxes n i m k (omega (arith, l, each))))
+        (record {
+          unrefuted = h.unrefuted;
+          below_given = h.below_given;
+          under = λ j s. let u = h.under j s in
+              under_more (task.worths (box_at g.boxes k) j)
+              (All-contains (λ (e : ℤ × ℕ). task.worths (box_at g.boxes k) j ≤ℤ e.0) before (z, n) u.under_waiting
+              (popped before rest (z, n) p)) u.under_best;
+        })
+
+    now_opened : IsOpened task new after (box_at (split_list g.boxes n i m) n)
+    now_opened = subst (IsOpened task new after)
+        (sym (box_before g.boxes n i m n (omega (arith, entry.within, each))))
+        (record {
+          unrefuted = waiting.unrefuted;
+          below_given = below_given task old (box_at g.boxes n) z worths_at_most short g.best_is;
+          under = λ j s. under_more (task.worths (box_at g.boxes n) j) (worths_at_most j s)
+              (λ plan e. at_most_trans (task.worths (box_at g.boxes n) j) z (task.value task.inst plan)
+              (worths_at_most j s) (short_floor task old z short plan e));
+        })
 
     pub grown_more : IsGrown task may given (split_cells cells n i m left.node right.node) after aside new seen
         (splits + 1)
@@ -278,8 +262,6 @@ module _ (task : Task) (may : ℕ → Type 0) (given : Tree) (cells : List Cell)
           omega (arith, f, g.splits_are);
       settled = λ k l. settled_at k (where_is (length cells) n k
           (omega (arith, l, length_split cells n i m left.node right.node entry.within)));
-      level = λ none k a b j l e s. level_at none k a b j e s (where_is (length cells) n k
-          (omega (arith, l, length_split cells n i m left.node right.node entry.within)));
       floors = λ bound h. let f = g.floors bound h in floor_more bound (floor_reaches bound f) f;
       waits = entries_more task cells g.boxes n i m left.node right.node entry.within each z left.worth right.worth
           (before ++ aside) (rest ++ aside) (mid ++ aside) (after ++ aside) g.waits all_popped one.worth one.small
@@ -287,6 +269,9 @@ module _ (task : Task) (may : ℕ → Type 0) (given : Tree) (cells : List Cell)
           (more_wait right.worth (length cells + 1) mid after aside pr);
       continues = continues_grown may cells n i m left.node right.node entry.within leaf before after aside seen
           (λ k l. waits_after (length cells) n k z left.worth right.worth before rest mid after l p pl pr)
-          (waited n z before rest p) (λ k d l. (set_aside k d l).within) 0 given g.shape g.is_shape.within g.continues;
+          (waited n z before rest p) (λ k d l. (set_aside k d l).within)
+          (λ k. IsOpened task old before (box_at g.boxes k))
+          (λ k. IsOpened task new after (box_at (split_list g.boxes n i m) k)) still_opened now_opened 0 given g.shape
+          g.is_shape.within g.continues;
       best_is = still_best task (box_at g.boxes n) old new improved g.best_is;
     }

@@ -109,26 +109,6 @@ module _ (inst : Tables) (cells : List Cell) (boxes : List (List Span)) (w : Are
       (subst (λ (b : List Span). All P (leaves b (tree_of cells l))) p.left_is (each_leaf P each l h.1 v.1))
       (subst (λ (b : List Span). All P (leaves b (tree_of cells r))) p.right_is (each_leaf P each r h.2 v.2)))
 
-  pub each_split : (P : List Span → Type 0)
-      → ((k i m : ℕ) → k < length cells → node_at cells k ≡ Split i m → P (box_at boxes k))
-      → (s : Shape) → Stands cells s → IsWithin (length cells) s
-      → All P (split_boxes (box_at boxes (top s)) (tree_of cells s))
-  each_split P each (tip k) h l = All-nil P
-  each_split P each (fork k l r) h v =
-      let p = parting inst cells boxes k (top l) (top r) w v.0 h.0 in
-      subst
-      (λ (n : Node). All P (box_at boxes k
-      ∷ (split_boxes (below (box_at boxes k) (number_of n) (last_of n)) (tree_of cells l)
-      ++ split_boxes (above (box_at boxes k) (number_of n) (last_of n)) (tree_of cells r))))
-      (sym h.0.node)
-      (All-cons P (box_at boxes k) (split_boxes (below (box_at boxes k) h.0.number h.0.last) (tree_of cells l)
-      ++ split_boxes (above (box_at boxes k) h.0.number h.0.last) (tree_of cells r))
-      (each k h.0.number h.0.last v.0 h.0.node)
-      (All-append P (split_boxes (below (box_at boxes k) h.0.number h.0.last) (tree_of cells l))
-      (split_boxes (above (box_at boxes k) h.0.number h.0.last) (tree_of cells r))
-      (subst (λ (b : List Span). All P (split_boxes b (tree_of cells l))) p.left_is (each_split P each l h.1 v.1))
-      (subst (λ (b : List Span). All P (split_boxes b (tree_of cells r))) p.right_is (each_split P each r h.2 v.2))))
-
   pub some_leaf : (P : Leaf → Type 0) (j : ℕ) → IsLeafNode (node_at cells j)
       → P (record { box = box_at boxes j; node = node_at cells j })
       → (s : Shape) → Stands cells s → IsWithin (length cells) s → 0 < times j s

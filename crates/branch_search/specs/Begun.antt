@@ -96,6 +96,7 @@ pub record IsBegun (task : Task) (may : ℕ → Type 0) (given : Tree) (cells : 
   pub waits : AreEntries task cells boxes (waiting ++ aside)
   pub continues : Continues (record {
     may = may;
+    was_split = λ k. ⊥;
     cells = cells;
     waiting = waiting;
     aside = aside;

@@ -36,6 +36,10 @@ abbrev pub bound_of : PlanValue → Tables → Option (List ℕ) → Bound
 bound_of value inst None = NoPlan
 bound_of value inst (Some plan) = Least (value inst plan)
 
+-- a bound is the number z
+abbrev pub IsNumber : Bound → ℤ → Type 0
+IsNumber bound z = bound ≡ Least z
+
 -- a bound is none, or at least z
 abbrev pub Reaches : Bound → ℤ → Type 0
 Reaches NoPlan z = ⊤

@@ -37,10 +37,17 @@ abbrev pub AllTips : (ℕ → Type 0) → Shape → Type 0
 AllTips Such (tip k) = Such k
 AllTips Such (fork k l r) = AllTips Such l × AllTips Such r
 
--- a search on its way: which leaves of the given tree may be split, the nodes, what waits and what is set aside, and
--- the numbers that have no node so far, of whose leaves the first one has number `next`
+-- all numbers of a shape that are splits are such
+abbrev pub AllForks : (ℕ → Type 0) → Shape → Type 0
+AllForks Such (tip k) = Unit {0}
+AllForks Such (fork k l r) = Such k × AllForks Such l × AllForks Such r
+
+-- a search on its way: which leaves of the given tree may be split, what is known of the numbers that were split there,
+-- the nodes, what waits and what is set aside, and the numbers that have no node so far, of whose leaves the first one
+-- has number `next`
 pub record Stage : Type 1 where
   pub may : ℕ → Type 0
+  pub was_split : ℕ → Type 0
   pub cells : List Cell
   pub waiting : List (ℤ × ℕ)
   pub aside : List (ℤ × ℕ)
@@ -58,7 +65,8 @@ IsLeftLeaf stage n k =
 abbrev pub Continues : Stage → (n : ℕ) → Tree → Shape → Type 0
 Continues stage n (leaf a) (tip k) = IsPlaceOf stage.next stage.places k n (leaf a) ⊎ IsLeftLeaf stage n k
 Continues stage n (leaf a) (fork k l r) =
-    (stage.places ≡ []) × stage.may n × AllTips (IsNoEntry stage.aside) l × AllTips (IsNoEntry stage.aside) r
+    (stage.places ≡ []) × stage.may n × AllForks stage.was_split (fork k l r) × AllTips (IsNoEntry stage.aside) l
+    × AllTips (IsNoEntry stage.aside) r
 Continues stage n (split i m a b) (tip k) = IsPlaceOf stage.next stage.places k n (split i m a b)
 Continues stage n (split i m a b) (fork k l r) =
     (node_at stage.cells k ≡ Split i m) × Continues stage n a l × Continues stage (n + leaf_total a) b r

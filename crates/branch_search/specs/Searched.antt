@@ -19,18 +19,18 @@ use Rattle.certificate_tree.specs.Validity.{Claim, IsTreeOfClaim, ClaimLeafHolds
 use Rattle.branch_search.specs.declared.search_end.SearchEnd.{SearchEnd}
 use Rattle.branch_search.specs.declared.tree_end.TreeEnd.{TreeEnd}
 use Rattle.branch_search.specs.Splits.{split_boxes}
-use Rattle.branch_search.specs.Best.{IsReached, IsShort, IsBestOver, bound_of}
+use Rattle.branch_search.specs.Best.{IsReached, IsShort, IsBestOver, bound_of, IsNumber}
 use Rattle.branch_search.specs.Boxes.{IsUnrefuted}
 
 -- ---- splits
 
--- the box of a split is refuted by no leaf, no worth of it is at least the value of the plan
--- handed in, and none is above a bound that is a number
+-- the box of a split is refuted by no leaf, no worth of it is at least the value of the plan handed in, and none is
+-- above one of these numbers
 pub record IsSplitBox (value : PlanValue) (inst : Tables) (lists : ℕ) (worths : Worths) (incumbent : Option (List ℕ))
-    (bound : Bound) (box : List Span) : Type 0 where
+    (among : ℤ → Type 0) (box : List Span) : Type 0 where
   pub unrefuted : IsUnrefuted inst box
   pub below_given : (j : ℕ) (given : List ℕ) → j ≤ lists → incumbent ≡ Some given → worths box j <ℤ value inst given
-  pub within_bound : (j : ℕ) (b : ℤ) → j ≤ lists → bound ≡ Least b → worths box j ≤ℤ b
+  pub at_most : (j : ℕ) (z : ℤ) → j ≤ lists → among z → worths box j ≤ℤ z
 
 -- ---- leaves
 
@@ -99,12 +99,9 @@ pub record IsSearchedBy (value : PlanValue) (inst : Tables) (lists : ℕ) (worth
   pub tree : Tree
   pub of_nodes : IsTreeOfClaim inst (claim_in lists worths answer) tree
   pub holds : All (ClaimLeafHolds value inst (claim_in lists worths answer)) (leaves (root_box inst) tree)
-  -- its splits: all that were given and at most so many more as there are turns; more is said of them where none was
-  -- given
+  -- its splits: all that were given, and at most so many more as there are turns
   pub stay : before ≤ length (split_boxes (root_box inst) tree)
   pub few : length (split_boxes (root_box inst) tree) ≤ before + turns
-  pub splits : before ≡ 0
-      → All (IsSplitBox value inst lists worths incumbent answer.bound) (split_boxes (root_box inst) tree)
   -- its leaves
   pub bounding : All (λ leaf. IsBounding value inst lists worths answer.best leaf.box leaf.node)
       (leaves (root_box inst) tree)
@@ -135,10 +132,13 @@ end_of answer =
     }
 
 -- the answer of a search given a price list or none: the certificate is one of version 2 with that list, or none, and
--- the rest is what a search from the box of all starts answers by the worths of its lists
+-- the rest is what a search from the box of all starts answers by the worths of its lists; no worth of a box that was
+-- split is above the bound
 pub record IsSearched (base : Bases) (value : PlanValue) (inst : Tables) (prices : Option PriceList)
     (incumbent : Option (List ℕ)) (turns : ℕ) (answer : TreeEnd) : Type 0 where
   pub version : answer.cert.version ≡ Two
   pub lists : answer.cert.lists ≡ lists_of prices
   pub by : IsSearchedBy value inst (length answer.cert.lists) (worth_by base inst answer.cert.lists) incumbent 0 turns
       (end_of answer)
+  pub splits : All (IsSplitBox value inst (length answer.cert.lists) (worth_by base inst answer.cert.lists) incumbent
+      (IsNumber answer.cert.bound)) (split_boxes (root_box inst) by.tree)

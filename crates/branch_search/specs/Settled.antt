@@ -1,5 +1,5 @@
 -- What is known of each node of a tree under construction. Cited by private functions only: no part of any promise.
-use Rattle.std.specs.Prelude.{◌≡◌, ◌^◌, ℕ, ◌<◌, ℤ, ◌≤ℤ◌, ◌⊎◌, List, Option, Some, None, IfSome, unsigned_abs}
+use Rattle.std.specs.Prelude.{◌≡◌, ◌^◌, ℕ, ◌<◌, ℤ, ◌≤ℤ◌, ⊤, ◌⊎◌, List, Option, Some, None, IfSome, unsigned_abs}
 use Rattle.instance_model.specs.Tables.{Tables}
 use Rattle.lagrange_bound.specs.declared.span.Span.{Span}
 use Rattle.lagrange_bound.specs.Boxes.{IsPlanIn}
@@ -13,7 +13,7 @@ use Rattle.branch_search.specs.declared.splitting.settling.Settled.{Settled}
 use Rattle.branch_search.specs.Boxes.{IsUnrefuted}
 use Rattle.branch_search.specs.Growing.{IsLeafNode}
 use Rattle.branch_search.specs.Searched.{IsPointLeaf}
-use Rattle.branch_search.specs.Tasks.{Task, splits_before, IsBelowGiven}
+use Rattle.branch_search.specs.Tasks.{Task}
 
 -- a box that waits: refuted by no leaf, of several plans, and j is the list of greatest worth
 pub record IsWaitingBox (task : Task) (box : List Span) (j : ℕ) : Type 0 where
@@ -21,9 +21,9 @@ pub record IsWaitingBox (task : Task) (box : List Span) (j : ℕ) : Type 0 where
   pub several : ¬ IsSingle box
   pub list : IsGreatest (task.worths box) task.lists j
 
--- what a node says of its box, beside the best plan so far; a split owes nothing where the tree had some at first
+-- what a leaf says of its box, beside the best plan so far; a split says nothing
 abbrev pub IsSettled : Task → Option (List ℕ) → List Span → Node → Type 0
-IsSettled task best box (Split i m) = splits_before task ≡ 0 → IsUnrefuted task.inst box × IsBelowGiven task box
+IsSettled task best box (Split i m) = ⊤
 IsSettled task best box (Cost j) = IsWaitingBox task box j
 IsSettled task best box Point = IsSingle box × IsPointLeaf task.value task.inst best box
 IsSettled task best box (Band c t side) =

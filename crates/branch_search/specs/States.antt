@@ -5,7 +5,7 @@ use Rattle.std.specs.List.{sum_by}
 use Rattle.lagrange_bound.specs.declared.span.Span.{Span}
 use Rattle.certificate_lines.specs.declared.line.Bound.{Bound}
 use Rattle.certificate_lines.specs.declared.line.Bound.TheVariants.{NoPlan, Least}
-use Rattle.certificate_tree.specs.declared.node.Node.TheVariants.{Split, Cost}
+use Rattle.certificate_tree.specs.declared.node.Node.TheVariants.{Cost}
 use Rattle.certificate_tree.specs.Trees.{Tree, root_box}
 use Rattle.certificate_tree.specs.Ranges.{AreNodesOf}
 use Rattle.certificate_tree.specs.Holding.{IsAtLeast}
@@ -17,7 +17,8 @@ use Rattle.branch_search.specs.declared.tree.growth.Growth.{Growth}
 use Rattle.branch_search.specs.declared.search_end.SearchEnd.{SearchEnd}
 use Rattle.branch_search.specs.Best.{IsBestOver}
 use Rattle.branch_search.specs.Valued.{plan_in, IsValued, IsSmallValue, IsBelow}
-use Rattle.branch_search.specs.Tasks.{Task, splits_before, given_claim}
+use Rattle.branch_search.specs.Boxes.{IsUnrefuted}
+use Rattle.branch_search.specs.Tasks.{Task, splits_before, given_claim, IsBelowGiven}
 use Rattle.branch_search.specs.Growing.{node_at, box_at, AreBoxesOf}
 use Rattle.branch_search.specs.Shapes.{Shape, forks, numbers, IsShapeOf}
 use Rattle.branch_search.specs.Settled.{IsSettled}
@@ -57,6 +58,20 @@ pub record IsFloor (task : Task) (cells : List Cell) (boxes : List (List Span)) 
   pub under_costs : (k j : ℕ) → k < length cells → node_at cells k ≡ Cost j
       → IsAtLeast bound (task.worths (box_at boxes k) j)
 
+-- ---- splits
+
+-- z is at most the value of the best plan, and at most each worth that waits
+pub record IsUnder (task : Task) (best : Option (List ℕ)) (waiting : List (ℤ × ℕ)) (z : ℤ) : Type 0 where
+  pub under_best : (plan : List ℕ) → best ≡ Some plan → z ≤ℤ task.value task.inst plan
+  pub under_waiting : All (λ entry. z ≤ℤ entry.0) waiting
+
+-- a box that was split: no leaf refuted it, no worth of it is at least the value of the plan handed in, and none is
+-- above what may be split
+pub record IsOpened (task : Task) (best : Option (List ℕ)) (waiting : List (ℤ × ℕ)) (box : List Span) : Type 0 where
+  pub unrefuted : IsUnrefuted task.inst box
+  pub below_given : IsBelowGiven task box
+  pub under : (j : ℕ) → j ≤ task.lists → IsUnder task best waiting (task.worths box j)
+
 -- ---- the state
 
 -- what holds of a search after so many splits of its own; so many leaves of the given tree became those of their boxes
@@ -68,13 +83,12 @@ pub record IsGrown (task : Task) (may : ℕ → Type 0) (given : Tree) (cells : 
   pub is_shape : IsShapeOf cells shape
   pub splits_are : forks shape ≡ splits_before task + splits
   pub settled : (k : ℕ) → k < length cells → IsSettled task best (box_at boxes k) (node_at cells k)
-  pub level : splits_before task ≡ 0 → (k i m j : ℕ) → k < length cells → node_at cells k ≡ Split i m → j ≤ task.lists
-      → IsFloor task cells boxes best (Least (task.worths (box_at boxes k) j))
   pub floors : (bound : Bound) → IsProved task.value task.inst (given_claim task bound)
       → IsFloor task cells boxes best bound
   pub waits : AreEntries task cells boxes (waiting ++ aside)
   pub continues : Continues (record {
     may = may;
+    was_split = λ k. IsOpened task best waiting (box_at boxes k);
     cells = cells;
     waiting = waiting;
     aside = aside;

@@ -1,7 +1,7 @@
-//! The search: its contract is `IsSearchedBy`, which says sentence by sentence what a search promises, for a search
-//! that goes on with a part of a tree `IsGoneOnBy`, and for a search by price lists `IsSearched`.
-ghost use Rattle.std.specs.Prelude.{◌≡◌, ◌⊎◌, ◌+◌, ◌-◌, ◌*◌, ◌<◌, ◌≤◌, ℕ, ℤ, false, length, All, IfOk, OnOk, IfSome};
-ghost use Rattle.std.specs.Prelude.{option_map};
+//! The search: its contract is `IsGoneOnBy`, which says sentence by sentence what a search that goes on with a part of
+//! a tree promises, and `IsSearched` for a search by price lists.
+ghost use Rattle.std.specs.Prelude.{◌≡◌, ◌⊎◌, ◌+◌, ◌-◌, ◌*◌, ◌<◌, ◌≤◌, ℕ, ℤ, false, [], ◌∷◌, length, All, IfOk, OnOk};
+ghost use Rattle.std.specs.Prelude.{IfSome, option_map};
 ghost use Rattle.instance_model.specs.Naturals.{count_product};
 ghost use Rattle.instance_model.specs.Tables.{tmax};
 ghost use Rattle.lagrange_bound.specs.Prices.{IsPriceList};
@@ -14,10 +14,10 @@ ghost use Rattle.certificate_tree.specs.PriceTables.{table_worths, claim_by};
 ghost use Rattle.certificate_lines.specs.declared.line.Bound.TheVariants.{NoPlan, Least};
 ghost use Rattle.branch_search.specs.Best.{IsFeasiblePlan, Reaches};
 ghost use Rattle.branch_search.specs.Splits.{split_count};
-ghost use Rattle.branch_search.specs.Searched.{lists_of, IsSearchedBy, IsSearched};
+ghost use Rattle.branch_search.specs.Searched.{lists_of, IsSearched};
 ghost use Rattle.branch_search.specs.Tasks.{task_of};
 ghost use Rattle.branch_search.specs.Pricing.{AreSearchTables};
-ghost use Rattle.branch_search.specs.Parts.{IsGoneOnBy};
+ghost use Rattle.branch_search.specs.Parts.{whole_part, IsGoneOnBy};
 ghost use Rattle.branch_search.specs.States.{IsGrowth, NoneIsLeft};
 
 use crate::splitting::{begin, left_worth, split_least};
@@ -145,8 +145,8 @@ pub fn go_on<G: Goal>(
     requires incumbent { IfSome incumbent (λ given. IsFeasiblePlan inst.now given.now) }
     ensures proved { IfOk result (λ answer.
         IsProved (G.value_gives goal.now) inst.now (claim_by answer.bound tables.now answer.nodes)) }
-    ensures searched { IfOk result (IsSearchedBy (G.value_gives goal.now) inst.now (length tables.now - 1)
-        (table_worths tables.now) (option_map (λ given. given.now) incumbent.entry) (split_count nodes.now) turns) }
+    ensures gone_on { IfOk result (IsGoneOnBy (G.value_gives goal.now) inst.now (length tables.now - 1)
+        (table_worths tables.now) (option_map (λ given. given.now) incumbent.entry) nodes.now whole_part turns) }
 
     // The tree is in range.
     ensures tree { IfOk result (λ answer.
@@ -198,8 +198,9 @@ pub fn search_by<G: Goal>(
     requires incumbent { IfSome incumbent (λ given. IsFeasiblePlan inst.now given.now) }
     ensures proved { IfOk result (λ answer.
         IsProved (G.value_gives goal.now) inst.now (claim_by answer.bound tables.now answer.nodes)) }
-    ensures searched { IfOk result (IsSearchedBy (G.value_gives goal.now) inst.now (length tables.now - 1)
-        (table_worths tables.now) (option_map (λ given. given.now) incumbent.entry) 0 turns) }
+    ensures gone_on { IfOk result (IsGoneOnBy (G.value_gives goal.now) inst.now (length tables.now - 1)
+        (table_worths tables.now) (option_map (λ given. given.now) incumbent.entry) (Node.Cost 0 ∷ []) whole_part
+        turns) }
 
     // The tree is in range.
     ensures tree { IfOk result (λ answer.

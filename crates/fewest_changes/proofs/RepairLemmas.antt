@@ -192,7 +192,7 @@ module _ (inst : Tables) (old : List (Option ℕ)) (turns : ℕ) (given : Option
       of_nodes = searched.by.of_nodes;
       holds = searched.by.holds;
       few = omega (arith, searched.by.few);
-      splits = searched.by.splits refl;
+      splits = searched.splits;
       bounding = bounding;
       no_worse = record {
         feasible = back.plan;
@@ -245,7 +245,7 @@ module _ (inst : Tables) (old : List (Option ℕ)) (turns : ℕ) (given : Option
       of_nodes = searched.by.of_nodes;
       holds = searched.by.holds;
       few = omega (arith, searched.by.few);
-      splits = searched.by.splits refl;
+      splits = searched.splits;
       bounding = subst (λ (o : Option (List ℕ)). All (Bounding o) (leaves (root_box inst) searched.by.tree)) is
           searched.by.bounding;
       no_worse = subst (IsBestOver (change_value old) inst given) is searched.by.best;

@@ -14,7 +14,7 @@ use Rattle.certificate_tree.specs.Ranges.{IsTreeOf, IsInRange}
 use Rattle.certificate_tree.specs.Holding.{Worths, worth_by}
 use Rattle.certificate_tree.specs.Validity.{CertLeafHolds, IsValid}
 use Rattle.branch_search.specs.Splits.{split_boxes, split_count}
-use Rattle.branch_search.specs.Best.{IsBestOver}
+use Rattle.branch_search.specs.Best.{IsBestOver, IsNumber}
 use Rattle.branch_search.specs.Searched.{IsSplitBox, IsBounding, IsAmong, IsLeastOf, IsUnfinishedLeaf}
 use Rattle.plan_changes.specs.Changes.{changes_of, change_base, change_value, least_changes}
 use Rattle.plan_changes.specs.Returning.{NoneCanGoBack}
@@ -43,7 +43,7 @@ pub record IsRepairTree (inst : Tables) (old : List (Option ℕ)) (turns : ℕ) 
   pub holds : All (CertLeafHolds (change_base old) (change_value old) inst cert) (leaves (root_box inst) tree)
   pub few : length (split_boxes (root_box inst) tree) ≤ turns
   pub splits : All (IsSplitBox (change_value old) inst (length cert.lists) (change_worths old inst cert) given
-      cert.bound) (split_boxes (root_box inst) tree)
+      (IsNumber cert.bound)) (split_boxes (root_box inst) tree)
   pub bounding : All (λ leaf.
       IsBounding (change_value old) inst (length cert.lists) (change_worths old inst cert) plan leaf.box leaf.node)
       (leaves (root_box inst) tree)

@@ -36,7 +36,7 @@ returns-clause-searched g c =
     (subst (λ (ls : List PriceList). AreTables base inst ls c.as_slice-2.result.now)
     (c.as_slice.ensures.value ∙ sym c.from_vec.ensures)
     (subst (λ (ts : List PriceRows). AreTables base inst c.as_slice.result.now ts) (sym c.as_slice-2.ensures.value)
-    c.in_ok-tables.ensures)) (c.from_vec.ensures ∙ c.in_ok-lists.ensures) c.in_ok-end.ensures.searched
+    c.in_ok-tables.ensures)) (c.from_vec.ensures ∙ c.in_ok-lists.ensures) c.in_ok-end.ensures.gone_on
 
 pub returns-clause-valid : goal.returns-clause-valid
 returns-clause-valid g c =
