@@ -1,9 +1,12 @@
 //! Runs of `roll`.
 
+ghost use Rattle.std.specs.Prelude.{◌<◌};
+
 use crate::samples::{EMPTY, desk};
 use command_evaluate::evaluate_files;
 use command_frame::Source;
 use command_roll::{RollFiles, roll_files};
+use instance_gen::generate;
 use instance_model::Limits;
 use plan_desk::{DeskCall, MemDesk};
 use std::alloc::{AllocError, Global};
@@ -123,6 +126,31 @@ fn loads_of_0_are_left_out(rt: HostRuntime) -> Result<(), Fail> {
         b"rolled\nkept 0\nfree 1\nrounded 0\n".as_slice()
     );
     assert!(rt; holds_lines(&desk, "O", LEFT_IDLE));
+    Ok(())
+}
+
+/// All tables of a drawn instance, as `roll` writes them if nothing has begun. The file of the instance is read in
+/// pieces of at most so many bytes.
+fn drawn_tables(alloc: Global, most: usize) -> Result<Vec<u8>, AllocError>
+    requires some { 0 < most }
+{
+    let text = generate(alloc, 7, 40)?;
+    let mut desk = MemDesk::make(alloc);
+    desk.put_file("I", text.as_slice())?;
+    desk.put_file("P", b"")?;
+    desk.read_by(most);
+    roll(alloc, 1, 2_147_483_647, &mut desk);
+    match desk.file("O") {
+        Some(held) => Vec::from_slice(alloc, held),
+        None => Ok(Vec::new(alloc)),
+    }
+}
+
+#[test]
+fn a_drawn_instance_is_the_same_in_pieces_of_each_size(rt: HostRuntime) -> Result<(), Fail> {
+    let single = drawn_tables(rt.alloc(), 1)?;
+    assert!(rt; single.len() > 269_957);
+    assert!(rt; drawn_tables(rt.alloc(), 4096)?.as_slice() == single.as_slice());
     Ok(())
 }
 
