@@ -40,9 +40,10 @@ STEPS = [
     Step(
         "What `evaluate` answers",
         "For every instance within the stated sizes `evaluate` answers feasible (0) exactly when the rules hold, with"
-        " values that enclose the weighted mean and excess risk, else it names the first broken rule (1); unless memory"
-        " is refused (11) or reading (7) or writing (8) failed. That words of `evaluate` ask for it is `evaluates` of"
-        " `GoesByName`, a law (`commands_go_by_name` in `planner_cli/src/laws.rt`), so no other parser has to be read.",
+        " values that enclose the weighted mean and excess risk, else it names the first broken rule (1). The status"
+        " may be 7, 8 or 11 in place of these: steps 4 and 5 tell which calls failed then. That words of `evaluate` ask"
+        " for it is `evaluates` of `GoesByName`, a law (`commands_go_by_name` in `planner_cli/src/laws.rt`), so no"
+        " other parser has to be read.",
         [RUN, (WORDS, ["evaluate_of", "GoesByName"])],
         {
             OUTCOME: {"Outcome": ["evaluates"]},
@@ -100,12 +101,15 @@ STEPS = [
     Step(
         "What calls `run`, and over what",
         "`main` calls `run` with the words, over a device that reads real files and says on standard output; what each"
-        " call of a device does is the contract of `Desk`, and `RealDesk` is the one that calls the system.",
+        " call of a device does, and that a call that fails is counted, is the contract of `Desk`, and `RealDesk` is"
+        " the one that calls the system.",
         [("planner_cli/src/main.rt", []), ("plan_desk/src/real.rt", [])],
     ),
     Step(
         "Whatever else `run` says of `evaluate`",
-        "Refusals with their lines, runs that fail, and that the bytes of the files have one answer.",
+        "Refusals with their lines; and that the bytes of the files have one answer. Runs that fail: behind 7 a call"
+        " failed that opens or reads a file, behind 8 one that says the answer, and behind each other status none. 11"
+        " may come whatever the files hold; behind it the line of want of memory was said.",
         [(EVALUATING, ["RunsEvaluate", "BehindEvaluate", "ExpectsEvaluate", "DueEvaluate"]), (ENDING, ["Behind"])],
     ),
     Step(

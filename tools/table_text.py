@@ -130,7 +130,7 @@ def stop(status, text):
 
 def say(text):
     """Writes a text to standard output whole."""
-    rest = text.encode("utf-8")
+    rest = text.encode("utf-8", "surrogateescape")
     try:
         while rest:
             rest = rest[os.write(1, rest):]
