@@ -1,4 +1,8 @@
-"""The manual page and the completion for bash of `planner`, made from its table of words, tools/front/words.bash."""
+"""The texts that only a package has: its manual pages and the completion for bash, of which those of `planner` are made
+from its table of words, tools/front/words.bash; its changelog; and what Debian's tools ask for.
+"""
+import datetime
+import email.utils
 import re
 import subprocess
 import time
@@ -31,6 +35,41 @@ lists every load outside its limits and every clash of a plan
 .B planner\\-picture \\fIINSTANCE PLAN PICTURE\\fR [slack=\\fID\\fR]
 draws a year of a plan, as PNG or SVG; it needs python3\\-matplotlib
 """
+
+
+# Who a package is by.
+MAINTAINER = "Gadvresa maintainers <maintainers@users.noreply.gadvresa.example>"
+# (stripped programs would not be those that the receipt and the proofs are of)
+OVERRIDES = """# The programs have the bytes that were built behind their proofs, so nothing is stripped from them.
+gadvresa: unstripped-binary-or-object [usr/lib/gadvresa/out/*]
+"""
+# (DPKG_ROOT is set where dpkg installs into a folder without entering it)
+REMOVAL = """#!/bin/sh
+# Removes what Python keeps of the modules that it has read, before their folders are to be removed.
+set -e
+for folder in usr/lib/gadvresa usr/lib/python3/dist-packages/gadvresa; do
+    [ ! -d "$DPKG_ROOT/$folder" ] || find "$DPKG_ROOT/$folder" -depth -type d -name __pycache__ -exec rm -rf {} +
+done
+"""
+# The manual pages of the other programs: what each is, its calls, what it does, and its statuses.
+OTHERS = {
+    "planner-faults": (
+        "every load outside its limits and every clash of a plan",
+        ["planner-faults INSTANCE PLAN [slack=D]", "planner-faults --table FILE"],
+        "Lists each load of a plan that is above or below its limits, and each broken exclusion, from what planner "
+        "table prints, or from a FILE with that. The last three lines add them up.",
+        [("0", "there is none"), ("1", "there is one"), ("64 and above", "the call failed, as a line says"),
+         ("any other", "the status of planner table")]),
+    "planner-picture": (
+        "a picture of a year of a plan",
+        ["planner-picture INSTANCE PLAN PICTURE [slack=D]", "planner-picture --table FILE PICTURE",
+         "planner-picture --progress FILE PICTURE"],
+        "Draws works, loads between their limits, and risk, from what planner table prints, or from a FILE with that. "
+        "With --progress it draws the rounds of planner plan. PICTURE is written as PNG or SVG, by its suffix. "
+        "It needs the package python3-matplotlib.",
+        [("0", "PICTURE was written"), ("64 and above", "the call failed, as a line says"),
+         ("any other", "the status of planner table")]),
+}
 
 
 def read_words(path):
@@ -81,6 +120,24 @@ def manual(words, version, seconds):
     page += "".join(entry(word, it) for word, it in words.ranges.items())
     page += "".join(entry(word, it) for word, _, it in words.options)
     return page + ".SH EXIT STATUS\n" + "".join(entry(*row) for row in words.statuses) + END
+
+
+def other_manual(name, version, seconds):
+    """The manual page of one of the other programs."""
+    what, calls, does, statuses = OTHERS[name]
+    day = time.strftime("%Y-%m-%d", time.gmtime(seconds))
+    page = f'.TH {name.upper()} 1 {day} "gadvresa {version}" "Gadvresa"\n'
+    page += f".SH NAME\n{name} \\- {what}\n.SH SYNOPSIS\n.nf\n".replace(name, escaped(name))
+    page += "".join(f"{escaped(call)}\n" for call in calls) + f".fi\n.SH DESCRIPTION\n{escaped(does)}\n"
+    page += ".SH EXIT STATUS\n" + "".join(entry(*row) for row in statuses)
+    return page + ".SH SEE ALSO\n.BR planner (1)\n"
+
+
+def changelog(version, commit, seconds):
+    """The changelog of a package, which has the commit that it was made of."""
+    day = email.utils.format_datetime(datetime.datetime.fromtimestamp(seconds, datetime.timezone.utc))
+    return (f"gadvresa ({version}) unstable; urgency=medium\n\n"
+            f"  * Commit {commit}:\n    `git log` of a clone has what changed.\n\n -- {MAINTAINER}  {day}\n")
 
 
 def kind_of(part, words):

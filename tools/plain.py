@@ -3,7 +3,8 @@
 What drawings, benches and checks share. Nothing here asks the program, so what it prints can be compared with this.
 """
 import json
-from fractions import Fraction
+
+from decimals import counts, whole
 
 COUNTS = 10 ** 12
 MILLION = 10 ** 6
@@ -95,7 +96,7 @@ def read_instance(path):
         root = json.load(file, parse_float=str, parse_int=str)
     inst = Instance()
     inst.periods, inst.scenarios = whole(root["T"]), wholes(root["Scenarios_number"])
-    inst.quantile, inst.alpha = (whole(Fraction(root[name]) * MILLION) for name in ("Quantile", "Alpha"))
+    inst.quantile, inst.alpha = (counts(root[name]) * MILLION // COUNTS for name in ("Quantile", "Alpha"))
     inst.intervention_names, inst.resource_names = list(root["Interventions"]), list(root["Resources"])
     inst.season_names, inst.exclusion_names = list(root["Seasons"]), list(root["Exclusions"])
     inst.upper = [resource["max"] for resource in root["Resources"].values()]
@@ -124,10 +125,6 @@ def keep(inst, i, table, by_period):
                 table[i, int(s), int(t)] = entry
 
 
-def whole(number):
-    return int(Fraction(number))
-
-
 def wholes(numbers):
     return [whole(number) for number in numbers]
 
@@ -137,13 +134,6 @@ def read_plan(inst, path):
     with open(path, encoding="utf-8") as file:
         starts = dict(line.split() for line in file if line.strip())
     return [int(starts[name]) if name in starts else None for name in inst.intervention_names]
-
-
-def counts(text):
-    """A decimal as a whole number of 10^-12."""
-    value = Fraction(text) * COUNTS
-    assert value.denominator == 1
-    return int(value)
 
 
 def decimal(count):

@@ -22,7 +22,7 @@ import json, os, re, signal, sys, time
 sys.dont_write_bytecode = True
 sys.path.insert(0, {tools!r})
 told, command, words = {told!r}, sys.argv[1], sys.argv[2:]
-with open(os.path.join(told, "calls"), "a") as calls:
+with open(os.path.join(told, "calls"), "a", errors="surrogateescape") as calls:
     calls.write(" ".join(sys.argv[1:]) + "\n")
 slack = words.pop() if words and words[-1].startswith("slack=") else None
 part = words.pop() if words and words[-1].startswith("part=") else None
@@ -163,6 +163,28 @@ elif command == "bound":
 end(2, "refused words\n")
 """
 
+# Takes the place of GNU parallel: one machine, with a folder of its own, makes the calls one after the other. Behind
+# each of them a shell runs the file `odd` there, with its name. What was made comes back as it is, links as links.
+PARALLEL = r"""#!{python} -IS
+import os, shutil, subprocess, sys
+words, home = sys.argv[1:], {home!r}
+values = lambda name: [words[at + 1] for at in range(words.index(":::")) if words[at] == name]
+run = lambda folder, *call: subprocess.run(call, cwd=folder, stdin=subprocess.DEVNULL)
+if "--nonall" in words:
+    run(home, "sh", "-c", words[-1])
+    sys.exit(0)
+at = words.index(":::")
+folder = os.path.join(home, *values("--workdir"))
+os.makedirs(folder, exist_ok=True)
+for name in words[at + 1:]:
+    for file in values("--transferfile"):
+        shutil.copy(file.replace("{{}}", name), folder)
+    run(folder, "sh", "-c", words[at - 1].replace("{{}}", name))
+    run(folder, "sh", {odd!r}, name)
+    for file in values("--return"):
+        run(".", "cp", "-a", os.path.join(folder, file.replace("{{}}", name)), ".")
+"""
+
 
 class Results:
     passed = failed = 0
@@ -233,6 +255,19 @@ class Room:
 
     def environment(self):
         return {**os.environ, "GADVRESA_PROGRAMS": self.file("programs"), "PYTHONDONTWRITEBYTECODE": "1"}
+
+    def machine(self, odd):
+        """Words and variables of a run over a machine that does something odd behind each call, in a shell; $1 is the
+        name of the file that comes back.
+        """
+        for name in ("machine", "home"):
+            os.makedirs(self.file(name), exist_ok=True)
+        self.write(PARALLEL.format(python=sys.executable, home=self.file("home"), odd=self.file("odd")), "machine",
+                   "parallel")
+        os.chmod(self.file("machine", "parallel"), 0o755)
+        self.write(odd, "odd")
+        path = f"{self.file('machine')}{os.pathsep}{os.environ['PATH']}"
+        return f"hosts={self.write('one' + chr(10) + 'other' + chr(10), 'hosts')}", {**self.environment(), "PATH": path}
 
     def start(self, *words, **more):
         how = {"stdin": subprocess.DEVNULL, "stdout": subprocess.PIPE, "stderr": subprocess.PIPE, "text": True,

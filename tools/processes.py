@@ -4,14 +4,17 @@ has them ended.
 What a process starts stays below the script, which can take orphans in (the kernel's child subreaper), so all of it is
 found in /proc and killed.
 """
+import contextlib
 import ctypes
 import os
 import signal
+import sys
 import time
 
 SUBREAPER, DEATH_SIGNAL = 36, 1
 LIBRARY = ctypes.CDLL(None, use_errno=True)
 MOST_ROUNDS = 1000
+SIGNALS = (signal.SIGINT, signal.SIGTERM, signal.SIGHUP)
 
 
 def ignore_no_signal():
@@ -19,9 +22,37 @@ def ignore_no_signal():
 
     What ignores a signal hands that on to what it starts, but not a handler.
     """
-    for number in (signal.SIGINT, signal.SIGTERM, signal.SIGHUP):
+    for number in SIGNALS:
         if signal.getsignal(number) == signal.SIG_IGN:
             signal.signal(number, lambda *_: None)
+
+
+def end_by_signals():
+    """From now on a signal ends this script with all that it started, once the script has tidied up; the status is 128
+    and the number of the signal. Signals that are ignored stay so.
+    """
+    take_orphans()
+    for number in SIGNALS:
+        if signal.getsignal(number) != signal.SIG_IGN:
+            signal.signal(number, _end_by_signal)
+
+
+def _end_by_signal(number, _):
+    # (another signal doesn't disturb the tidying)
+    for each in SIGNALS:
+        signal.signal(each, signal.SIG_IGN)
+    end_all()
+    sys.exit(128 + number)
+
+
+@contextlib.contextmanager
+def undisturbed():
+    """Has signals wait until what is done here is done."""
+    before = signal.pthread_sigmask(signal.SIG_BLOCK, SIGNALS)
+    try:
+        yield
+    finally:
+        signal.pthread_sigmask(signal.SIG_SETMASK, before)
 
 
 def end_with_parent(number):

@@ -10,7 +10,8 @@ All take these, by name:
 - `slack`: widens every limit by so much, from 0 to 0.001, with at most 12 decimals.
 - `timeout`: seconds behind which the program is ended, with `TimedOut`.
 - `cancel`: a `threading.Event`. Once it is set, by another thread, the program is ended, with `Cancelled`. Ctrl-C ends
-  the program too.
+  the program too. In the main thread SIGTERM and SIGHUP end the program and remove its folder before they end the
+  process, unless you handle or ignore them. In other threads your own handler of them has to set `cancel`.
 
 All raise what `gadvresa.errors` has: a subclass of `Refused` for a file or a word that is refused, with its place;
 `BrokenRule` where a plan has to keep rules and doesn't; `ProgramMissing`, `ProgramFailed` and `OutOfMemory`.
@@ -19,7 +20,6 @@ from __future__ import annotations
 
 import os
 import re
-import tempfile
 import threading
 from dataclasses import dataclass, field
 from typing import Any, Callable, Dict, Iterable, List, Mapping, NoReturn, Optional, Tuple, Type, TypeVar, Union
@@ -27,6 +27,7 @@ from typing import Any, Callable, Dict, Iterable, List, Mapping, NoReturn, Optio
 from . import errors
 from .answers import (Audited, Bounded, Checked, Improved, Judged, Outcome, Rebound, Repaired, Replayed, Rolled, Solved,
                       Table)
+from .ending import room
 from .exact import Slack, decimal_of, slack_word, whole_of
 from .explaining import Source
 from .files import Certificate, Plan, is_refined, permissions, script_data
@@ -242,10 +243,6 @@ def place_of(line: str, sources: Tuple[Source, ...]) -> Optional[errors.Place]:
         return None
     begin = head.rfind(b"\n") + 1
     return errors.Place(path, head.count(b"\n") + 1, len(head[begin:].decode("utf-8", "replace")) + 1, len(head))
-
-
-def room() -> "tempfile.TemporaryDirectory[str]":
-    return tempfile.TemporaryDirectory(prefix="gadvresa-")
 
 
 def bytes_of(path: str) -> bytes:
@@ -627,7 +624,7 @@ def roll(instance: AnyInstance, plan: AnyPlan, period: int, out: Path, *, timeou
     Raises BrokenRule where a start that would be kept isn't allowed. OUT is replaced once all of it is written.
     """
     place = os.path.realpath(os.fspath(out))
-    with tempfile.TemporaryDirectory(prefix=".gadvresa-", dir=os.path.dirname(place)) as folder:
+    with room(".gadvresa-", os.path.dirname(place)) as folder:
         call = Call("roll", "planner_cli", folder)
         call.instance(instance)
         call.plan(needed(plan, "plan"))

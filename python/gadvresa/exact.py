@@ -3,7 +3,7 @@ from __future__ import annotations
 
 import re
 from dataclasses import dataclass
-from decimal import Decimal, InvalidOperation
+from decimal import ROUND_DOWN, ROUND_HALF_UP, Context, Decimal, Inexact, InvalidOperation, Overflow
 from fractions import Fraction
 from typing import Union
 
@@ -14,6 +14,14 @@ SCORES = 10 ** 18
 
 DECIMAL = re.compile(r"-?(?:0|[1-9][0-9]*)\.[0-9]{12}")
 WHOLE = re.compile(r"-?(?:0|[1-9][0-9]*)")
+# How numbers of an instance are read in bounded time and memory, whatever their digits and exponents. They are cut to
+# more digits than such a number may have, and rounded once; a whole must lose nothing.
+COUNT = Decimal(1).scaleb(-12)
+CUT = Context(prec=60, rounding=ROUND_DOWN)
+ROUNDED = Context(prec=60, rounding=ROUND_HALF_UP)
+UNCUT = Context(prec=60, traps=[Inexact, InvalidOperation, Overflow])
+# What a whole of an instance is at most, and what a number of it is below in size, in counts.
+MOST, TOO_LARGE = 999_999_999, 10 ** 20
 # What a slack may be given as.
 Slack = Union[None, str, int, float, Decimal, Fraction]
 
@@ -74,6 +82,32 @@ def whole_of(word: str) -> int:
     if not WHOLE.fullmatch(word):
         raise ValueError(f"{word!r} is no whole number")
     return int(word)
+
+
+def kept(text: str) -> Fraction:
+    """A number of an instance as the programs keep it: rounded to 12 decimals, halves away from 0, and below 10^8.
+
+    Raises ArithmeticError or ValueError for any other text.
+
+    >>> kept("0.1234567890123456"), kept("1e-1000000000")
+    (Fraction(30864197253, 250000000000), Fraction(0, 1))
+    """
+    count = int(ROUNDED.quantize(CUT.create_decimal(text), COUNT).scaleb(12, ROUNDED))
+    if not abs(count) < TOO_LARGE:
+        raise ValueError(f"{text:.40} is 10^8 or more in size")
+    return Fraction(count, COUNTS)
+
+
+def kept_whole(text: str) -> int:
+    """A whole number of an instance, from 0 to 999,999,999. Raises ArithmeticError or ValueError for any other text.
+
+    >>> kept_whole("1e3")
+    1000
+    """
+    number = UNCUT.create_decimal(text)
+    if not 0 <= number <= MOST or number != number.to_integral_value(context=UNCUT):
+        raise ValueError(f"{text:.40} is no whole number from 0 to {MOST}")
+    return int(number)
 
 
 def slack_word(slack: Slack) -> str:

@@ -2,13 +2,12 @@
 from __future__ import annotations
 
 import os
-import subprocess
 import sys
-import tempfile
 from dataclasses import dataclass
 from typing import Optional, Sequence
 
-from .running import Called, clone, folder_of
+from .ending import room
+from .running import Called, Stopped, clone, folder_of, run_words
 
 # How long it may take, in seconds: it reads the file whole.
 SECONDS = 120
@@ -35,21 +34,20 @@ def explain(line: str, sources: Sequence[Source], slack: Optional[str] = None,
     top = folder_of(called.program) if called else clone()
     if not line or not sources or top is None:
         return None
-    with tempfile.TemporaryDirectory(prefix="gadvresa-") as room:
+    with room() as folder:
         files = []
         for number, source in enumerate(sources):
             path = source.path
             if source.data is not None:
-                path = os.path.join(room, f"file-{number}")
+                path = os.path.join(folder, f"file-{number}")
                 with open(path, "wb") as file:
                     file.write(source.data)
             files.append(str(path))
-        words = [sys.executable, os.path.join(top, "tools", "explain"), files[0], line, *files[1:]]
+        words = [sys.executable, "-E", "-s", os.path.join(top, "tools", "explain"), files[0], line, *files[1:]]
         if slack is not None and len(files) > 1:
             words.append(slack)
         try:
-            ran = subprocess.run(words, stdin=subprocess.DEVNULL, stdout=subprocess.PIPE, stderr=subprocess.DEVNULL,
-                                 timeout=SECONDS)
-        except (OSError, ValueError, subprocess.TimeoutExpired):
+            status, said, _ = run_words(words, SECONDS)
+        except (OSError, ValueError, Stopped):
             return None
-    return ran.stdout.decode("utf-8", "replace") if ran.returncode == 0 else None
+    return said.decode("utf-8", "replace") if status == 0 else None

@@ -1,7 +1,8 @@
 """An instance as a method for planning sees it: names, numbers of periods and scenarios, and exact tables.
 
 The file is read when something of it is asked for, and no judgement is made here: what is wrong with it the programs
-say. Calls hand its path on to them, so that an instance needs to be read only by who looks into it.
+say. Numbers are those that the programs keep: the file's, rounded to 12 decimals. Calls hand its path on to them, so
+that an instance needs to be read only by who looks into it.
 """
 from __future__ import annotations
 
@@ -12,11 +13,12 @@ from fractions import Fraction
 from functools import cached_property
 from typing import Any, Callable, Dict, FrozenSet, List, Mapping, Tuple, TypeVar
 
+from .exact import kept, kept_whole
 from .running import Path
 
 Made = TypeVar("Made")
 # What comes of a value that isn't what an instance has in its place.
-UNFIT = (KeyError, TypeError, ValueError, AttributeError, ZeroDivisionError)
+UNFIT = (ArithmeticError, AttributeError, KeyError, TypeError, ValueError)
 
 
 class Unreadable(ValueError):
@@ -99,11 +101,11 @@ class Intervention:
 
     def load(self, resource: str, period: int, start: int) -> Fraction:
         """Its load on a resource in a period of its run from a start, in the resource's unit; 0 where none is told."""
-        return self._load(Fraction, resource, period, start)
+        return self._load(kept, resource, period, start)
 
     def risks(self, period: int, start: int) -> Tuple[Fraction, ...]:
         """Its risks in a period of its run from a start, one for each scenario of the period."""
-        return tuple(self._risk_row(Fraction, period, start))
+        return tuple(self._risk_row(kept, period, start))
 
     def float_load(self, resource: str, period: int, start: int) -> float:
         """`load` as a float, which is fast and rounded."""
@@ -170,22 +172,22 @@ class Instance:
     @cached_property
     def periods(self) -> int:
         """The number of periods, which count from 1."""
-        return self._read("T", _whole)
+        return self._read("T", kept_whole)
 
     @cached_property
     def scenarios(self) -> Tuple[int, ...]:
         """The number of scenarios of each period: `scenarios[0]` is that of period 1."""
-        return self._read("Scenarios_number", lambda numbers: tuple(map(_whole, _list(numbers))))
+        return self._read("Scenarios_number", lambda numbers: tuple(map(kept_whole, _list(numbers))))
 
     @cached_property
     def alpha(self) -> Fraction:
         """The weight of the mean risk in the cost."""
-        return self._read("Alpha", Fraction)
+        return self._read("Alpha", kept)
 
     @cached_property
     def quantile(self) -> Fraction:
         """What part of the scenarios the quantile of the excess is at."""
-        return self._read("Quantile", Fraction)
+        return self._read("Quantile", kept)
 
     def rank(self, period: int) -> int:
         """Which of the scenarios of a period, in ascending order of their risks, is the quantile; it counts from 1."""
@@ -197,7 +199,7 @@ class Instance:
         """The resources by name, in the order of the file."""
 
         def band(name: str, it: Mapping[str, Any]) -> Band:
-            return Band(name, tuple(map(Fraction, _list(it["max"]))), tuple(map(Fraction, _list(it["min"]))))
+            return Band(name, tuple(map(kept, _list(it["max"]))), tuple(map(kept, _list(it["min"]))))
 
         return self._read("Resources", lambda found: {name: band(name, it) for name, it in found.items()})
 
@@ -207,8 +209,8 @@ class Instance:
         periods = self.periods
 
         def made(name: str, it: Mapping[str, Any]) -> Intervention:
-            last = _whole(it["tmax"])
-            durations = tuple(map(_whole, _list(it["Delta"])[:last]))
+            last = kept_whole(it["tmax"])
+            durations = tuple(map(kept_whole, _list(it["Delta"])[:last]))
             return Intervention(name, last, durations, periods, it["workload"], it["risk"])
 
         return self._read("Interventions", lambda found: {name: made(name, it) for name, it in found.items()})
@@ -218,7 +220,7 @@ class Instance:
         """The periods of each season, by name; periods that the year hasn't are left out."""
         horizon = range(1, self.periods + 1)
         return self._read("Seasons", lambda found: {
-            name: frozenset(t for t in map(_whole, _list(it)) if t in horizon) for name, it in found.items()})
+            name: frozenset(t for t in map(kept_whole, _list(it)) if t in horizon) for name, it in found.items()})
 
     @cached_property
     def exclusions(self) -> Dict[str, Exclusion]:
@@ -237,11 +239,4 @@ def _list(value: Any) -> List[Any]:
     if not isinstance(value, list):
         raise TypeError(f"{value!r:.200} is no list")
     return value
-
-
-def _whole(number: Any) -> int:
-    value = Fraction(number)
-    if value.denominator != 1:
-        raise ValueError(f"{number} is no whole number")
-    return int(value)
 

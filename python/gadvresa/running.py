@@ -17,7 +17,9 @@ import sys
 import threading
 import time
 from dataclasses import dataclass, field
-from typing import Dict, List, Optional, Tuple, Union
+from typing import Dict, List, Optional, Sequence, Tuple, Union
+
+from .ending import ended, look
 
 Path = Union[str, "os.PathLike[str]"]
 PROGRAMS = ("planner_cli", "plan_repair", "plan_refine")
@@ -170,17 +172,26 @@ def run(program: Program, words: Tuple[str, ...], timeout: Optional[float] = Non
     Raises Stopped in the first two cases, and OSError where the program can't be started.
     """
     began = time.monotonic()
+    status, said, errors = run_words([program.path, *words], timeout, cancel)
+    return Called(program.path, words, status, time.monotonic() - began, said.decode("utf-8", "surrogateescape"),
+                  errors.decode("utf-8", "replace"))
+
+
+def run_words(words: Sequence[str], timeout: Optional[float] = None,
+              cancel: Optional[threading.Event] = None) -> Tuple[int, bytes, bytes]:
+    """The status of a call, and what it said on standard output and standard error. It raises and ends as `run`."""
+    end = None if timeout is None else time.monotonic() + timeout
     if cancel is not None and cancel.is_set():
         raise Stopped(False)
-    process = subprocess.Popen([program.path, *words], stdin=subprocess.DEVNULL, stdout=subprocess.PIPE,
-                               stderr=subprocess.PIPE)
+    look()
+    process = subprocess.Popen(words, stdin=subprocess.DEVNULL, stdout=subprocess.PIPE, stderr=subprocess.PIPE)
     try:
-        said, errors = _wait(process, None if timeout is None else began + timeout, cancel)
+        with ended(process):
+            said, errors = _wait(process, end, cancel)
     except BaseException:
         _end(process)
         raise
-    return Called(program.path, words, process.returncode, time.monotonic() - began,
-                  said.decode("utf-8", "surrogateescape"), errors.decode("utf-8", "replace"))
+    return process.returncode, said, errors
 
 
 def _wait(process: "subprocess.Popen[bytes]", end: Optional[float],

@@ -1,6 +1,9 @@
 """The calls and what they answer, each status, and how calls end that have no answer."""
 import os
 import pickle
+import signal
+import subprocess
+import sys
 import threading
 import time
 from decimal import Decimal
@@ -350,7 +353,6 @@ def test_cancelled_and_late_calls(program, tmp_path):
 
 
 def test_ctrl_c_ends_the_program(program, tmp_path, monkeypatch):
-    import subprocess
     note, ended = tmp_path / "pid", []
     program(f"echo $$ >{note}\nexec sleep 100")
     whole = subprocess.Popen.communicate
@@ -365,6 +367,58 @@ def test_ctrl_c_ends_the_program(program, tmp_path, monkeypatch):
     with pytest.raises(KeyboardInterrupt):
         gadvresa.solve(SUMMER, 10, cancel=threading.Event())
     assert not is_alive(ended[0])
+
+
+CALL = "import gadvresa; gadvresa.solve({!r}, 10)"
+HANDLED = """import signal, sys, gadvresa
+signal.signal(signal.SIGTERM, lambda *_: sys.exit(5))
+gadvresa.solve({!r}, 10)"""
+
+
+def call_elsewhere(text, tmp_path, more=()):
+    """A process of Python that runs a text, with a folder of its own for all that is made for a while."""
+    rooms = tmp_path / "rooms"
+    rooms.mkdir()
+    variables = {**os.environ, "GADVRESA_PROGRAMS": str(tmp_path), "TMPDIR": str(rooms), "PYTHONPATH": "python"}
+    process = subprocess.Popen([*more, sys.executable, "-c", text], env=variables, stderr=subprocess.PIPE,
+                               start_new_session=True)
+    return process, rooms
+
+
+@pytest.mark.parametrize("text, number, status", [
+    (CALL, signal.SIGTERM, -signal.SIGTERM), (CALL, signal.SIGHUP, -signal.SIGHUP), (HANDLED, signal.SIGTERM, 5)])
+def test_signals_end_the_program_and_leave_no_folder(program, tmp_path, text, number, status):
+    note = tmp_path / "pid"
+    program(f"echo $$ >{note}\nexec sleep 100")
+    process, rooms = call_elsewhere(text.format(SUMMER), tmp_path)
+    assert waited_for(lambda: note.exists() and note.read_text()) and os.listdir(rooms)
+    os.kill(process.pid, number)
+    assert process.communicate(timeout=60) == (None, b"") and process.returncode == status
+    assert os.listdir(rooms) == [] and not is_alive(int(note.read_text()))
+
+
+def test_signals_end_as_ever_behind_a_call(program, tmp_path):
+    program("echo refused words; exit 2")
+    process, rooms = call_elsewhere(f"try:\n    import gadvresa\n    gadvresa.evaluate({SUMMER!r}, {{}})\n"
+                                    "except gadvresa.WordsRefused:\n    import os, signal\n"
+                                    "    assert signal.getsignal(signal.SIGTERM) is signal.SIG_DFL\n"
+                                    "    os.kill(os.getpid(), signal.SIGTERM)", tmp_path)
+    assert process.communicate(timeout=60) == (None, b"") and process.returncode == -signal.SIGTERM
+    assert os.listdir(rooms) == []
+
+
+def test_ignored_signals_stay_so(program, tmp_path):
+    program("kill -HUP $PPID; sleep 0.5; echo refused words; exit 2")
+    process, rooms = call_elsewhere(CALL.format(SUMMER), tmp_path, ["nohup"])
+    assert b"WordsRefused" in process.communicate(timeout=60)[1] and os.listdir(rooms) == []
+
+
+def waited_for(holds):
+    """Whether that holds before a minute is over."""
+    end = time.monotonic() + 60
+    while not holds() and time.monotonic() < end:
+        time.sleep(0.02)
+    return holds()
 
 
 def test_calls_side_by_side():

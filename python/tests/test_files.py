@@ -97,6 +97,21 @@ def test_a_file_is_written_whole_or_not_at_all(tmp_path):
     assert sorted(os.listdir(tmp_path)) == ["link", "plan"]
 
 
+@pytest.mark.parametrize("mask", [0o077, 0o027, 0o002])
+def test_new_files_are_allowed_what_the_umask_leaves(tmp_path, monkeypatch, mask):
+    def never(_):
+        raise AssertionError("the umask of all threads was changed")
+
+    before = os.umask(mask)
+    try:
+        with monkeypatch.context() as patch:
+            patch.setattr(os, "umask", never)
+            Plan({"a": 1}).write(tmp_path / "plan")
+    finally:
+        os.umask(before)
+    assert (tmp_path / "plan").stat().st_mode & 0o777 == 0o666 & ~mask
+
+
 def test_an_instance_in_the_forms_of_the_challenge():
     instance = Instance.read("examples/challenge/instance.json")
     work = instance.interventions["I1"]
@@ -112,10 +127,33 @@ def test_an_instance_in_the_forms_of_the_challenge():
         work.risks(3, 1)
 
 
-def test_numbers_stay_exact(tmp_path):
-    text = json.dumps({"Resources": {"c": {"max": ["@"], "min": [0]}}, "T": 1}).replace('"@"', "0.1234567890123456789")
-    (tmp_path / "exact").write_text(text)
-    assert Instance.read(tmp_path / "exact").resources["c"].upper == (Fraction("0.1234567890123456789"),)
+@pytest.mark.parametrize("text, kept", [
+    ("0.123456789012", "0.123456789012"), ("0.1234567890123456789", "0.123456789012"), ("1e-1000000000", "0"),
+    ("-5e-13", "-0.000000000001"), ("4.999" + "9" * 80 + "e-13", "0"), ("1" + "0" * 300 + "e-300", "1"),
+    ("-99999999.999999999999", "-99999999.999999999999"), ("0e999999999999999999999", "0")])
+def test_numbers_are_those_that_the_programs_keep(tmp_path, text, kept):
+    work = {"tmax": 1, "Delta": [1], "workload": {"c": {"1": {"1": "@"}}}, "risk": {"1": {"1": ["@"]}}}
+    text = json.dumps({"Resources": {"c": {"max": ["@"], "min": ["@"]}}, "Interventions": {"a": work}, "T": 1,
+                       "Alpha": "@", "Quantile": "@"}).replace('"@"', text)
+    (tmp_path / "file").write_text(text)
+    instance, number = Instance.read(tmp_path / "file"), Fraction(kept)
+    read, band = instance.interventions["a"], instance.resources["c"]
+    assert {*band.upper, *band.lower, *read.risks(1, 1), read.load("c", 1, 1), instance.alpha} == {number}
+    assert instance.quantile == number
+
+
+@pytest.mark.parametrize("text", ["1e400", "1e999999999999999999999", "1e-1000000000", "NaN", "-1", "1.5", "1e9",
+                                  "1." + "0" * 100 + "1", "100000000"])
+def test_numbers_that_no_instance_has(tmp_path, text):
+    (tmp_path / "file").write_text(f'{{"T": {text}, "Alpha": {text}, "Seasons": {{"s": [{text}]}}}}')
+    instance = Instance.read(tmp_path / "file")
+    for name in ("periods", "seasons"):
+        if text != "100000000":
+            with pytest.raises(gadvresa.Unreadable):
+                getattr(instance, name)
+    if text not in ("1e-1000000000", "-1", "1.5", "1." + "0" * 100 + "1"):
+        with pytest.raises(gadvresa.Unreadable):
+            print(instance.alpha)
 
 
 def test_what_is_no_instance(tmp_path):

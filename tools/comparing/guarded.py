@@ -2,7 +2,7 @@
 
 Whatever a method starts stays below this process, which takes orphans in, and is killed with it; so it is where there
 come to be too many. What it prints is read and dropped, but for its beginning and its end. While it runs, its plan is
-looked at: each new text of it is kept with its time.
+looked at: each new text of it is kept with its time, up to a number of bytes in all, and then every other one.
 
 Processes are counted a few times a second, so what forks faster than that may fill a machine before it is ended, above
 all where this runs as root, whom no limit of the system holds. What isn't trusted so far belongs into a container.
@@ -21,6 +21,8 @@ from processes import end_all, end_with_parent, reap
 
 # How much of the plan file, and of each end of the output, is kept; the largest file that a method may write.
 LONGEST_PLAN, LONGEST_SAID, LARGEST_FILE = 1 << 24, 1 << 13, 1 << 33
+# How many bytes of all texts of a plan are kept, which memory holds together.
+MOST_SEEN = 1 << 26
 # Seconds between two looks, and their part of the time that has passed, so that long runs aren't looked at too often.
 LOOK, PART = 0.05, 0.02
 # Seconds between two counts of the processes.
@@ -37,8 +39,8 @@ class Seen:
 
 @dataclass
 class Ran:
-    """How a run ended: `exit`, `signal`, `limit` or `processes`, with the status or signal; what it took; what was
-    seen; and how many processes it left, where it ended by itself.
+    """How a run ended: `exit`, `signal`, `limit` or `processes`, with the status or signal; what it took; how many
+    texts of its plan were seen, and those that are kept; and how many processes it left, where it ended by itself.
     """
 
     ended: str
@@ -48,6 +50,7 @@ class Ran:
     peak: float = 0.0
     left: Optional[int] = None
     said: bytes = b""
+    plans: int = 0
     seen: list = field(default_factory=list)
 
 
@@ -113,7 +116,7 @@ class Watch:
         os.set_blocking(pipe, False)
         self.pipe, self.plan = pipe, plan
         self.head, self.tail = b"", b""
-        self.mark, self.seen, self.sum = None, [], None
+        self.mark, self.seen, self.sum, self.plans = None, [], None, 0
 
     def drain(self):
         """Reads what has been printed so far; answers whether there may be more at once."""
@@ -137,8 +140,11 @@ class Watch:
         if data:
             total = hashlib.sha256(data).digest()
             if total != self.sum:
-                self.sum = total
+                self.sum, self.plans = total, self.plans + 1
                 self.seen.append(Seen(seconds, data))
+                if sum(len(it.data) for it in self.seen) > MOST_SEEN:
+                    # (the first one and the last one stay)
+                    self.seen[1:-1] = self.seen[2:-1:2]
 
 
 def run(words, folder, plan, seconds, processes, is_wanted):
@@ -163,7 +169,8 @@ def run(words, folder, plan, seconds, processes, is_wanted):
     process.stdout.close()
     used = resource.getrusage(resource.RUSAGE_CHILDREN)
     ran.processor, ran.peak = used.ru_utime + used.ru_stime, used.ru_maxrss * 1024 / 1e6
-    ran.said, ran.seen = watch.head + (b"\n..\n" + watch.tail if watch.tail else b""), watch.seen
+    ran.plans, ran.seen = watch.plans, watch.seen
+    ran.said = watch.head + (b"\n..\n" + watch.tail if watch.tail else b"")
     return ran
 
 

@@ -8,6 +8,7 @@ import fcntl
 import hashlib
 import json
 import os
+import re
 import shutil
 import signal
 import socket
@@ -59,10 +60,8 @@ def judged(path, data):
 
 
 def filled(words, values):
-    """The words of a method with what its places stand for."""
-    for name, value in values.items():
-        words = [word.replace("{" + name + "}", str(value)) for word in words]
-    return words
+    """The words of a method with what its places stand for. What is put in isn't looked at again."""
+    return [re.sub(r"\{(\w+)\}", lambda found: str(values.get(found[1], found[0])), word) for word in words]
 
 
 def run_method(shared, task):
@@ -87,7 +86,7 @@ def run_method(shared, task):
         if found["state"] == "feasible":
             progress.append([round(seen.seconds, 3), found["score"]])
     record = {"ended": ran.ended, "status": ran.status, **judged(task["path"], data or b""), "progress": progress,
-              "plans": len(ran.seen), "left": ran.left, "seconds": round(ran.seconds, 3),
+              "plans": ran.plans, "left": ran.left, "seconds": round(ran.seconds, 3),
               "processor": round(ran.processor, 3), "peak_mb": round(ran.peak, 1),
               "said": ran.said.decode("utf-8", "replace")}
     return record, data or b""

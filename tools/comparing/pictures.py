@@ -20,8 +20,8 @@ def style(number):
 
 def plain(text):
     """A name as it is shown: cut, without characters that can't be drawn, and without the marks of formulas."""
-    text = "".join(it if it.isprintable() else "?" for it in text).replace("$", r"\$")
-    return text if len(text) <= 24 else text[:23] + "\u2026"
+    text = "".join(it if it.isprintable() else "?" for it in text)
+    return (text if len(text) <= 24 else text[:23] + "\u2026").replace("$", r"\$")
 
 
 def draw_profile(pyplot, rows, methods, path):

@@ -6,10 +6,14 @@ import re
 import statistics
 from fractions import Fraction
 
+from cells import plain_text
+
 ONE = 10 ** 18
 COLUMNS = ["instance", "method", "seed", "ended", "status", "state", "detail", "score", "cost", "bound", "gap_percent",
            "above_best_percent", "left_processes", "plan_sha256", "first_feasible_s", "plans", "seconds", "processor_s",
            "peak_mb", "host"]
+# The columns that are words, of files, methods and machines.
+WORDS = ["instance", "method", "ended", "state", "detail", "host"]
 # The columns that are measured, and so differ from run to run.
 MEASURED = ["first_feasible_s", "plans", "seconds", "processor_s", "peak_mb", "host"]
 
@@ -60,13 +64,18 @@ def rows_of(tasks, records):
                "peak_mb": record.get("peak_mb", ""), "host": record.get("host", ""), "progress": progress}
 
 
+def cell(column, it):
+    if column in WORDS:
+        return plain_text(it)
+    return shown(it) if isinstance(it, Fraction) else "" if it is None else it
+
+
 def csv_text(rows):
     out = io.StringIO()
     writer = csv.writer(out, lineterminator="\n")
     writer.writerow(COLUMNS)
     for row in rows:
-        writer.writerow([shown(it) if isinstance(it, Fraction) else "" if it is None else it
-                         for it in (row[name] for name in COLUMNS)])
+        writer.writerow([cell(name, row[name]) for name in COLUMNS])
     return out.getvalue()
 
 

@@ -17,8 +17,7 @@ run_own() {
     --unproved) run_unproved "${@:2}" ;;
     explain | view | plan)
         use_python "$1" "$1"
-        exec python3 "$top/tools/$1" "${@:2}"
-        fail 69 'python3 could not be started: install Python 3'
+        run_python "$@"
         ;;
     esac
 }

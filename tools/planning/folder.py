@@ -3,23 +3,25 @@
 It has `plan.txt` and `plan.cert`, the best plan and the certificate of the greatest bound so far, each of which `check`
 has accepted; `progress.tsv`, a line for each round; `state.json`, of which instance it is and how far it came; and
 `work`, in which the programs write. What lies there from a run that was ended at any place is looked at by the next.
+These files are regular ones, and `work` is a folder of this folder: links are refused, as whatever stands behind them
+isn't of this run.
 """
 import contextlib
 import fcntl
 import json
-import math
 import os
 import re
-import shutil
 from fractions import Fraction
 
 from planning.words import SLACK
-from whole_files import BESIDE, place_copy, put_whole, write_whole
+from whole_files import (BESIDE, NEW, is_folder, is_regular, open_regular, place_copy, put_whole, remove_any,
+                         write_whole)
 
 # Of the calls of each kind: how many there were, their seconds of a processor, and those in which they read.
 SUMS = ("calls", "processor_seconds", "reading_seconds")
 COLUMNS = "seconds\tscore\tbound\tgap_percent\trounds\tturns\tstep\n"
-OURS = ("plan.txt", "plan.cert", "progress.tsv", "work")
+STATE, WORK = "state.json", "work"
+OURS = ("plan.txt", "plan.cert", "progress.tsv", WORK)
 PART = re.compile(r"part-([0-9]{1,6})-of-([0-9]{1,6})\.cert")
 # The certificate that parts are of, in the work.
 COMMON = "common.cert"
@@ -27,6 +29,8 @@ COMMON = "common.cert"
 KEPT = "kept-"
 # More than this of the end of `progress.tsv` is no line.
 LONGEST_LINE = 4096
+# No number of a state is larger, of rounds as of seconds, and no text of one has more bytes.
+MOST, LONGEST_STATE = 10 ** 12, 1 << 20
 
 
 class Refused(Exception):
@@ -49,13 +53,22 @@ class Folder:
         except BlockingIOError:
             raise Busy from None
         self.plan, self.certificate = self.file("plan.txt"), self.file("plan.cert")
-        self.work = self.file("work")
+        self.work = self.file(WORK)
+        self.refuse_strange()
         self.state = self.read_state(instance_sum, slack or "0")
         self.clear_parts()
         os.makedirs(self.work, exist_ok=True)
 
     def file(self, *names):
         return os.path.join(self.path, *names)
+
+    def refuse_strange(self):
+        """Refuses what isn't of this folder alone, and what could be waited for: links, pipes and the like."""
+        for name in (*OURS, STATE):
+            path = self.file(name)
+            form, is_right = ("folder", is_folder) if name == WORK else ("regular file", is_regular)
+            if os.path.lexists(path) and not is_right(path):
+                raise Refused(f"{path} is no {form}: remove it, or name another folder")
 
     def read_state(self, instance_sum, slack):
         try:
@@ -66,7 +79,7 @@ class Folder:
                 raise Refused(f"{self.path} has a {found[0]} and no state.json, so it isn't known of which instance: "
                               f"name another folder") from None
             state = {"instance": instance_sum, "slack": slack, "seconds": 0.0, "rounds": 0, "turns": {}}
-            write_whole(self.file("state.json"), json.dumps(state))
+            write_whole(self.file(STATE), json.dumps(state))
         if state["instance"] != instance_sum:
             raise Refused(f"{self.path} is of another instance, or that was changed: name another folder")
         if not is_same_slack(state["slack"], slack):
@@ -76,11 +89,11 @@ class Folder:
     def clear_parts(self):
         """Removes what a run that was killed had begun to write beside its files."""
         for name in os.listdir(self.path):
-            if name.startswith(BESIDE):
+            if name.startswith(BESIDE) and is_regular(self.file(name)):
                 os.remove(self.file(name))
 
     def keep_state(self):
-        write_whole(self.file("state.json"), json.dumps(self.state))
+        write_whole(self.file(STATE), json.dumps(self.state))
 
     def take_plan(self, path):
         put_whole(path, self.plan)
@@ -104,9 +117,9 @@ class Folder:
 
     def left_over(self):
         """What an earlier run, or a queue of jobs, left in the work: files of plans, of certificates, and of parts of a
-        tree by (K, N).
+        tree by (K, N). Links aren't looked at.
         """
-        names = sorted(name for name in os.listdir(self.work) if os.path.isfile(os.path.join(self.work, name)))
+        names = sorted(name for name in os.listdir(self.work) if is_regular(os.path.join(self.work, name)))
         parts = {tuple(map(int, PART.fullmatch(name).groups())): os.path.join(self.work, name)
                  for name in names if PART.fullmatch(name)}
         with_ending = lambda ending: [os.path.join(self.work, name) for name in names
@@ -119,11 +132,9 @@ class Folder:
             path = os.path.join(self.work, name)
             if path in kept:
                 self.keep(path)
-            elif os.path.isdir(path) and not os.path.islink(path):
-                shutil.rmtree(path, ignore_errors=True)
             else:
                 with contextlib.suppress(OSError):
-                    os.remove(path)
+                    remove_any(path)
 
     def keep(self, path):
         if os.path.basename(path).startswith(KEPT):
@@ -136,7 +147,7 @@ class Folder:
     def note(self, row):
         """Adds a line to the progress; what was cut off of an earlier one goes."""
         path = self.file("progress.tsv")
-        number = os.open(path, os.O_RDWR | os.O_CREAT | os.O_CLOEXEC, 0o644)
+        number = os.open(path, os.O_RDWR | os.O_CREAT | os.O_NOFOLLOW | os.O_CLOEXEC, NEW)
         try:
             size = whole_size(number)
             os.ftruncate(number, size)
@@ -150,10 +161,10 @@ class Folder:
 
 def read_state(folder):
     """Of which instance and slack a folder is, and how far it came."""
-    path = os.path.join(folder, "state.json")
-    with open(path, encoding="utf-8") as file:
+    path = os.path.join(folder, STATE)
+    with open_regular(path, 0) as file:
         try:
-            state = json.load(file)
+            state = json.loads(file.read(LONGEST_STATE))
         except (ValueError, RecursionError):
             state = None
     if not is_state(state):
@@ -163,11 +174,12 @@ def read_state(folder):
 
 def is_state(state):
     """Whether a value of JSON is a state: earlier ones have no tree, no calls and no seconds of them."""
-    is_count = lambda it: type(it) is int and it >= 0
-    is_seconds = lambda it: type(it) in (int, float) and 0 <= it < math.inf
+    is_count = lambda it: type(it) is int and 0 <= it <= MOST
+    is_seconds = lambda it: type(it) in (int, float) and 0 <= it <= MOST
     has_values = lambda it, form: isinstance(it, dict) and all(map(form, it.values()))
     is_round = lambda it: isinstance(it, list) and len(it) == 2 and is_count(it[0]) and is_seconds(it[1])
-    is_tree = lambda it: isinstance(it, list) and list(map(type, it)) in ([], [int, int, bool])
+    is_tree = lambda it: it == [] or (isinstance(it, list) and list(map(type, it)) == [int, int, bool]
+                                      and all(map(is_count, it[:2])))
     return (isinstance(state, dict) and isinstance(state.get("instance"), str)
             and isinstance(state.get("slack"), str) and SLACK.fullmatch(state["slack"]) is not None
             and is_seconds(state.get("seconds")) and is_count(state.get("rounds"))

@@ -8,6 +8,8 @@ is the least of it: each leaf proves that, as it does where it comes from. docs/
 import re
 from dataclasses import dataclass
 
+from whole_files import open_regular
+
 HEADS = (b"mpcert 1", b"mpcert 2", b"mpcert 3")
 NEWEST = HEADS[-1]
 MOST_LISTS = 16
@@ -45,6 +47,8 @@ def read_certificate(path):
         raise Misfit(f"{path} has no tree") from None
     lists = []
     for line in lines[3:tree]:
+        if line == b"prices" and len(lists) == MOST_LISTS:
+            raise Misfit(f"{path} has more than {MOST_LISTS} price lists, which no certificate has")
         if line == b"prices":
             lists.append([])
         elif lists:
@@ -57,6 +61,16 @@ def read_certificate(path):
     if end_of(nodes, 0, path) != len(nodes):
         raise Misfit(f"{path} has lines behind its tree")
     return Certificate(path, lines[0], None if value == b"none" else int(value), lists, nodes)
+
+
+def claim_of(path):
+    """The bound that a certificate claims, by its first lines; None where that is `none`, or they aren't right."""
+    try:
+        with open_regular(path) as file:
+            found = re.match(rb"mpcert [123]\nbound (-?[0-9]{1,60})\n", file.read(100))
+    except OSError:
+        return None
+    return int(found[1]) if found else None
 
 
 def end_of(nodes, at, path):

@@ -18,10 +18,12 @@ import time
 from planning import reports
 from planning.afresh import CALLS, LONG_CALLS, Afresh, calls_of
 from planning.folder import COMMON, SUMS
+from planning.joining import claim_of
 from planning.pace import LEAST, MOST_TURNS, Pace, long_round_seconds, round_seconds
 from planning.reports import gap_of, gap_shown, is_accepted, says_no_plan, whole
 from planning.running import Task
 from planning.telling import BEAT, clock, standing
+from whole_files import is_regular, remove_any
 
 # The turns of `solve`, and how many times as many it gets where it found no plan; and those of the first rounds.
 SOLVE, MORE, FIRST_IMPROVE, FIRST_BOUND, LEAST_BOUND = 1000, 4, 200, 0, 100
@@ -49,12 +51,12 @@ REFUSED_PLAN, REFUSED_CERTIFICATE = ("infeasible\n", "refused plan "), "refused 
 
 
 def round_seconds_of(done):
-    """How long the calls of a round took, on the processor that took longest; those that failed may have ended early.
-    None where all did.
+    """How long the calls of a round took, on the processor that took longest; those that failed may have ended early,
+    and those that a machine kept too long were made anew by another one. None where no call is left.
     """
     sums = collections.Counter()
     for task in done:
-        if task.status in DONE:
+        if task.status in DONE and not task.details.get("is_late"):
             sums[task.details.get("processor", id(task))] += task.seconds
     return max(sums.values(), default=None)
 
@@ -134,6 +136,7 @@ class Run:
         self.reading, self.least_reading = 0.0, None
         # (how long it took to put parts of a tree together, and what waits for processors)
         self.joining, self.batches, self.paused, self.is_out_of_time = 0.0, {}, [], False
+        self.cut_off = []
         self.began, self.before = time.monotonic(), float(folder.state["seconds"])
         self.improving = Lane("improve", Pace(FIRST_IMPROVE, 1), 1, words.jobs)
         self.bounding = Lane("bound", Pace(FIRST_BOUND, LEAST_BOUND), 1, words.jobs)
@@ -209,25 +212,37 @@ class Run:
 
     # Driving the lanes.
 
-    def drive(self, *lanes):
-        """Goes on with the lanes until they end, or it is over."""
-        for lane in lanes:
-            self.advance(lane, None)
-        while self.batches and not self.is_over():
-            self.runner.start_waiting()
-            for task in self.runner.wait(min(BEAT, self.left())):
-                lane, batch = self.batches.pop(id(task))
-                self.count(task, task.kind)
-                if not any(id(it) in self.batches for it in batch):
-                    self.advance(lane, batch)
-                    paused, self.paused = self.paused, []
-                    for other in paused:
-                        self.advance(other, None)
-            self.show()
-        # (lanes that wait beside none that runs wait for time)
-        self.is_out_of_time = bool(self.paused) and not self.batches
+    def drive(self, *lanes, is_last=False):
+        """Goes on with the lanes until they end, or it is over; the last ones go on behind that, until a signal."""
+        try:
+            for lane in lanes:
+                self.advance(lane, None)
+            while self.batches and not (self.runner.signals if is_last else self.is_over()):
+                self.runner.start_waiting()
+                for task in self.runner.wait(BEAT if is_last else min(BEAT, self.left())):
+                    self.go_on_behind(task)
+                self.show()
+            # (lanes that wait beside none that runs wait for time)
+            self.is_out_of_time = bool(self.paused) and not self.batches
+        finally:
+            self.end_all_calls()
+
+    def go_on_behind(self, task):
+        """Goes on with the lane of a call that has ended, once all of its batch have, and with those that wait."""
+        lane, batch = self.batches.pop(id(task))
+        self.count(task, task.kind)
+        if not any(id(it) in self.batches for it in batch):
+            self.advance(lane, batch)
+            paused, self.paused = self.paused, []
+            for other in paused:
+                self.advance(other, None)
+
+    def end_all_calls(self):
+        """Ends the calls that run, and notes those of which machines may have sent something back."""
         for task in self.runner.stop():
             self.count(task, CUT_OFF if task.kind in STEPS else task.kind)
+            if "of" in task.details:
+                self.cut_off.append(task)
         self.batches.clear()
         self.paused.clear()
 
@@ -364,7 +379,7 @@ class Run:
             self.end_round("solve", SOLVE)
 
     def judge_standing(self):
-        plan, certificate = (it if os.path.exists(it) else None for it in (self.folder.plan, self.folder.certificate))
+        plan, certificate = (it if is_regular(it) else None for it in (self.folder.plan, self.folder.certificate))
         while plan or certificate:
             task = self.judge(plan, certificate)
             yield [task]
@@ -411,7 +426,7 @@ class Run:
     def take_left_parts(self, parts):
         """Joins the parts of a tree that were left; answers those that couldn't be judged."""
         unjudged, common = [], os.path.join(self.folder.work, COMMON)
-        if parts and os.path.exists(common):
+        if parts and is_regular(common):
             whole_ones = {}
             for (number, count), path in parts.items():
                 task = self.judge(None, path)
@@ -433,7 +448,7 @@ class Run:
     def take_solved(self, task):
         """Takes what `solve` made."""
         place = task.out[:-len(".plan")]
-        plan, certificate = (it if os.path.exists(it) else None for it in (f"{place}.plan", f"{place}.cert"))
+        plan, certificate = (it if is_regular(it) else None for it in (f"{place}.plan", f"{place}.cert"))
         if task.status in DONE:
             self.solving.took(task.seconds)
         if task.status not in DONE or not certificate:
@@ -532,9 +547,19 @@ class Run:
         """Has the calls of a round made here, or on the machines, and answers them."""
         if not self.machines or self.score is None:
             return (yield tasks)
-        batch = self.machines.batch(tasks, lane.slots, lane.pace.seconds or 0)
+        batch = self.machines.batch(tasks, lane.slots, lane.pace.expected() or 0)
         yield [batch]
         return self.machines.take(batch)
+
+    def take_cut_off(self):
+        """Takes the best plan of what the machines had sent back when they were ended, as the time was over, or a
+        signal came. Parts of a tree are left for the next run, as putting them together takes its time.
+        """
+        batches, self.cut_off = self.cut_off, []
+        for batch in batches:
+            made = [task for task in self.machines.take(batch) if task.kind == "improve" and task.status in DONE]
+            if (yield from self.take_plans(made)):
+                self.end_round("improve", sum(task.turns for task in made))
 
     def take_plans(self, done):
         """Takes the best plan of a round, which is that of the least score that `check` accepts; answers its call."""
@@ -633,25 +658,64 @@ class Run:
                            turns=lane.pace.turns)
 
     def join(self, common, parts, number):
-        """Puts parts together that were made of a common certificate, and takes what that comes to."""
+        """Puts parts together that were made of a common certificate, and takes what that comes to. Where that fails,
+        or proves less than what stands, the parts that aren't right are left out.
+        """
         if not parts:
             return False
-        joined, out = (os.path.join(self.folder.work, f"{name}-{number}.cert") for name in ("joined", "bound"))
+        joined = self.join_task(common, parts, f"joined-{number}")
+        yield [joined]
+        better = yield from self.claim(joined, number)
+        if self.is_worse(better):
+            right = yield from self.right_parts(common, parts, number)
+            if right and len(right) < len(parts):
+                count = f"{len(parts) - len(right)} of {len(parts)}"
+                self.teller.remark(f"{count} parts of the tree aren't right, and are left out")
+                joined = self.join_task(common, right, f"joined-{number}")
+                yield [joined]
+                better = yield from self.claim(joined, number)
+        self.tell_failures([better])
+        is_taken = yield from self.take_bound(better)
+        if better is not joined:
+            self.joining = joined.seconds + better.seconds + self.reading
+        return is_taken
+
+    def is_worse(self, better):
+        """Whether a claim of joined parts failed, or is less than what stands."""
+        bound = whole(better.said, "bound")
+        return better.status not in DONE or None not in (bound, self.bound) and bound < self.bound
+
+    def join_task(self, common, parts, name):
+        joined = os.path.join(self.folder.work, f"{name}.cert")
         words = [f"{one}/{count}={path}" for (one, count), path in parts.items()]
-        task = Task("join", [sys.executable, JOIN, common, joined, *words], out=joined)
-        yield [task]
-        self.tell_failures([task])
-        if task.status != 0:
-            return False
-        # (the leaves prove more than what the parts claim together)
-        better = self.refine("bound", self.plan() or "-", joined, out, 0, out=out)
+        return Task("join", [sys.executable, JOIN, common, joined, *words], out=joined)
+
+    def claim(self, joined, number):
+        """Has `bound` claim what the leaves of a joined certificate prove together, which is more than what the parts
+        claim; answers that call, or the join where it failed.
+        """
+        if joined.status != 0:
+            return joined
+        out = os.path.join(self.folder.work, f"bound-{number}.cert")
+        better = self.refine("bound", self.plan() or "-", joined.out, out, 0, out=out)
         better.kind = "claim"
         yield [better]
-        self.tell_failures([better])
-        self.remove([task])
-        is_taken = yield from self.take_bound(better)
-        self.joining = task.seconds + better.seconds + self.reading
-        return is_taken
+        self.remove([joined])
+        return better
+
+    def right_parts(self, common, parts, number):
+        """Those of the parts that `check` accepts with as much as the common certificate claims, and that fit into it.
+        """
+        judged = {key: self.judge(None, path) for key, path in parts.items()}
+        yield list(judged.values())
+        claim, claims = claim_of(common), {key: whole(task.said, "bound") for key, task in judged.items()}
+        joins = {key: self.join_task(common, {key: parts[key]}, f"joined-{number}-{key[0]}")
+                 for key, task in judged.items()
+                 if is_accepted(task) and (None in (claim, claims[key]) or claims[key] >= claim)}
+        if joins:
+            yield list(joins.values())
+        self.remove(joins.values())
+        return {key: parts[key] for key, task in joins.items() if task.status == 0}
 
     def take_bound(self, task):
         is_taken = False
@@ -720,5 +784,5 @@ class Run:
     def remove(self, tasks):
         for task in tasks:
             for path in [task.out, *task.details.get("others", ())]:
-                if path and os.path.exists(path):
-                    os.remove(path)
+                if path:
+                    remove_any(path)

@@ -14,13 +14,14 @@ import time
 from dataclasses import dataclass, field
 from typing import Optional
 
-from processes import end_all, ended_with_this, take_orphans
+from processes import SIGNALS, end_all, ended_with_this, take_orphans
 
-SIGNALS = (signal.SIGINT, signal.SIGTERM, signal.SIGHUP)
 # How much of what a program says is kept.
 LONGEST_SAID = 1 << 20
 # The status of what couldn't be started, as a shell has it.
 NOT_STARTED = 127
+# How many files this script has open beside a pipe for each program that runs.
+OTHER_FILES = 24
 
 
 @dataclass
@@ -41,6 +42,20 @@ class Task:
     slots: int = 1
     line: Optional[tuple] = None
     details: dict = field(default_factory=dict)
+
+
+def most_jobs(wanted):
+    """How many of so many programs can run at a time, by how many files may be open, which is raised as far as that is
+    allowed; at least one.
+    """
+    soft, hard = resource.getrlimit(resource.RLIMIT_NOFILE)
+    needed = wanted + OTHER_FILES
+    if soft != resource.RLIM_INFINITY and soft < needed:
+        soft = needed if hard == resource.RLIM_INFINITY else min(needed, hard)
+        with contextlib.suppress(OSError, ValueError):
+            resource.setrlimit(resource.RLIMIT_NOFILE, (soft, hard))
+        wanted = min(wanted, resource.getrlimit(resource.RLIMIT_NOFILE)[0] - OTHER_FILES)
+    return max(1, wanted)
 
 
 class Runner:

@@ -1,6 +1,7 @@
 """Tells people how it goes, on standard error: on a terminal in one line that is rewritten, and else a line a round.
 
-Where nobody reads that any more, the planning goes on.
+Where nobody reads that any more, the planning goes on. What programs and machines say may hold anything, so nothing but
+what is printed reaches the terminal.
 """
 import contextlib
 import os
@@ -27,7 +28,7 @@ class Teller:
     def remark(self, text):
         """Says something that stays."""
         self.clear()
-        self.put(f"plan: {text}\n")
+        self.put(f"plan: {printable(text)}\n")
 
     def clear(self):
         if self.shown:
@@ -37,13 +38,18 @@ class Teller:
     def rewrite(self, text):
         """Shows a line in the place of the one before it."""
         if self.is_terminal:
-            self.put("\r\033[K" + text[:self.width() - 1])
+            self.put("\r\033[K" + printable(text)[:self.width() - 1])
             self.shown = True
 
     def width(self):
         with contextlib.suppress(OSError):
             return os.get_terminal_size(2).columns or WIDTH
         return WIDTH
+
+
+def printable(text):
+    """A text in which each character that isn't printed, as of an escape sequence, stands as Python writes it."""
+    return "".join(it if it.isprintable() else it.encode("unicode_escape").decode() for it in text)
 
 
 def standing(score, bound, gap, periods):

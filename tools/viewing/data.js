@@ -129,6 +129,12 @@ D.exclusions.forEach(([title, one, other, season], place) => {
 const runText = (it) => it.start === null ? "no start"
   : it.duration === 0 ? `${it.start}, for no period` : it.duration === 1 ? `${it.start}`
     : `${it.start}\u2013${it.last}`;
+// The first period of a bar, and how many it has. A start that isn't allowed, and a run from it, are drawn to the ends
+// of the year at most.
+function barOf(it) {
+  const from = Math.min(Math.max(it.start, 1), T);
+  return [from, Math.min(it.duration, T + 1 - from)];
+}
 const inProgress = (t) => NOW.works.filter((it) => it.start !== null && it.start <= t && t <= it.last);
 const moved = !WAS ? [] : NOW.works.filter((it) => it.start !== WAS.works[it.place].start);
 

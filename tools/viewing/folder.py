@@ -8,6 +8,7 @@ import tempfile
 from dataclasses import dataclass
 
 from planning.folder import Refused, is_same_slack, read_state
+from processes import undisturbed
 from whole_files import sum_of
 
 STATE, PLAN = "state.json", "plan.txt"
@@ -43,8 +44,15 @@ def files_of(folder, instance, slack):
 
 @contextlib.contextmanager
 def copies(paths):
-    """Copies of files, by their names, which stay as they are, whatever takes the place of the files."""
-    with tempfile.TemporaryDirectory(prefix="view-") as room:
+    """Copies of files, by their names, which stay as they are, whatever takes the place of the files. Their folder is
+    removed at the end, also by a signal that ends the script.
+    """
+    with undisturbed():
+        room = tempfile.TemporaryDirectory(prefix="view-")
+    try:
         for name, path in paths.items():
-            shutil.copyfile(path, os.path.join(room, name))
-        yield {name: os.path.join(room, name) for name in paths}
+            shutil.copyfile(path, os.path.join(room.name, name))
+        yield {name: os.path.join(room.name, name) for name in paths}
+    finally:
+        with undisturbed():
+            room.cleanup()

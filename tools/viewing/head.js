@@ -30,7 +30,8 @@ function figures() {
     if (now === null) continue;
     const ends = given ? `at least ${report[key + "_low"]}, at most ${report[key + "_high"]}` : "";
     const by = was === null ? null : signed(now - was) + (key === "cost" ? partOf(now - was, was) : "");
-    found.push({ label, value: shown(now), note: by === null ? note : `${by} against ${shown(was)}`,
+    found.push({ label, value: shown(now), note: by !== null ? `${by} against ${shown(was)}`
+      : OTHER ? "not compared: in the other plan a start is missing, or isn\u2019t allowed" : note,
       hint: [key === "cost" ? COST_MADE : "", ends].filter(Boolean).join("; ") });
   }
   if (D.check) {
@@ -77,13 +78,15 @@ const RULES = {
       `), and do in period ${rule.period}`];
   },
 };
+// The parts of a text in which each name is a list of its own.
+const parted = (parts) => parts.map((it) => Array.isArray(it) ? name(it[0]) : it);
 function drawBroken() {
   const { rule } = PLAN.report;
   const box = at("broken");
   box.hidden = false;
   put(box, el("h2", {}, RULES[rule.rule](rule)),
-    el("p", {}, `${rule.rule}, the first broken rule: `, PLAN.explained.meaning),
-    el("p", {}, "To change: ", PLAN.explained.change),
+    el("p", {}, `${rule.rule}, the first broken rule: `, parted(PLAN.explained.meaning)),
+    el("p", {}, "To change: ", parted(PLAN.explained.change)),
     el("div", { class: "do" },
       el("button", { class: "button", type: "button", id: "show-rule", on: { click: showRule } }, "Show it"),
       NOW.table ? el("button", { class: "button", type: "button", id: "all-broken",

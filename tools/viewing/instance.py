@@ -6,15 +6,13 @@ loads and exclusions is held to the program's report on the plan by `held_to`, s
 import json
 import re
 from collections import namedtuple
-from decimal import ROUND_HALF_UP, Context, Decimal
+from fractions import Fraction
 
+from decimals import counts, whole
 from explaining.json_text import Broken, Json
 from explaining.text import Text
 
 COUNTS = 10 ** 12
-COUNT = Decimal(1).scaleb(-12)
-# What no number of an instance goes past: 10^8 in size, and 12 decimals.
-EXACT = Context(prec=60, rounding=ROUND_HALF_UP)
 LINE = re.compile(rb"([^ ]+) +([0-9]{1,9}) *\r?")
 
 # An exclusion is a name, the places of two works, and that of a season.
@@ -32,7 +30,8 @@ class Instance:
         text = Text(path)
         self.json = Json(text.data)
         root = self.members(self.json.past_blanks(0))
-        self.alpha, self.quantile = (self.json.value(root[key]).decode() for key in ("Alpha", "Quantile"))
+        self.alpha, self.quantile = (Fraction(counts(self.json.value(root[key]).decode()), COUNTS)
+                                     for key in ("Alpha", "Quantile"))
         self.resources = list(self.members(root["Resources"]))
         self.seasons = {name: sorted(set(map(whole, self.parsed(at))))
                         for name, at in self.members(root["Seasons"]).items()}
@@ -78,15 +77,6 @@ class Instance:
             if any(row):
                 found[self.resources.index(resource)] = row
         return found
-
-
-def whole(number):
-    return int(EXACT.to_integral_value(EXACT.create_decimal(number)))
-
-
-def counts(number):
-    """A number as the nearest count of 10^-12, halves away from 0."""
-    return int(EXACT.quantize(EXACT.create_decimal(number), COUNT).scaleb(12, EXACT))
 
 
 def read_instance(path):

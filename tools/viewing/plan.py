@@ -7,6 +7,8 @@ from explaining.page import Page
 from table_text import shown
 from viewing.instance import COUNTS, Unheld, held_to, read_starts
 
+# The words of a broken rule that stand for names.
+NAMES = ("NAME", "RESOURCE", "EXCLUSION")
 FORMATS = os.path.join(os.path.dirname(os.path.dirname(os.path.dirname(os.path.abspath(__file__)))), "docs",
                        "FORMATS.md")
 
@@ -79,9 +81,24 @@ def explained(rule):
 
 
 def filled(text, values):
-    """A text of the page without its marks, and with values in the place of the words that stand for them."""
+    """The parts of a text of the page without its marks, with values in the place of the words that stand for them. A
+    name is a list of its own, so that the page can keep its direction of writing apart.
+    """
     text = re.sub(r"[`*]", "", text)
-    return re.sub(r"(in |past )?\b([A-Z]+)\b", lambda found: (found[1] or "") + said(found, values), text)
+    parts, end = [], 0
+    for found in re.finditer(r"(in |past )?\b([A-Z]+)\b", text):
+        if found[2] in NAMES and found[2] in values:
+            parts += [text[end:found.start(2)], [values[found[2]]]]
+        else:
+            parts.append(text[end:found.start(2)] + said(found, values))
+        end = found.end()
+    joined = []
+    for part in [*parts, text[end:]]:
+        if joined and isinstance(part, str) and isinstance(joined[-1], str):
+            joined[-1] += part
+        elif part:
+            joined.append(part)
+    return joined
 
 
 def said(found, values):

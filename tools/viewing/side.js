@@ -259,7 +259,14 @@ function changes() {
         n(signed(BigInt(now - before) * UNIT), better(now - before))]);
     }
   }
-  parts.push(el("h3", {}, "What it did"), tableOf(["", n("Before"), n("Now"), n("Difference")], lines));
+  parts.push(el("h3", {}, "What it did"));
+  for (const [plan, it] of [[OTHER, WAS], [PLAN, NOW]]) {
+    if (!it.table) {
+      parts.push(el("p", { class: "hint-text unsaid" }, "Cost, risk and loads can\u2019t be compared: in ",
+        name(plan.name), " a start is missing, or isn\u2019t allowed."));
+    }
+  }
+  if (lines.length) parts.push(tableOf(["", n("Before"), n("Now"), n("Difference")], lines));
   const order = [...moved].sort((one, other) => far(other) - far(one) || byText(one.title, other.title));
   parts.push(el("h3", {}, `Moved works (${moved.length})`), moved.length
     ? tableOf(["Work", n("Start before"), n("Start now"), "Change"], order.map((it) =>

@@ -73,9 +73,10 @@ function drawPaper() {
     axis(9));
   [...NOW.works].sort(byStart).forEach((it, place) => {
     const y = 16 + each * place;
+    const [from, size] = barOf(it);
     if (it.start !== null) put(works,
-      svg("rect", { class: NOW.clashing && NOW.clashing.has(it.place) ? "outside" : "share", x: left + x(it.start), y,
-      width: Math.max(1.5, step * it.duration - 0.6), height: Math.max(0.4, each - (each > 2 ? 1 : 0.15)) }));
+      svg("rect", { class: NOW.clashing && NOW.clashing.has(it.place) ? "outside" : "share", x: left + x(from), y,
+      width: Math.max(1.5, step * size - 0.6), height: Math.max(0.4, each - (each > 2 ? 1 : 0.15)) }));
     if (each >= 7) put(works, svg("text", { x: left - 6, y: y + each - 2.5, "text-anchor": "end" }, cut(it.title, 22)));
   });
   if (each < 7) put(works, svg("text", { x: 0, y: 24 }, `${NOW.works.length} works, by start`));

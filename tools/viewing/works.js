@@ -39,10 +39,12 @@ function drawWorks() {
   const most = NOW.works.reduce((best, it) => it.brought > best ? it.brought : best, 0n);
   for (const it of NOW.works) {
     const before = WAS && WAS.works[it.place];
-    const bar = it.start === null ? null
-      : el("i", { class: it.duration ? null : "none", vars: { "--s": it.start - 1, "--d": Math.max(it.duration, 0) } });
-    const ghost = before && before.start !== null && before.start !== it.start
-      ? el("i", { class: "was", vars: { "--s": before.start - 1, "--d": before.duration } }) : null;
+    const drawn = (one, style) => {
+      const [from, size] = barOf(one);
+      return el("i", { class: style, vars: { "--s": from - 1, "--d": size } });
+    };
+    const bar = it.start === null ? null : drawn(it, it.duration ? null : "none");
+    const ghost = before && before.start !== null && before.start !== it.start ? drawn(before, "was") : null;
     const share = most > 0n ? Math.max(0, float(it.brought) / float(most)) : 0;
     rows[it.place] = el("div",
       { class: "work", role: "option", tabindex: "-1", id: "work-" + it.place, "aria-selected": "false" },
@@ -137,7 +139,10 @@ function drawMap() {
   at("map").parentNode.hidden = D.works.length < FEW;
   const each = MAP_HEIGHT / Math.max(listed.length, 1);
   const lines = { was: "", bar: "", clash: "", own: "" };
-  const line = (it, y) => `M${x(it.start).toFixed(1)},${y}h${Math.max(1, it.duration * step).toFixed(1)}`;
+  const line = (it, y) => {
+    const [from, size] = barOf(it);
+    return `M${x(from).toFixed(1)},${y}h${Math.max(1, size * step).toFixed(1)}`;
+  };
   listed.forEach((it, place) => {
     const y = ((place + 0.5) * each).toFixed(2);
     const before = WAS && WAS.works[it.place];

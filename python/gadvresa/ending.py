@@ -1,0 +1,79 @@
+"""How a call ends where a signal ends this process: its program first, and its folder with it.
+
+SIGTERM and SIGHUP end a process at once, which would leave both behind. While the main thread makes a call they are
+noted, and end the process once the call has tidied up. A handler of the caller's own stays in force, and so does a
+signal that is ignored. Other threads can't do that, as a handler runs in the main thread alone.
+"""
+from __future__ import annotations
+
+import contextlib
+import os
+import signal
+import subprocess
+import tempfile
+import threading
+from typing import Iterator, List, Optional
+
+SIGNALS = (signal.SIGTERM, signal.SIGHUP)
+_came: List[int] = []
+_running: "List[subprocess.Popen[bytes]]" = []
+
+
+class Ended(BaseException):
+    """A signal came that ends this process, once the call has tidied up."""
+
+
+def in_main() -> bool:
+    return threading.current_thread() is threading.main_thread()
+
+
+@contextlib.contextmanager
+def tidied() -> Iterator[None]:
+    """Has signals that end this process wait until what is done here is left. It can be within another one."""
+    taken = [number for number in SIGNALS if in_main() and signal.getsignal(number) is signal.SIG_DFL]
+    for number in taken:
+        signal.signal(number, _note)
+    try:
+        yield
+    finally:
+        for number in taken:
+            signal.signal(number, signal.SIG_DFL)
+        if taken and _came:
+            number = _came[0]
+            _came.clear()
+            os.kill(os.getpid(), number)
+
+
+@contextlib.contextmanager
+def room(prefix: str = "gadvresa-", beside: Optional[str] = None) -> Iterator[str]:
+    """A folder for the files of a call, which is gone behind it; in the folder `beside`, or where such folders are."""
+    with tidied(), tempfile.TemporaryDirectory(prefix=prefix, dir=beside) as folder:
+        yield folder
+
+
+@contextlib.contextmanager
+def ended(process: "subprocess.Popen[bytes]") -> Iterator[None]:
+    """While this is waited for, a signal that ends this process ends the program of a call, which raises Ended then."""
+    if not in_main():
+        yield
+        return
+    _running.append(process)
+    try:
+        if _came:
+            process.kill()
+        yield
+    finally:
+        _running.remove(process)
+    look()
+
+
+def look() -> None:
+    """Raises Ended where a signal has come in a call of the main thread."""
+    if _came and in_main():
+        raise Ended(_came[0])
+
+
+def _note(number: int, _: object) -> None:
+    _came.append(number)
+    for process in _running:
+        process.kill()
