@@ -136,7 +136,7 @@ fn drawn_tables(alloc: Global, most: usize) -> Result<Vec<u8>, AllocError>
 {
     let text = generate(alloc, 7, 40)?;
     let mut desk = MemDesk::make(alloc);
-    desk.put_file("I", text.as_slice())?;
+    desk.put_file("I", text.as_str().as_bytes())?;
     desk.put_file("P", b"")?;
     desk.read_by(most);
     roll(alloc, 1, 2_147_483_647, &mut desk);
