@@ -379,7 +379,7 @@ def call_elsewhere(text, tmp_path, more=()):
     """A process of Python that runs a text, with a folder of its own for all that is made for a while."""
     rooms = tmp_path / "rooms"
     rooms.mkdir()
-    variables = {**os.environ, "GADVRESA_PROGRAMS": str(tmp_path), "TMPDIR": str(rooms), "PYTHONPATH": "python"}
+    variables = {**os.environ, "GADVRESA_PROGRAMS": str(tmp_path), "TMPDIR": str(rooms), "PYTHONPATH": "python/src"}
     process = subprocess.Popen([*more, sys.executable, "-c", text], env=variables, stderr=subprocess.PIPE,
                                start_new_session=True)
     return process, rooms

@@ -19,7 +19,8 @@ import time
 
 sys.dont_write_bytecode = True
 HERE = os.path.dirname(os.path.abspath(__file__))
-sys.path[:0] = [os.path.join(HERE, ".."), os.path.join(HERE, "..", "..", "python")]
+sys.path.insert(0, os.path.join(HERE, ".."))
+import package_path
 import gadvresa
 from comparing import guarded
 from comparing.tasks import place, record_of

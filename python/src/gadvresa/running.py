@@ -109,7 +109,7 @@ def folder_of(program: str) -> Optional[str]:
 
 def clone() -> Optional[str]:
     """The clone that this package stands in, if it does."""
-    top = os.path.dirname(os.path.dirname(os.path.dirname(os.path.realpath(__file__))))
+    top = os.path.realpath(os.path.join(os.path.dirname(os.path.realpath(__file__)), "..", "..", ".."))
     needed = ("crates.txt", "planner", "tools/planner_build")
     return top if all(os.path.isfile(os.path.join(top, it)) for it in needed) else None
 

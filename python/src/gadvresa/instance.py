@@ -239,4 +239,3 @@ def _list(value: Any) -> List[Any]:
     if not isinstance(value, list):
         raise TypeError(f"{value!r:.200} is no list")
     return value
-

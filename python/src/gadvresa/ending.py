@@ -39,9 +39,9 @@ def tidied() -> Iterator[None]:
         for number in taken:
             signal.signal(number, signal.SIG_DFL)
         if taken and _came:
-            number = _came[0]
+            first = _came[0]
             _came.clear()
-            os.kill(os.getpid(), number)
+            os.kill(os.getpid(), first)
 
 
 @contextlib.contextmanager

@@ -1,0 +1,11 @@
+"""Has a script find the package for Python once it imports this module.
+
+In a clone and in the Debian package the sources of `gadvresa` are in python/src, beside the folder of this file. They
+come before any other `gadvresa` that is installed. A script that stands elsewhere takes the installed one.
+"""
+import os
+import sys
+
+SOURCES = os.path.join(os.path.dirname(os.path.dirname(os.path.realpath(__file__))), "python", "src")
+if os.path.isdir(os.path.join(SOURCES, "gadvresa")) and SOURCES not in sys.path:
+    sys.path.insert(0, SOURCES)
