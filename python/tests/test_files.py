@@ -1,6 +1,7 @@
 """Plans, names that are hostile to texts, and instances as they are read."""
 import json
 import os
+import pickle
 from fractions import Fraction
 
 import gadvresa
@@ -125,6 +126,47 @@ def test_an_instance_in_the_forms_of_the_challenge():
         work.run(3)
     with pytest.raises(ValueError):
         work.risks(3, 1)
+
+
+def test_the_loads_of_one_run():
+    instance = Instance.read("examples/challenge/instance.json")
+    for work in instance.interventions.values():
+        for start in work.starts:
+            rows = {name: tuple(work.load(name, t, start) for t in work.run(start)) for name in instance.resources}
+            assert work.run_loads(start) == {name: row for name, row in rows.items() if any(row)}
+    with pytest.raises(ValueError):
+        work.run_loads(9)
+
+
+def test_a_season_may_list_periods_past_the_year(tmp_path):
+    path = tmp_path / "file"
+    path.write_text('{"T": 3, "Seasons": {"late": [9, 2, 2, "1e0"], "none": []}}')
+    instance = Instance.read(path)
+    assert instance.listed_seasons == {"late": (1, 2, 9), "none": ()}
+    assert instance.seasons == {"late": {1, 2}, "none": frozenset()}
+
+
+def test_only_what_is_asked_for_is_made(tmp_path, monkeypatch):
+    made, loads = [], json.loads
+    monkeypatch.setattr(json, "loads", lambda text, **how: made.append(text) or loads(text, **how))
+    instance = Instance.read("examples/challenge/instance.json")
+    assert instance.periods == 3 and list(instance.interventions)
+    assert not any("risk" in text or "workload" in text for text in made if len(text) > 20)
+    broken = tmp_path / "file"
+    broken.write_text('{"T": 3, "Alpha": 0.5, "Interventions": {"a": {"tmax": oops}}}')
+    assert Instance.read(broken).periods == 3
+    with pytest.raises(gadvresa.Unreadable):
+        print(Instance.read(broken).interventions)
+
+
+def test_mapped_and_sent_instances():
+    instance, mapped = (how("examples/challenge/instance.json") for how in (Instance.read, Instance.mapped))
+    assert instance.interventions == mapped.interventions and instance.resources == mapped.resources
+    for each in (instance, mapped):
+        copy = pickle.loads(pickle.dumps(each))
+        assert copy.interventions == each.interventions and copy.path == each.path
+        work = pickle.loads(pickle.dumps(each.interventions["I1"]))
+        assert work.risks(1, 1) == (4, 8, 3) and work.run_loads(1) == each.interventions["I1"].run_loads(1)
 
 
 @pytest.mark.parametrize("text, kept", [

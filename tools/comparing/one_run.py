@@ -20,7 +20,7 @@ import time
 sys.dont_write_bytecode = True
 HERE = os.path.dirname(os.path.abspath(__file__))
 sys.path.insert(0, os.path.join(HERE, ".."))
-import package_path
+import package_path  # noqa: F401
 import gadvresa
 from comparing import guarded
 from comparing.tasks import place, record_of

@@ -1,8 +1,7 @@
 """The bytes of a file as lines: what a place in them is called, and what stands around it."""
-import mmap
-import os
-import stat
 import unicodedata
+
+from gadvresa.model.json_text import mapped
 
 PIECE = 1 << 20
 CONTINUATIONS = bytes(range(0x80, 0xC0))
@@ -23,13 +22,7 @@ class Text:
     """A file's bytes, without a copy where the file can be mapped."""
 
     def __init__(self, name):
-        self.name = name
-        with open(name, "rb") as file:
-            status = os.fstat(file.fileno())
-            if stat.S_ISREG(status.st_mode) and status.st_size > 0:
-                self.data = mmap.mmap(file.fileno(), 0, access=mmap.ACCESS_READ)
-            else:
-                self.data = file.read()
+        self.name, self.data = name, mapped(name)
 
     def __len__(self):
         return len(self.data)

@@ -1,18 +1,16 @@
-"""Reads of an instance what no report says: its names, seasons and exclusions, `Alpha`, and the loads of single works.
+"""What the page shows of an instance that no report says: its names, seasons and exclusions, `Alpha`, and the loads of
+single works.
 
-Risks are passed over. The program has taken the file before, so it is taken to have no fault; what is read here of
-loads and exclusions is held to the program's report on the plan by `held_to`, so nothing else of it is trusted.
+`gadvresa.model` reads the file, and passes over the risks. The program has taken the file before, so it is taken to
+have no fault. `held_to` compares the loads and exclusions with the program's report on the plan, so nothing else of
+them is trusted.
 """
-import json
 import re
 from collections import namedtuple
-from fractions import Fraction
 
-from decimals import counts, whole
-from explaining.json_text import Broken, Json
-from explaining.text import Text
+import gadvresa.model
+from gadvresa.model import COUNTS, Unreadable
 
-COUNTS = 10 ** 12
 LINE = re.compile(rb"([^ ]+) +([0-9]{1,9}) *\r?")
 
 # An exclusion is a name, the places of two works, and that of a season.
@@ -27,64 +25,49 @@ class Instance:
     """The names and tables of a file. Periods and starts count from 1, places of names from 0."""
 
     def __init__(self, path):
-        text = Text(path)
-        self.json = Json(text.data)
-        root = self.members(self.json.past_blanks(0))
-        self.alpha, self.quantile = (Fraction(counts(self.json.value(root[key]).decode()), COUNTS)
-                                     for key in ("Alpha", "Quantile"))
-        self.resources = list(self.members(root["Resources"]))
-        self.seasons = {name: sorted(set(map(whole, self.parsed(at))))
-                        for name, at in self.members(root["Seasons"]).items()}
-        self.entries = {name: self.members(at) for name, at in self.members(root["Interventions"]).items()}
-        self.works = list(self.entries)
+        self.path, model = path, gadvresa.model.Instance.mapped(path)
+        self.alpha, self.quantile, self.periods = model.alpha, model.quantile, model.periods
+        self.resources = list(model.resources)
+        self.seasons = {name: list(periods) for name, periods in model.listed_seasons.items()}
+        self.interventions = model.interventions
+        self.works = list(self.interventions)
         places = {name: place for place, name in enumerate(self.works)}
         seasons = {name: place for place, name in enumerate(self.seasons)}
-        named = {name: self.parsed(at) for name, at in self.members(root["Exclusions"]).items()}
-        self.exclusions = [Exclusion(name, places[one], places[other], seasons[season])
-                           for name, (one, other, season) in named.items()]
-        self.periods = whole(self.parsed(root["T"]))
-
-    def members(self, at):
-        return {key.decode("utf-8", "replace"): value for _, key, value in self.json.members(at)}
-
-    def parsed(self, at):
-        """The value at a place, with its numbers as they are written."""
-        return json.loads(self.json.value(at).decode("utf-8"), parse_float=str, parse_int=str)
+        self.exclusions = [Exclusion(it.name, places[it.one], places[it.other], seasons[it.season])
+                           for it in model.exclusions.values()]
 
     def duration(self, work, start):
         """How many periods a work takes from a start, or None where it has no such start."""
-        last = whole(self.parsed(self.entries[work]["tmax"]))
-        return whole(self.parsed(self.entries[work]["Delta"])[start - 1]) if 1 <= start <= last else None
+        it = self.interventions[work]
+        return it.durations[start - 1] if 1 <= start <= it.last_start else None
 
     def durations(self, work):
         """The least and the most periods that a work takes from a start that is allowed, or None without one."""
-        entry = self.entries[work]
-        taken = enumerate(map(whole, self.parsed(entry["Delta"])[:whole(self.parsed(entry["tmax"]))]), 1)
-        allowed = [duration for start, duration in taken if start + duration <= self.periods + 1]
+        it = self.interventions[work]
+        allowed = [it.durations[start - 1] for start in it.starts]
         return [min(allowed), max(allowed)] if allowed else None
 
     def loads(self, work, start, duration):
         """The loads of a run other than 0: by place of the resource, a count of 10^-12 for each day."""
-        found = {}
-        for resource, by_period in self.parsed(self.entries[work]["workload"]).items():
-            row = [0] * duration
-            for period, by_start in by_period.items():
-                day = int(period) - start
-                if 0 <= day < duration:
-                    for begun, load in by_start.items():
-                        if int(begun) == start:
-                            row[day] = counts(load)
-            if any(row):
-                found[self.resources.index(resource)] = row
-        return found
+        try:
+            found = self.interventions[work].run_loads(start)
+            rows = {self.resources.index(name): [int(load * COUNTS) for load in row] for name, row in found.items()}
+        except ValueError:
+            raise changed(self.path) from None
+        # (the program says how long the run is)
+        return {place: (row + [0] * duration)[:duration] for place, row in rows.items()}
+
+
+def changed(path):
+    return Unheld(f"{path} can't be read as the program read it: was it changed meanwhile?")
 
 
 def read_instance(path):
     """The instance of a file, or `Unheld` where it can't be read as one."""
     try:
         return Instance(path)
-    except (Broken, ArithmeticError, LookupError, TypeError, ValueError, AttributeError):
-        raise Unheld(f"{path} can't be read as the program read it: was it changed meanwhile?") from None
+    except (Unreadable, LookupError):
+        raise changed(path) from None
 
 
 def read_starts(instance, path):

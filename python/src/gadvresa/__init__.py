@@ -20,9 +20,9 @@ from .commands import (audit, bound, check, evaluate, improve, rebound, repair, 
 from .errors import (BrokenRule, Cancelled, CertificateRefused, GadvresaError, InstanceRefused, OutOfMemory, Place,
                      PlanRefused, ProgramFailed, ProgramMissing, Refused, ScriptRefused, TimedOut, TooLong, Unread,
                      Unwritten, WordsRefused)
-from .exact import Range
+from .model.exact import Range
 from .files import UNDO, Certificate, Plan, move, swap
-from .instance import Band, Exclusion, Instance, Intervention, Unreadable
+from .model.instance import Band, Exclusion, Instance, Intervention, Unreadable
 from .running import Called, Program, programs, use
 
 __version__ = "0.1.0"

@@ -12,9 +12,9 @@ from dataclasses import dataclass, field
 from fractions import Fraction
 from typing import Any, Dict, List, Optional, Tuple
 
-from .exact import SCORES, Range, shown
+from .model.exact import SCORES, Range, shown
 from .files import Certificate, Plan
-from .instance import Instance
+from .model.instance import Instance
 from .running import Called
 
 

@@ -28,10 +28,10 @@ from . import errors
 from .answers import (Audited, Bounded, Checked, Improved, Judged, Outcome, Rebound, Repaired, Replayed, Rolled, Solved,
                       Table)
 from .ending import room
-from .exact import Slack, decimal_of, slack_word, whole_of
+from .model.exact import Slack, decimal_of, slack_word, whole_of
 from .explaining import Source
 from .files import Certificate, Plan, is_refined, permissions, script_data
-from .instance import Instance
+from .model.instance import Instance
 from .running import Called, NotFound, Path, Stopped, find, run, signal_name
 from .reports import Garbled, Report, broken_rule, costs, count_of, keys_of, or_none, period_of, refusal
 

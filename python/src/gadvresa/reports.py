@@ -5,7 +5,7 @@ from fractions import Fraction
 from typing import Any, Callable, Dict, List, Optional, Tuple
 
 from .answers import Key, Load, Period, Rule, Run
-from .exact import COUNTS, Range, decimal_of, whole_of
+from .model.exact import COUNTS, Range, decimal_of, whole_of
 
 
 class Garbled(Exception):

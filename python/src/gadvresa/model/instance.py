@@ -1,24 +1,25 @@
 """An instance as a method for planning sees it: names, numbers of periods and scenarios, and exact tables.
 
-The file is read when something of it is asked for, and no judgement is made here: what is wrong with it the programs
-say. Numbers are those that the programs keep: the file's, rounded to 12 decimals. Calls hand its path on to them, so
-that an instance needs to be read only by who looks into it.
+The file is read when something of it is asked for. A walk over its text finds where each value begins, and a value is
+made when it is asked for, so the risks of a large file take memory only for the interventions that are looked into.
+This reader makes no judgement: what is wrong with a file the programs say. Numbers are those that the programs keep:
+the file's, rounded to 12 decimals. Calls hand its path on to the programs.
 """
 from __future__ import annotations
 
-import json
 import os
 from dataclasses import dataclass, field
 from fractions import Fraction
 from functools import cached_property
 from typing import Any, Callable, Dict, FrozenSet, List, Mapping, Tuple, TypeVar
 
+from ..running import Path
 from .exact import kept, kept_whole
-from .running import Path
+from .json_text import Broken, Data, Value, mapped
 
 Made = TypeVar("Made")
 # What comes of a value that isn't what an instance has in its place.
-UNFIT = (ArithmeticError, AttributeError, KeyError, TypeError, ValueError)
+UNFIT = (ArithmeticError, AttributeError, Broken, KeyError, RecursionError, TypeError, ValueError)
 
 
 class Unreadable(ValueError):
@@ -52,8 +53,8 @@ class Intervention:
     last_start: int
     durations: Tuple[int, ...]
     periods: int = field(repr=False)
-    _workload: Mapping[str, Any] = field(repr=False, compare=False)
-    _risk: Mapping[str, Any] = field(repr=False, compare=False)
+    _workload: Value = field(repr=False, compare=False)
+    _risk: Value = field(repr=False, compare=False)
 
     @cached_property
     def starts(self) -> Tuple[int, ...]:
@@ -76,18 +77,19 @@ class Intervention:
     @cached_property
     def resources(self) -> Tuple[str, ...]:
         """The resources under which it has workloads."""
-        return self._read("workload", lambda: tuple(self._workload.keys()))
+        return self._read("workload", lambda: tuple(self._workload.members()))
 
     @cached_property
     def _loads(self) -> Dict[str, Dict[Tuple[int, int], str]]:
         return self._read("workload", lambda: {
             name: {(int(t), int(s)): text for t, row in table.items() for s, text in row.items()}
-            for name, table in self._workload.items()})
+            for name, table in self._workload.parsed().items()})
 
     @cached_property
     def _risks(self) -> Dict[Tuple[int, int], List[str]]:
         return self._read("risk", lambda: {
-            (int(t), int(s)): _list(row) for t, table in self._risk.items() for s, row in table.items()})
+            (int(t), int(s)): _list(row) for t, table in self._risk.parsed().items()
+            for s, row in table.items()})
 
     def _load(self, number: Callable[[str], Made], resource: str, period: int, start: int) -> Made:
         is_running = period in self.run(start)
@@ -102,6 +104,21 @@ class Intervention:
     def load(self, resource: str, period: int, start: int) -> Fraction:
         """Its load on a resource in a period of its run from a start, in the resource's unit; 0 where none is told."""
         return self._load(kept, resource, period, start)
+
+    def run_loads(self, start: int) -> Dict[str, Tuple[Fraction, ...]]:
+        """Its loads in the periods of the run from a start, by resource; a resource on which it has none is left out.
+
+        Nothing else of its workload is kept, which suits who looks at one start of each intervention.
+        """
+        run = self.run(start)
+
+        def row(table: Mapping[str, Mapping[str, str]]) -> Tuple[Fraction, ...]:
+            found = {int(t): kept(text) for t, by_start in table.items() if int(t) in run
+                     for s, text in by_start.items() if int(s) == start}
+            return tuple(found.get(t, Fraction(0)) for t in run)
+
+        rows = self._read("workload", lambda: {name: row(it) for name, it in self._workload.parsed().items()})
+        return {name: row for name, row in rows.items() if any(row)}
 
     def risks(self, period: int, start: int) -> Tuple[Fraction, ...]:
         """Its risks in a period of its run from a start, one for each scenario of the period."""
@@ -133,6 +150,7 @@ class Instance:
 
     def __init__(self, path: Path) -> None:
         self.path = os.fspath(path)
+        self._is_mapped = False
 
     @classmethod
     def read(cls, path: Path) -> Instance:
@@ -144,6 +162,17 @@ class Instance:
         with open(path, "rb"):
             return cls(path)
 
+    @classmethod
+    def mapped(cls, path: Path) -> Instance:
+        """As `read`, but the file is mapped into memory and not copied: it mustn't be changed while this is used."""
+        instance = cls.read(path)
+        instance._is_mapped = True
+        return instance
+
+    def __getstate__(self) -> Dict[str, Any]:
+        # (a copy in another process reads the file itself)
+        return {"path": self.path, "_is_mapped": self._is_mapped}
+
     def __fspath__(self) -> str:
         return self.path
 
@@ -151,17 +180,19 @@ class Instance:
         return f"Instance({self.path!r})"
 
     @cached_property
-    def _root(self) -> Dict[str, Any]:
+    def _root(self) -> Dict[str, Value]:
+        """Where the values of the file's keys are."""
+        if self._is_mapped:
+            text: Data = mapped(self.path)
+        else:
+            with open(self.path, "rb") as file:
+                text = file.read()
         try:
-            with open(self.path, encoding="utf-8") as file:
-                root = json.load(file, parse_float=str, parse_int=str)
-        except (ValueError, RecursionError) as fault:
-            raise Unreadable(f"{self.path}: {fault}") from None
-        if not isinstance(root, dict):
-            raise Unreadable(f"{self.path}: no object")
-        return root
+            return Value.of(text).members()
+        except Broken as fault:
+            raise Unreadable(f"{self.path}: byte {fault} isn't what an instance has there") from None
 
-    def _read(self, name: str, made: Callable[[Any], Made]) -> Made:
+    def _read(self, name: str, made: Callable[[Value], Made]) -> Made:
         """What is made of the value of a key."""
         root = self._root
         try:
@@ -172,22 +203,22 @@ class Instance:
     @cached_property
     def periods(self) -> int:
         """The number of periods, which count from 1."""
-        return self._read("T", kept_whole)
+        return self._read("T", lambda it: kept_whole(it.parsed()))
 
     @cached_property
     def scenarios(self) -> Tuple[int, ...]:
         """The number of scenarios of each period: `scenarios[0]` is that of period 1."""
-        return self._read("Scenarios_number", lambda numbers: tuple(map(kept_whole, _list(numbers))))
+        return self._read("Scenarios_number", lambda it: tuple(map(kept_whole, _list(it.parsed()))))
 
     @cached_property
     def alpha(self) -> Fraction:
         """The weight of the mean risk in the cost."""
-        return self._read("Alpha", kept)
+        return self._read("Alpha", lambda it: kept(it.parsed()))
 
     @cached_property
     def quantile(self) -> Fraction:
         """What part of the scenarios the quantile of the excess is at."""
-        return self._read("Quantile", kept)
+        return self._read("Quantile", lambda it: kept(it.parsed()))
 
     def rank(self, period: int) -> int:
         """Which of the scenarios of a period, in ascending order of their risks, is the quantile; it counts from 1."""
@@ -201,31 +232,39 @@ class Instance:
         def band(name: str, it: Mapping[str, Any]) -> Band:
             return Band(name, tuple(map(kept, _list(it["max"]))), tuple(map(kept, _list(it["min"]))))
 
-        return self._read("Resources", lambda found: {name: band(name, it) for name, it in found.items()})
+        return self._read("Resources", lambda found: {
+            name: band(name, it.parsed()) for name, it in found.members().items()})
 
     @cached_property
     def interventions(self) -> Dict[str, Intervention]:
         """The interventions by name, in the order of the file."""
         periods = self.periods
 
-        def made(name: str, it: Mapping[str, Any]) -> Intervention:
-            last = kept_whole(it["tmax"])
-            durations = tuple(map(kept_whole, _list(it["Delta"])[:last]))
+        def made(name: str, it: Mapping[str, Value]) -> Intervention:
+            last = kept_whole(it["tmax"].parsed())
+            durations = tuple(map(kept_whole, _list(it["Delta"].parsed())[:last]))
             return Intervention(name, last, durations, periods, it["workload"], it["risk"])
 
-        return self._read("Interventions", lambda found: {name: made(name, it) for name, it in found.items()})
+        return self._read("Interventions", lambda found: {
+            name: made(name, it.members()) for name, it in found.members().items()})
+
+    @cached_property
+    def listed_seasons(self) -> Dict[str, Tuple[int, ...]]:
+        """The periods that the file lists for each season, by name, each once and in ascending order."""
+        return self._read("Seasons", lambda found: {
+            name: tuple(sorted(set(map(kept_whole, _list(it))))) for name, it in found.parsed().items()})
 
     @cached_property
     def seasons(self) -> Dict[str, FrozenSet[int]]:
         """The periods of each season, by name; periods that the year hasn't are left out."""
         horizon = range(1, self.periods + 1)
-        return self._read("Seasons", lambda found: {
-            name: frozenset(t for t in map(kept_whole, _list(it)) if t in horizon) for name, it in found.items()})
+        return {name: frozenset(t for t in those if t in horizon) for name, those in self.listed_seasons.items()}
 
     @cached_property
     def exclusions(self) -> Dict[str, Exclusion]:
         """The exclusions by name, in the order of the file."""
-        return self._read("Exclusions", lambda found: {name: Exclusion(name, *_list(it)) for name, it in found.items()})
+        return self._read("Exclusions", lambda found: {
+            name: Exclusion(name, *_list(it)) for name, it in found.parsed().items()})
 
     def meeting(self, exclusion: str, starts: Mapping[str, int]) -> Tuple[int, ...]:
         """The periods of an exclusion's season in which a plan has both of its interventions in progress."""

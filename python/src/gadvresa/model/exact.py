@@ -84,18 +84,27 @@ def whole_of(word: str) -> int:
     return int(word)
 
 
-def kept(text: str) -> Fraction:
-    """A number of an instance as the programs keep it: rounded to 12 decimals, halves away from 0, and below 10^8.
+def counted(text: str) -> int:
+    """A number of an instance as the programs keep it: the nearest count of 10^-12, halves away from 0.
 
-    Raises ArithmeticError or ValueError for any other text.
+    Raises ArithmeticError or ValueError for a text that is none, and for a number of 10^8 or more in size.
 
-    >>> kept("0.1234567890123456"), kept("1e-1000000000")
-    (Fraction(30864197253, 250000000000), Fraction(0, 1))
+    >>> counted("1.5"), counted("-5e-13"), counted("1e-1000000000")
+    (1500000000000, -1, 0)
     """
     count = int(ROUNDED.quantize(CUT.create_decimal(text), COUNT).scaleb(12, ROUNDED))
     if not abs(count) < TOO_LARGE:
         raise ValueError(f"{text:.40} is 10^8 or more in size")
-    return Fraction(count, COUNTS)
+    return count
+
+
+def kept(text: str) -> Fraction:
+    """The number of `counted` in its own unit. It raises as that does.
+
+    >>> kept("0.1234567890123456"), kept("1e-1000000000")
+    (Fraction(30864197253, 250000000000), Fraction(0, 1))
+    """
+    return Fraction(counted(text), COUNTS)
 
 
 def kept_whole(text: str) -> int:
