@@ -9,6 +9,7 @@ import subprocess
 import sys
 import time
 
+import package_path  # noqa: F401
 from viewing.progress import read_progress
 
 HERE = os.path.dirname(os.path.abspath(__file__))

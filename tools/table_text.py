@@ -1,7 +1,7 @@
-"""Reads what `table` says, for scripts that draw it or add it up. Nothing else is read: no instance, and no plan.
+"""What scripts over a table share: their words, their statuses, and how they ask `table` and end.
 
-What goes wrong in such a script itself has a status above 63, so that it is never taken for a verdict; those of the
-program are below, and handed on.
+`gadvresa.reports` reads the table. What goes wrong in such a script itself has a status above 63, so that it is never
+taken for a verdict; those of the program are below, and handed on.
 """
 import argparse
 import os
@@ -9,110 +9,15 @@ import signal
 import subprocess
 import sys
 import traceback
-from collections import namedtuple
-from fractions import Fraction
+
+import package_path  # noqa: F401
+from gadvresa.reports import NoReport, read_table
 
 PLANNER = os.path.join(os.path.dirname(os.path.dirname(os.path.abspath(__file__))), "planner")
 
 # The statuses of a script: its words are wrong; the text is none of `table`; a file can't be read; what it needs isn't
 # there; something that it didn't foresee; what it makes can't be written. A signal ends it with 128 and its number.
 WORDS, NO_TABLE, UNREAD, MISSING, UNFORESEEN, UNWRITTEN, SIGNAL = 64, 65, 66, 69, 70, 74, 128
-
-# The limits are as `table` says them, widened by a slack; numbers are exact. `day` counts from 1.
-Load = namedtuple("Load", "resource load lower upper state")
-Run = namedtuple("Run", "name start day duration low high")
-Period = namedtuple("Period", "number scenarios rank least quantile greatest mean excess loads runs clashes")
-Table = namedtuple("Table", "periods rounded")
-
-
-class Fault(Exception):
-    """A line that isn't one of a table, by its number."""
-
-    def __init__(self, number, line):
-        super().__init__(f"line {number} isn't one of a table: {line!r}")
-
-
-def read_table(text):
-    """The table of a text. A `Fault` names the first line that doesn't fit."""
-    lines = text.split("\n")
-    if lines[-1] != "":
-        raise Fault(len(lines), lines[-1])
-    periods, at = [], 0
-    while at < len(lines) - 3:
-        period, at = read_period(lines, at)
-        periods.append(period)
-    (count,) = words(lines, at, "end", whole)
-    if count != len(periods):
-        raise Fault(at + 1, lines[at])
-    (rounded,) = words(lines, at + 1, "rounded", whole)
-    if at + 2 != len(lines) - 1:
-        raise Fault(at + 3, lines[at + 2])
-    return Table(periods, rounded)
-
-
-def read_period(lines, at):
-    """The period that begins at a line, and the line behind it."""
-    number, _, scenarios, _, rank = words(lines, at, "period", whole, text("scenarios"), whole, text("rank"), whole)
-    risk = words(lines, at + 1, "risk", decimal, decimal, decimal)
-    mean = words(lines, at + 2, "mean", decimal, decimal)
-    excess = words(lines, at + 3, "excess", decimal, decimal)
-    at, loads, runs, clashes = at + 4, [], [], []
-    while lines[at].startswith("load "):
-        loads.append(Load(*words(lines, at, "load", str, decimal, decimal, decimal, text("fits", "over", "under"))))
-        at += 1
-    while lines[at].startswith("run "):
-        runs.append(Run(*words(lines, at, "run", str, whole, whole, whole, decimal, decimal)))
-        at += 1
-    while lines[at].startswith("clash "):
-        clashes.append(*words(lines, at, "clash", str))
-        at += 1
-    return Period(number, scenarios, rank, *risk, tuple(mean), tuple(excess), loads, runs, clashes), at
-
-
-def words(lines, at, first, *forms):
-    """What the words of a line behind its first one stand for."""
-    line = lines[at] if at < len(lines) else ""
-    found = line.split(" ")
-    if found[0] != first or len(found) != len(forms) + 1:
-        raise Fault(at + 1, line)
-    try:
-        return [form(word) for form, word in zip(forms, found[1:])]
-    except ValueError:
-        raise Fault(at + 1, line) from None
-
-
-def whole(word):
-    if not (word.isascii() and word.isdigit()):
-        raise ValueError(word)
-    return int(word)
-
-
-def decimal(word):
-    """A number with 12 decimals."""
-    point = len(word) - 13
-    if point < 1 or word[point] != "." or not (word[point + 1:].isascii() and word[point + 1:].isdigit()):
-        raise ValueError(word)
-    whole(word[:point].removeprefix("-"))
-    return Fraction(word)
-
-
-def text(*choices):
-    """The form of a word that is one of these."""
-
-    def form(word):
-        if word not in choices:
-            raise ValueError(word)
-        return word
-
-    return form
-
-
-def shown(number):
-    """A number with 12 decimals, which it has at most."""
-    count = number * 10 ** 12
-    assert count.denominator == 1
-    sign, size = "-" if count < 0 else "", abs(int(count))
-    return f"{sign}{size // 10 ** 12}.{size % 10 ** 12:012}"
 
 
 class Parser(argparse.ArgumentParser):
@@ -170,8 +75,13 @@ def asked_table(parser, words, more):
         return read_table(said.decode("utf-8")), files[given:]
     except UnicodeDecodeError as error:
         stop(NO_TABLE, f"{words.table or 'table'}: byte {error.start} isn't one of UTF-8")
-    except Fault as fault:
-        stop(NO_TABLE, f"{words.table or 'table'}: {fault}")
+    except NoReport as fault:
+        stop(NO_TABLE, f"{words.table or 'table'}: {no_table(fault)}")
+
+
+def no_table(fault):
+    """What is wrong with a text that is no table."""
+    return f"line {fault.number} isn't one of a table: {fault.line!r}"
 
 
 def held_text(path):

@@ -287,7 +287,7 @@ def test_where_programs_are_found(folder, tmp_path, monkeypatch):
     monkeypatch.setenv("GADVRESA_PROGRAMS", folder)
     assert {it.found for it in gadvresa.programs().values()} == {"setting"}
     monkeypatch.delenv("GADVRESA_PROGRAMS")
-    monkeypatch.setattr("gadvresa.running.clone", lambda: None)
+    monkeypatch.setattr("gadvresa.running.finding.clone", lambda: None)
     monkeypatch.setenv("PATH", folder)
     found = gadvresa.programs()["plan_repair"]
     assert (found.found, found.path) == ("path", os.path.join(folder, "plan_repair"))
@@ -312,7 +312,7 @@ def test_a_program_of_the_clone_has_to_stand_for_its_sources(tmp_path, monkeypat
     monkeypatch.setenv("PATH", os.environ["PATH"])
     (tmp_path / "tools").mkdir()
     (tmp_path / "out").mkdir()
-    monkeypatch.setattr("gadvresa.running.clone", lambda: str(tmp_path))
+    monkeypatch.setattr("gadvresa.running.finding.clone", lambda: str(tmp_path))
     program = tmp_path / "out" / "planner_cli"
     for name in ("planner_cli", "planner_cli.stamp"):
         (tmp_path / "out" / name).write_text("#!/bin/sh\n")

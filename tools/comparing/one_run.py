@@ -57,7 +57,7 @@ def judged(path, data):
             return {"state": "unjudged", "detail": f"evaluate took more than {JUDGING} seconds"}
     if not answer.feasible:
         return {"state": "infeasible", "detail": answer.rule.line}
-    return {"state": "feasible", "score": str(answer.score), "cost": gadvresa.exact.shown(answer.cost.low)}
+    return {"state": "feasible", "score": str(answer.score), "cost": gadvresa.model.shown(answer.cost.low)}
 
 
 def filled(words, values):

@@ -15,12 +15,12 @@ import shlex
 import sys
 import time
 
-from planning import reports
+from gadvresa.model import gap_of, gap_shown
+from gadvresa.reports import first_line, periods_of, says_no_plan, whole_in
 from planning.afresh import CALLS, LONG_CALLS, Afresh, calls_of
 from planning.folder import COMMON, SUMS
 from planning.joining import claim_of
 from planning.pace import LEAST, MOST_TURNS, Pace, long_round_seconds, round_seconds
-from planning.reports import gap_of, gap_shown, is_accepted, says_no_plan, whole
 from planning.running import Task
 from planning.telling import BEAT, clock, standing
 from whole_files import is_regular, remove_any
@@ -115,7 +115,7 @@ class Tree:
         return [self.leaves, self.lists, self.is_growing]
 
     def note(self, said):
-        counts = [whole(said, name) for name in ("splits", "kept", "changed", "lists")]
+        counts = [whole_in(said, name) for name in ("splits", "kept", "changed", "lists")]
         if None not in counts:
             splits, kept, changed, lists = counts
             self.leaves = splits + max(1, kept + changed)
@@ -276,12 +276,12 @@ class Run:
 
     def take(self, task, plan=None, certificate=None):
         """Takes a plan and a certificate that were judged, where they are better than what stands."""
-        if not (is_accepted(task) or task.kind == "evaluate" and task.status == 0):
+        if not (task.is_accepted() or task.kind == "evaluate" and task.status == 0):
             return False
-        score, bound = whole(task.said, "score"), whole(task.said, "bound")
+        score, bound = whole_in(task.said, "score"), whole_in(task.said, "bound")
         self.reading = task.seconds
         self.least_reading = min(self.reading, self.least_reading or self.reading)
-        self.periods = self.periods or reports.periods_of(task.said)
+        self.periods = self.periods or periods_of(task.said)
         is_taken = False
         if plan and score is not None and (self.score is None or score < self.score):
             if plan != self.folder.plan:
@@ -335,7 +335,7 @@ class Run:
     def fault_of(self, task):
         if task.status < 0:
             return f"ended by signal {-task.status}"
-        return f"{reports.first_line(task.said) or 'it said nothing'} (status {task.status})"
+        return f"{first_line(task.said) or 'it said nothing'} (status {task.status})"
 
     def note_failures(self, lane, done):
         """Takes note of calls that failed; answers whether the lane may go on."""
@@ -563,7 +563,7 @@ class Run:
 
     def take_plans(self, done):
         """Takes the best plan of a round, which is that of the least score that `check` accepts; answers its call."""
-        found = [(whole(task.said, "score"), at, task) for at, task in enumerate(done) if task.status == 0]
+        found = [(whole_in(task.said, "score"), at, task) for at, task in enumerate(done) if task.status == 0]
         for score, _, task in sorted(it for it in found if it[0] is not None):
             if self.score is not None and score >= self.score:
                 break
@@ -631,7 +631,7 @@ class Run:
         task = self.whole_tree(lane, self.plan() or "-", old or "-")
         yield [task]
         self.note_failures(lane, [task])
-        self.made = whole(task.said, "splits") if task.status == 0 else None
+        self.made = whole_in(task.said, "splits") if task.status == 0 else None
         is_taken = yield from self.take_bound(task)
         self.end_round("bound", task.turns, lane, [task])
         return is_taken
@@ -646,7 +646,7 @@ class Run:
         done = yield from self.spread(lane, [self.part(lane, given, common, number, count) for number in range(count)])
         self.note_failures(lane, done)
         made = {(number, count): task.out for number, task in enumerate(done) if task.status in (0, NO_PLAN)}
-        self.made = sum(whole(task.said, "splits") or 0 for task in done) if made else None
+        self.made = sum(whole_in(task.said, "splits") or 0 for task in done) if made else None
         is_taken = yield from self.join(common, made, lane.rounds)
         self.remove(done)
         self.end_round("bound", sum(task.turns for task in done), lane, done)
@@ -682,7 +682,7 @@ class Run:
 
     def is_worse(self, better):
         """Whether a claim of joined parts failed, or is less than what stands."""
-        bound = whole(better.said, "bound")
+        bound = whole_in(better.said, "bound")
         return better.status not in DONE or None not in (bound, self.bound) and bound < self.bound
 
     def join_task(self, common, parts, name):
@@ -708,10 +708,10 @@ class Run:
         """
         judged = {key: self.judge(None, path) for key, path in parts.items()}
         yield list(judged.values())
-        claim, claims = claim_of(common), {key: whole(task.said, "bound") for key, task in judged.items()}
+        claim, claims = claim_of(common), {key: whole_in(task.said, "bound") for key, task in judged.items()}
         joins = {key: self.join_task(common, {key: parts[key]}, f"joined-{number}-{key[0]}")
                  for key, task in judged.items()
-                 if is_accepted(task) and (None in (claim, claims[key]) or claims[key] >= claim)}
+                 if task.is_accepted() and (None in (claim, claims[key]) or claims[key] >= claim)}
         if joins:
             yield list(joins.values())
         self.remove(joins.values())
@@ -721,7 +721,7 @@ class Run:
         is_taken = False
         if task.status in (0, NO_PLAN):
             self.tree.note(task.said)
-            bound = whole(task.said, "bound")
+            bound = whole_in(task.said, "bound")
             if bound is None or self.bound is None or bound > self.bound:
                 judged = self.judge(self.plan(), task.out)
                 yield [judged]

@@ -43,6 +43,10 @@ class Task:
     line: Optional[tuple] = None
     details: dict = field(default_factory=dict)
 
+    def is_accepted(self):
+        """Whether `check` accepted a certificate."""
+        return self.status == 0 and self.said.startswith("accepted\n")
+
 
 def most_jobs(wanted):
     """How many of so many programs can run at a time, by how many files may be open, which is raised as far as that is

@@ -7,7 +7,7 @@ import contextlib
 import os
 import sys
 
-from planning.reports import cost_shown, gap_shown
+from gadvresa.model import cost_shown, gap_shown
 
 # Seconds between two looks at the clock on a terminal, and how wide a line is where the terminal doesn't tell.
 BEAT, WIDTH = 1.0, 80

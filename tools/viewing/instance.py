@@ -96,6 +96,6 @@ def held_to(instance, table, runs, loads):
             raise Unheld(f"the loads of works in period {period.number} don't add up to those that `table` says")
         seasons = [period.number in those for those in instance.seasons.values()]
         at_work = {place for place, _ in running}
-        met = [it.name for it in instance.exclusions if seasons[it.season] and {it.one, it.other} <= at_work]
+        met = tuple(it.name for it in instance.exclusions if seasons[it.season] and {it.one, it.other} <= at_work)
         if met != period.clashes:
             raise Unheld(f"the exclusions that are broken in period {period.number} aren't those that `table` says")

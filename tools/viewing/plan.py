@@ -4,7 +4,7 @@ import re
 from fractions import Fraction
 
 from explaining.page import Page
-from table_text import shown
+from gadvresa.model import shown
 from viewing.instance import COUNTS, Unheld, held_to, read_starts
 
 # The words of a broken rule that stand for names.
@@ -44,7 +44,7 @@ def runs_of(instance, table, starts):
             if place is None or run.day != len(risks[place]) + 1 or run.start + run.day - 1 != period.number:
                 raise Unheld(f"`table` says of {run.name} in period {period.number} what fits no run")
             runs[place] = run.start, run.duration
-            risks[place].append(pair(run.low, run.high))
+            risks[place].append(pair(run.mean))
     if any(duration != len(days) for (_, duration), days in zip(runs, risks)):
         raise Unheld("`table` says of a run not each of its periods")
     return runs, risks
@@ -54,7 +54,7 @@ def table_data(instance, table):
     places = {it.name: place for place, it in enumerate(instance.exclusions)}
     columns = {name: [plain(getattr(period, name)) for period in table.periods]
                for name in ("least", "quantile", "greatest")}
-    pairs = {name: [pair(*getattr(period, name)) for period in table.periods] for name in ("mean", "excess")}
+    pairs = {name: [pair(getattr(period, name)) for period in table.periods] for name in ("mean", "excess")}
     loads = [[[plain(load.load), plain(load.lower), plain(load.upper)] for load in rows]
              for rows in zip(*(period.loads for period in table.periods))]
     return {"scenarios": [period.scenarios for period in table.periods], "rank": [it.rank for it in table.periods],
@@ -67,9 +67,9 @@ def plain(number):
     return shown(number).rstrip("0").rstrip(".")
 
 
-def pair(low, high):
+def pair(both):
     """Two numbers, or one where they are the same."""
-    return plain(low) if low == high else [plain(low), plain(high)]
+    return plain(both.low) if both.low == both.high else [plain(both.low), plain(both.high)]
 
 
 def explained(rule):

@@ -1,7 +1,7 @@
 """Reads a file of progress: a line for each round, with seconds, score and bound as its first cells, parted by tabs."""
 import re
 
-from report_text import NoReport
+from gadvresa.reports import NoReport
 
 SECONDS = re.compile(r"[0-9]+(\.[0-9]+)?")
 WHOLE = re.compile(r"-?[0-9]{1,40}")

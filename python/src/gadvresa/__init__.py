@@ -20,8 +20,8 @@ from .commands import (audit, bound, check, evaluate, improve, rebound, repair, 
 from .errors import (BrokenRule, Cancelled, CertificateRefused, GadvresaError, InstanceRefused, OutOfMemory, Place,
                      PlanRefused, ProgramFailed, ProgramMissing, Refused, ScriptRefused, TimedOut, TooLong, Unread,
                      Unwritten, WordsRefused)
-from .model.exact import Range
 from .files import UNDO, Certificate, Plan, move, swap
+from .model.exact import Range
 from .model.instance import Band, Exclusion, Instance, Intervention, Unreadable
 from .running import Called, Program, programs, use
 

@@ -12,10 +12,17 @@ from dataclasses import dataclass, field
 from fractions import Fraction
 from typing import Any, Dict, List, Optional, Tuple
 
-from .model.exact import SCORES, Range, shown
 from .files import Certificate, Plan
+from .model.exact import Range, shown
 from .model.instance import Instance
+from .model.scores import cost_of, percent_of
+from .reports import Key, Load, Period, Rule, Run
 from .running import Called
+
+__all__ = [
+    "Audited", "Bounded", "Checked", "Improved", "Judged", "Key", "Load", "Outcome", "Period", "Rebound", "Repaired",
+    "Replayed", "Rolled", "Rule", "Run", "Solved", "Table", "cost_of",
+]
 
 
 class Outcome(enum.Enum):
@@ -27,36 +34,6 @@ class Outcome(enum.Enum):
     """In so many turns no plan was found, and there may be one (status 9)."""
     NO_PLAN_EXISTS = "no plan exists"
     """No plan keeps every rule (status 10)."""
-
-
-@dataclass(frozen=True)
-class Rule:
-    """A rule that a plan breaks, the first one, as the program says it in `line`.
-
-    `code` is S1, S2 or S3 for a start that is missing or not allowed, B1 or B2 for a load above its upper or below its
-    lower limit, and X1 for an exclusion. `name` is that of the intervention, the resource or the exclusion.
-    """
-
-    line: str
-    code: str
-    name: str
-    start: Optional[int] = None
-    period: Optional[int] = None
-    load: Optional[Fraction] = None
-    limit: Optional[Fraction] = None
-
-    def __str__(self) -> str:
-        return MEANINGS[self.code].format(rule=self, load=_brief(self.load), limit=_brief(self.limit))
-
-
-MEANINGS = {
-    "S1": "S1: {rule.name} has no start",
-    "S2": "S2: the start {rule.start} of {rule.name} is 0 or above its last one",
-    "S3": "S3: {rule.name}, started in {rule.start}, goes past the last period",
-    "B1": "B1: the load of {rule.name} in period {rule.period} is {load}, above its limit of {limit}",
-    "B2": "B2: the load of {rule.name} in period {rule.period} is {load}, below its limit of {limit}",
-    "X1": "X1: both interventions of {rule.name} are in progress in period {rule.period}",
-}
 
 
 @dataclass(frozen=True)
@@ -229,23 +206,6 @@ class Rolled:
 
 
 @dataclass(frozen=True)
-class Key:
-    """How a plan of a script stands: behind line `line` of it, or as it was given, in line 0.
-
-    `violation` is how far it is outside the rules on loads and exclusions, and `score` its score.
-    """
-
-    line: int
-    violation: Fraction
-    score: int
-
-    @property
-    def feasible(self) -> bool:
-        """Whether it keeps every rule: the starts of a script's plans are allowed."""
-        return self.violation == 0
-
-
-@dataclass(frozen=True)
 class Replayed:
     """The keys of a script: of the plan as it was given, and behind each line."""
 
@@ -256,45 +216,6 @@ class Replayed:
     def lines(self) -> int:
         """How many lines the script has."""
         return len(self.keys) - 1
-
-
-@dataclass(frozen=True)
-class Load:
-    """The load of a resource in a period between its limits; `state` is `fits`, `over` or `under`."""
-
-    resource: str
-    load: Fraction
-    lower: Fraction
-    upper: Fraction
-    state: str
-
-
-@dataclass(frozen=True)
-class Run:
-    """An intervention in progress in a period: its start, which day of how many it is, and the mean risk it brings."""
-
-    name: str
-    start: int
-    day: int
-    duration: int
-    mean: Range
-
-
-@dataclass(frozen=True)
-class Period:
-    """A period of a plan: its risks by scenario, its loads, what is in progress, and which exclusions are broken."""
-
-    number: int
-    scenarios: int
-    rank: int
-    least: Fraction
-    quantile: Fraction
-    greatest: Fraction
-    mean: Range
-    excess: Range
-    loads: Tuple[Load, ...]
-    runs: Tuple[Run, ...]
-    clashes: Tuple[str, ...]
 
 
 @dataclass(frozen=True)
@@ -357,21 +278,5 @@ ROWS = {"loads": _load_rows, "runs": _run_rows, "periods": _period_rows, "clashe
 
 def gap_percent(gap: Optional[int], score: Optional[int]) -> Optional[float]:
     """A gap in percent of a score; None where either is missing, or the score isn't above 0 though there is a gap."""
-    if gap is None or score is None:
-        return None
-    if gap == 0:
-        return 0.0
-    return float(Fraction(100 * gap, score)) if score > 0 else None
-
-
-def cost_of(score: int, periods: int) -> Fraction:
-    """The cost that a score or a bound stands for, exactly.
-
-    >>> float(cost_of(1500000000000000000, 3))
-    0.5
-    """
-    return Fraction(score, SCORES * periods)
-
-
-def _brief(number: Optional[Fraction]) -> str:
-    return "" if number is None else shown(number).rstrip("0").rstrip(".")
+    found = None if gap is None or score is None else percent_of(gap, score)
+    return None if found is None else float(found)

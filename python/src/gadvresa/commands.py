@@ -27,13 +27,13 @@ from typing import Any, Callable, Dict, Iterable, List, Mapping, NoReturn, Optio
 from . import errors
 from .answers import (Audited, Bounded, Checked, Improved, Judged, Outcome, Rebound, Repaired, Replayed, Rolled, Solved,
                       Table)
-from .ending import room
-from .model.exact import Slack, decimal_of, slack_word, whole_of
 from .explaining import Source
 from .files import Certificate, Plan, is_refined, permissions, script_data
+from .model.exact import Slack, decimal_of, slack_word, whole_of
 from .model.instance import Instance
-from .running import Called, NotFound, Path, Stopped, find, run, signal_name
-from .reports import Garbled, Report, broken_rule, costs, count_of, keys_of, or_none, period_of, refusal
+from .reports import NoReport, Report, broken_rule, costs, keys_of, read_table, refusal
+from .reports.lines import count_of, or_none
+from .running import Called, NotFound, Path, Status, Stopped, find, room, run, signal_name
 
 Made = TypeVar("Made")
 AnyInstance = Union[Instance, Path]
@@ -42,11 +42,19 @@ AnyCertificate = Union[Certificate, Path]
 AnyScript = Union[Path, Iterable[str]]
 
 NO_COSTS: Dict[str, Any] = dict.fromkeys(("cost", "mean", "excess"))
-OUTCOMES = {0: Outcome.FOUND, 9: Outcome.NOTHING_FOUND, 10: Outcome.NO_PLAN_EXISTS}
+OUTCOMES: Dict[int, Outcome] = {
+    Status.DONE: Outcome.FOUND, Status.NOTHING_FOUND: Outcome.NOTHING_FOUND,
+    Status.NO_PLAN_EXISTS: Outcome.NO_PLAN_EXISTS}
+# What a status of refusal raises, and which file it is about.
 REFUSALS: Dict[int, Tuple[Type[errors.Refused], Optional[str]]] = {
-    2: (errors.WordsRefused, None), 3: (errors.InstanceRefused, "instance"), 4: (errors.PlanRefused, "plan"),
-    5: (errors.CertificateRefused, "certificate"), 6: (errors.ScriptRefused, "script"), 7: (errors.Unread, None),
-    8: (errors.Unwritten, None), 12: (errors.TooLong, None)}
+    Status.WORDS_REFUSED: (errors.WordsRefused, None),
+    Status.INSTANCE_REFUSED: (errors.InstanceRefused, "instance"),
+    Status.PLAN_REFUSED: (errors.PlanRefused, "plan"),
+    Status.CERTIFICATE_REFUSED: (errors.CertificateRefused, "certificate"),
+    Status.SCRIPT_REFUSED: (errors.ScriptRefused, "script"),
+    Status.UNREAD: (errors.Unread, None),
+    Status.UNWRITTEN: (errors.Unwritten, None),
+    Status.TOO_LONG: (errors.TooLong, None)}
 # The refusals of an instance that tell an offset, those of a text that tell a line, and the one that tells a leaf.
 AT = re.compile(r"refused instance (?:syntax|too deep|double|bad name|missing|shape|too large|limit) ([0-9]+)(?: .*)?")
 IN_LINE = re.compile(r"refused (?:plan|script|certificate) (?!leaf)[a-z ]+ ([0-9]+)")
@@ -154,14 +162,14 @@ class Call:
     def fail(self, called: Called) -> NoReturn:
         """Raises what a status says that isn't an answer."""
         line = refusal(called.said)
-        if called.status == 1 and not line:
+        if called.status == Status.BROKEN_RULE and not line:
             rule, _ = self.read(called, lambda: broken_rule(called.said))
             raise errors.BrokenRule(f"the plan breaks a rule: {rule}", rule=rule, called=called)
-        if called.status == 11:
+        if called.status == Status.OUT_OF_MEMORY:
             raise errors.OutOfMemory(f"memory ran out in {self.command}", called=called)
         if called.status in REFUSALS and line:
             self.refuse(called, line, *REFUSALS[called.status])
-        if called.status == 8:
+        if called.status == Status.UNWRITTEN:
             raise errors.Unwritten(f"{self.command} couldn't say all that was due", called=called)
         raise errors.ProgramFailed(f"{called.program} {self.command} {ending(called)}", called=called)
 
@@ -188,7 +196,7 @@ class Call:
         """What is read of what the program said."""
         try:
             return reading()
-        except Garbled as fault:
+        except NoReport as fault:
             raise errors.ProgramFailed(f"{called.program} said what is no report of {self.command}: {fault}",
                                        called=called) from None
 
@@ -283,10 +291,10 @@ def evaluate(instance: AnyInstance, plan: AnyPlan, *, slack: Slack = None, timeo
         call.instance(instance)
         call.plan(needed(plan, "plan"))
         call.widen(slack)
-        called = call.run((0, 1), timeout, cancel)
+        called = call.run((Status.DONE, Status.BROKEN_RULE), timeout, cancel)
 
         def reading() -> Judged:
-            if called.status == 1:
+            if called.status == Status.BROKEN_RULE:
                 rule, rounded = broken_rule(called.said)
                 return Judged(rule, None, None, None, None, rounded, called)
             report = Report(called.said)
@@ -315,7 +323,7 @@ def check(instance: AnyInstance, certificate: AnyCertificate, plan: Optional[Any
         call.plan(plan)
         call.certificate(needed(certificate, "certificate"))
         call.widen(slack)
-        called = call.run((0,), timeout, cancel)
+        called = call.run((Status.DONE,), timeout, cancel)
 
         def reading() -> Checked:
             report = Report(called.said)
@@ -347,11 +355,11 @@ def solve(instance: AnyInstance, turns: int = 1000, *, slack: Slack = None, time
         plan, certificate, trail = (call.out(name) for name in ("plan", "certificate", "trail"))
         call.number("turns", turns)
         call.widen(slack)
-        called = call.run((0, 9, 10), timeout, cancel)
+        called = call.run(tuple(OUTCOMES), timeout, cancel)
 
         def reading() -> Solved:
             report, outcome = Report(called.said), OUTCOMES[called.status]
-            report.take("plan found" if called.status == 0 else outcome.value)
+            report.take("plan found" if outcome is Outcome.FOUND else outcome.value)
             is_found = outcome is Outcome.FOUND
             score = report.one("score") if is_found else None
             bound = None if outcome is Outcome.NO_PLAN_EXISTS else report.one("bound")
@@ -387,11 +395,11 @@ def improve(instance: AnyInstance, plan: Optional[AnyPlan] = None, turns: int = 
         call.number("turns", turns)
         call.number("seed", seed)
         call.widen(slack)
-        called = call.run((0, 9, 10), timeout, cancel)
+        called = call.run(tuple(OUTCOMES), timeout, cancel)
 
         def reading() -> Improved:
             report, outcome = Report(called.said), OUTCOMES[called.status]
-            report.take("plan improved" if called.status == 0 else outcome.value)
+            report.take("plan improved" if outcome is Outcome.FOUND else outcome.value)
             is_found = outcome is Outcome.FOUND
             score = report.one("score") if is_found else None
             before = report.one("before", or_none(whole_of)) if is_found else None
@@ -440,7 +448,7 @@ def bound(instance: AnyInstance, plan: Optional[AnyPlan] = None, certificate: Op
         call.number("turns", turns)
         call.widen(slack)
         call.part(part)
-        called = call.run((0, 10), timeout, cancel)
+        called = call.run((Status.DONE, Status.NO_PLAN_EXISTS), timeout, cancel)
 
         def reading() -> Bounded:
             report = Report(called.said)
@@ -469,7 +477,7 @@ def rebound(instance: AnyInstance, certificate: AnyCertificate, *, slack: Slack 
         call.certificate(needed(certificate, "certificate"))
         out = call.out("certificate")
         call.widen(slack)
-        called = call.run((0,), timeout, cancel)
+        called = call.run((Status.DONE,), timeout, cancel)
 
         def reading() -> Rebound:
             report = Report(called.said)
@@ -502,18 +510,10 @@ def table(instance: AnyInstance, plan: AnyPlan, first: int = 1, last: int = 512,
         call.number("first", first)
         call.number("last", last)
         call.widen(slack)
-        called = call.run((0,), timeout, cancel)
+        called = call.run((Status.DONE,), timeout, cancel)
 
         def reading() -> Table:
-            report, periods = Report(called.said), []
-            while report.next() == "period":
-                periods.append(period_of(report))
-            count = report.one("end")
-            made = Table(tuple(periods), report.one("rounded"), called)
-            report.end()
-            if count != len(periods):
-                raise Garbled(f"{count} periods are said to be there, and {len(periods)} are")
-            return made
+            return Table(*read_table(called.said), called)
 
         return call.read(called, reading)
 
@@ -539,13 +539,13 @@ def replay(instance: AnyInstance, plan: AnyPlan, script: AnyScript, *, slack: Sl
         call.plan(needed(plan, "plan"))
         call.script(script)
         call.widen(slack)
-        called = call.run((0,), timeout, cancel)
+        called = call.run((Status.DONE,), timeout, cancel)
 
         def reading() -> Replayed:
             *lines, end, rest = called.said.split("\n")
             keys = keys_of(lines)
             if rest or end != f"end {len(keys) - 1}":
-                raise Garbled(f"the last line is {end!r}")
+                raise NoReport(f"the last line is {end!r}")
             return Replayed(keys, called)
 
         return call.read(called, reading)
@@ -566,7 +566,7 @@ def repair(instance: AnyInstance, plan: AnyPlan, turns: int = 1000, *, slack: Sl
         certificate, out = call.out("certificate"), call.out("plan")
         call.number("turns", turns)
         call.widen(slack)
-        called = call.run((0, 9, 10), timeout, cancel)
+        called = call.run(tuple(OUTCOMES), timeout, cancel)
 
         def reading() -> Repaired:
             report, outcome = Report(called.said), OUTCOMES[called.status]
@@ -598,7 +598,7 @@ def audit(instance: AnyInstance, plan: AnyPlan, certificate: AnyCertificate, *, 
         call.plan(needed(plan, "plan"))
         call.certificate(needed(certificate, "certificate"))
         call.widen(slack)
-        called = call.run((0,), timeout, cancel)
+        called = call.run((Status.DONE,), timeout, cancel)
 
         def reading() -> Audited:
             report = Report(called.said)
@@ -630,7 +630,7 @@ def roll(instance: AnyInstance, plan: AnyPlan, period: int, out: Path, *, timeou
         call.plan(needed(plan, "plan"))
         call.number("period", period)
         made = call.out("instance")
-        called = call.run((0,), timeout, cancel)
+        called = call.run((Status.DONE,), timeout, cancel)
 
         def reading() -> Tuple[int, ...]:
             report = Report(called.said)

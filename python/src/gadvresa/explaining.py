@@ -6,8 +6,7 @@ import sys
 from dataclasses import dataclass
 from typing import Optional, Sequence
 
-from .ending import room
-from .running import Called, Stopped, clone, folder_of, run_words
+from .running import Called, Stopped, clone, folder_of, room, run_words
 
 # How long it may take, in seconds: it reads the file whole.
 SECONDS = 120

@@ -8,8 +8,7 @@ import tempfile
 from dataclasses import dataclass, field
 from typing import Dict, Iterable, Iterator, Mapping, Optional, Tuple, Union
 
-from .ending import tidied
-from .running import Path
+from .running import Path, tidied
 
 # The line of a plan: a name without blanks, one blank or more, and the start. Only a line feed ends a line.
 LINE = re.compile(r"([^ ]+) +([0-9]{1,9}) *")

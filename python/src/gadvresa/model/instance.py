@@ -13,7 +13,7 @@ from fractions import Fraction
 from functools import cached_property
 from typing import Any, Callable, Dict, FrozenSet, List, Mapping, Tuple, TypeVar
 
-from ..running import Path
+from ..running.finding import Path
 from .exact import kept, kept_whole
 from .json_text import Broken, Data, Value, mapped
 

@@ -1,4 +1,4 @@
-"""The proved programs: where they are, and calls of them. Nothing else judges, plans or bounds in this package.
+"""Where the proved programs are.
 
 A program is looked for in this order:
 
@@ -11,21 +11,15 @@ from __future__ import annotations
 
 import os
 import shutil
-import signal
 import subprocess
 import sys
 import threading
-import time
-from dataclasses import dataclass, field
-from typing import Dict, List, Optional, Sequence, Tuple, Union
-
-from .ending import ended, look
+from dataclasses import dataclass
+from typing import Dict, List, Optional, Union
 
 Path = Union[str, "os.PathLike[str]"]
 PROGRAMS = ("planner_cli", "plan_repair", "plan_refine")
 VARIABLE = "GADVRESA_PROGRAMS"
-# How often a call that can be cancelled looks whether it is, in seconds.
-LOOK = 0.05
 _set: Dict[str, str] = {}
 _standing: Dict[str, bool] = {}
 _lock = threading.Lock()
@@ -40,28 +34,8 @@ class Program:
     found: str
 
 
-@dataclass(frozen=True)
-class Called:
-    """A call of a program: its file, its words, its status (below 0: ended by that signal), seconds, what it said."""
-
-    program: str
-    words: Tuple[str, ...]
-    status: int
-    seconds: float
-    said: str = field(repr=False)
-    errors: str = field(default="", repr=False)
-
-
 class NotFound(Exception):
     """There is no such program; the message says where it was looked for."""
-
-
-class Stopped(Exception):
-    """A call was ended before the program was done: by its event, or as its time was over."""
-
-    def __init__(self, is_late: bool) -> None:
-        super().__init__(is_late)
-        self.is_late = is_late
 
 
 def use(folder: Optional[Path] = None, **programs: Path) -> None:
@@ -109,7 +83,7 @@ def folder_of(program: str) -> Optional[str]:
 
 def clone() -> Optional[str]:
     """The clone that this package stands in, if it does."""
-    top = os.path.realpath(os.path.join(os.path.dirname(os.path.realpath(__file__)), "..", "..", ".."))
+    top = os.path.realpath(os.path.join(os.path.dirname(os.path.realpath(__file__)), "..", "..", "..", ".."))
     needed = ("crates.txt", "planner", "tools/planner_build")
     return top if all(os.path.isfile(os.path.join(top, it)) for it in needed) else None
 
@@ -163,60 +137,3 @@ def _stands(top: str, name: str) -> bool:
         _standing[key] = subprocess.run(build, stdin=subprocess.DEVNULL, stdout=subprocess.DEVNULL,
                                         stderr=subprocess.DEVNULL).returncode == 0
     return _standing[key]
-
-
-def run(program: Program, words: Tuple[str, ...], timeout: Optional[float] = None,
-        cancel: Optional[threading.Event] = None) -> Called:
-    """Runs a program to its end, and ends it where the event is set, the seconds are over, or this is interrupted.
-
-    Raises Stopped in the first two cases, and OSError where the program can't be started.
-    """
-    began = time.monotonic()
-    status, said, errors = run_words([program.path, *words], timeout, cancel)
-    return Called(program.path, words, status, time.monotonic() - began, said.decode("utf-8", "surrogateescape"),
-                  errors.decode("utf-8", "replace"))
-
-
-def run_words(words: Sequence[str], timeout: Optional[float] = None,
-              cancel: Optional[threading.Event] = None) -> Tuple[int, bytes, bytes]:
-    """The status of a call, and what it said on standard output and standard error. It raises and ends as `run`."""
-    end = None if timeout is None else time.monotonic() + timeout
-    if cancel is not None and cancel.is_set():
-        raise Stopped(False)
-    look()
-    process = subprocess.Popen(words, stdin=subprocess.DEVNULL, stdout=subprocess.PIPE, stderr=subprocess.PIPE)
-    try:
-        with ended(process):
-            said, errors = _wait(process, end, cancel)
-    except BaseException:
-        _end(process)
-        raise
-    return process.returncode, said, errors
-
-
-def _wait(process: "subprocess.Popen[bytes]", end: Optional[float],
-          cancel: Optional[threading.Event]) -> Tuple[bytes, bytes]:
-    while True:
-        left = None if end is None else max(0.0, end - time.monotonic())
-        step = left if cancel is None else LOOK if left is None else min(LOOK, left)
-        try:
-            return process.communicate(timeout=step)
-        except subprocess.TimeoutExpired:
-            if cancel is not None and cancel.is_set():
-                raise Stopped(False) from None
-            if end is not None and time.monotonic() >= end:
-                raise Stopped(True) from None
-
-
-def _end(process: "subprocess.Popen[bytes]") -> None:
-    """Ends a program at once: what it writes is in a folder of its own, which nobody sees."""
-    process.kill()
-    process.communicate()
-
-
-def signal_name(number: int) -> str:
-    """The name of a signal."""
-    try:
-        return signal.Signals(number).name
-    except ValueError:
-        return f"signal {number}"
