@@ -1,7 +1,8 @@
 """Numbers of an instance as the programs keep them, in bounded time and memory, whatever their digits and exponents.
 
 A text is first cut to 60 digits. These hold each number that an instance may have, which is below 10^8 and has 12
-decimals. Cutting moves no number across a half of 10^-12, so a number is rounded only once.
+decimals. Cutting moves no number across a half of 10^-12, so a number is rounded only once. `plain.py` stands on this
+file, which is independent on purpose: `gadvresa.model.exact` is written anew, so the two can't share a fault.
 """
 from decimal import ROUND_DOWN, ROUND_HALF_UP, Context, Decimal, Inexact, InvalidOperation, Overflow
 

@@ -1,7 +1,7 @@
 """What docs/FORMATS.md says of the borders of its texts: small instances, plans and certificates, and what is said.
 
 Each answer is worked out by hand from the page and docs/DEFINITIONS.md. `tools/verdicts_test` compares the programs and
-the plain computation with it.
+the plain computation with it. This file is independent on purpose: it imports nothing of the package `gadvresa`.
 """
 import json
 from dataclasses import dataclass

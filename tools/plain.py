@@ -1,6 +1,7 @@
 """Instances as tables, written to files and read from them; plans judged by the definitions alone, in whole numbers.
 
 What drawings, benches and checks share. Nothing here asks the program, so what it prints can be compared with this.
+This file is independent on purpose: it imports nothing of the package `gadvresa`, so the two can't share a fault.
 """
 import json
 

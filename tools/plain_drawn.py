@@ -1,7 +1,8 @@
 """The instance that a number draws, as a text: the plain counterpart of the instances that `rehearse` works on.
 
 The numbers are the successive words of a PCG generator with 64 bits of state and 32 of output, whose state and
-increment come from the seed by another one, each taken modulo what is wanted; none is skipped.
+increment come from the seed by another one, each taken modulo what is wanted; none is skipped. This file is independent
+on purpose: it imports nothing of the package `gadvresa`.
 """
 WORD = 2 ** 64 - 1
 MULTIPLIER, SEED_INCREMENT = 6364136223846793005, 11634580027462260723

@@ -2,7 +2,8 @@
 
 It is written from docs/FORMATS.md and the definitions alone, reads whole files, and looks for every fault there is
 before it takes the first. `tools/damaged_test` compares the program with it. Instances, plans, scripts and certificates
-are read as bytes; a fault is the line that the program says, without `refused`, as `instance syntax 4`.
+are read as bytes; a fault is the line that the program says, without `refused`, as `instance syntax 4`. This file is
+independent on purpose: it imports nothing of the package `gadvresa`, so the two can't share a fault.
 """
 import re
 from collections import Counter

@@ -1,4 +1,4 @@
-"""Reports as they are read: NoReport names the line that doesn't fit, and statuses are those of the launcher's table."""
+"""Reports as they are read: NoReport names the line that doesn't fit, and statuses are the launcher's."""
 import os
 import re
 
