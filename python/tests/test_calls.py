@@ -374,6 +374,20 @@ HANDLED = """import signal, sys, gadvresa
 signal.signal(signal.SIGTERM, lambda *_: sys.exit(5))
 gadvresa.solve({!r}, 10)"""
 
+# (the signal comes while the program is being started)
+STARTING = """import os, signal, subprocess, sys, gadvresa
+class Popen(subprocess.Popen):
+    def __init__(self, *words, **more):
+        super().__init__(*words, **more)
+        with open(os.environ["GADVRESA_PROGRAMS"] + "/started", "w") as note:
+            note.write(str(self.pid))
+        os.kill(os.getpid(), signal.{name})
+        os.getpid()
+subprocess.Popen = Popen
+{handler}
+gadvresa.solve({instance!r}, 10)"""
+EXITING = "signal.signal(signal.SIGTERM, lambda *_: sys.exit(5))"
+
 
 def call_elsewhere(text, tmp_path, more=()):
     """A process of Python that runs a text, with a folder of its own for all that is made for a while."""
@@ -395,6 +409,16 @@ def test_signals_end_the_program_and_leave_no_folder(program, tmp_path, text, nu
     os.kill(process.pid, number)
     assert process.communicate(timeout=60) == (None, b"") and process.returncode == status
     assert os.listdir(rooms) == [] and not is_alive(int(note.read_text()))
+
+
+@pytest.mark.parametrize("name, handler, status", [
+    ("SIGTERM", EXITING, 5), ("SIGTERM", "", -signal.SIGTERM), ("SIGINT", "", -signal.SIGINT)])
+def test_signals_end_a_program_that_is_being_started(program, tmp_path, name, handler, status):
+    program("exec sleep 100")
+    process, rooms = call_elsewhere(STARTING.format(name=name, handler=handler, instance=SUMMER), tmp_path)
+    process.communicate(timeout=60)
+    assert process.returncode == status
+    assert os.listdir(rooms) == [] and not is_alive(int((tmp_path / "started").read_text()))
 
 
 def test_signals_end_as_ever_behind_a_call(program, tmp_path):

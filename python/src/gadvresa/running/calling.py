@@ -8,7 +8,7 @@ import time
 from dataclasses import dataclass, field
 from typing import Optional, Sequence, Tuple
 
-from .ending import ended, look
+from .ending import ended, held, look
 from .finding import Program
 
 # How often a call that can be cancelled looks whether it is, in seconds.
@@ -54,12 +54,15 @@ def run_words(words: Sequence[str], timeout: Optional[float] = None,
     if cancel is not None and cancel.is_set():
         raise Stopped(False)
     look()
-    process = subprocess.Popen(words, stdin=subprocess.DEVNULL, stdout=subprocess.PIPE, stderr=subprocess.PIPE)
+    process: "Optional[subprocess.Popen[bytes]]" = None
     try:
+        with held():
+            process = subprocess.Popen(words, stdin=subprocess.DEVNULL, stdout=subprocess.PIPE, stderr=subprocess.PIPE)
         with ended(process):
             said, errors = _wait(process, end, cancel)
     except BaseException:
-        _end(process)
+        if process is not None:
+            _end(process)
         raise
     return process.returncode, said, errors
 

@@ -2,7 +2,8 @@
 
 SIGTERM and SIGHUP end a process at once, which would leave both behind. While the main thread makes a call they are
 noted, and end the process once the call has tidied up. A handler of the caller's own stays in force, and so does a
-signal that is ignored. Other threads can't do that, as a handler runs in the main thread alone.
+signal that is ignored. While a program is being started such a handler waits: it may raise, and nobody could end the
+program then. Other threads can't do that, as a handler runs in the main thread alone.
 """
 from __future__ import annotations
 
@@ -65,6 +66,21 @@ def ended(process: "subprocess.Popen[bytes]") -> Iterator[None]:
     finally:
         _running.remove(process)
     look()
+
+
+@contextlib.contextmanager
+def held() -> Iterator[None]:
+    """Has handlers of signals, that of Ctrl-C too, wait until what is done here is left, and calls them then."""
+    came: List[int] = []
+    with contextlib.ExitStack() as stack:
+        for number in (signal.SIGINT, *SIGNALS):
+            handler = signal.getsignal(number)
+            if in_main() and callable(handler):
+                signal.signal(number, lambda number, _: came.append(number))
+                stack.callback(signal.signal, number, handler)
+        yield
+    for number in dict.fromkeys(came):
+        os.kill(os.getpid(), number)
 
 
 def look() -> None:
