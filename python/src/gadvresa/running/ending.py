@@ -76,11 +76,11 @@ def held() -> Iterator[None]:
         for number in (signal.SIGINT, *SIGNALS):
             handler = signal.getsignal(number)
             if in_main() and callable(handler):
-                signal.signal(number, lambda number, _: came.append(number))
+                signal.signal(number, lambda it, _: came.append(it))
                 stack.callback(signal.signal, number, handler)
         yield
-    for number in dict.fromkeys(came):
-        os.kill(os.getpid(), number)
+    for waiting in dict.fromkeys(came):
+        os.kill(os.getpid(), waiting)
 
 
 def look() -> None:
