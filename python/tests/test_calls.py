@@ -395,8 +395,14 @@ def call_elsewhere(text, tmp_path, more=()):
     rooms.mkdir()
     variables = {**os.environ, "GADVRESA_PROGRAMS": str(tmp_path), "TMPDIR": str(rooms), "PYTHONPATH": "python/src"}
     process = subprocess.Popen([*more, sys.executable, "-c", text], env=variables, stderr=subprocess.PIPE,
-                               start_new_session=True)
+                               start_new_session=True, preexec_fn=ignore_no_signal)
     return process, rooms
+
+
+def ignore_no_signal():
+    """Has a process begin with no signal ignored, also where the tests run under `nohup` or in the background."""
+    for number in (signal.SIGINT, signal.SIGTERM, signal.SIGHUP):
+        signal.signal(number, signal.SIG_DFL)
 
 
 @pytest.mark.parametrize("text, number, status", [
