@@ -1,7 +1,7 @@
 """Files that are replaced whole or not at all: written beside, flushed, renamed, and the folder flushed behind that.
 
 Only a regular file takes the place of another one: no link, no folder, no pipe. It gets the permissions of a new file,
-by the umask.
+by the umask. A file that has another name too is left as it is, and a copy of it is put.
 """
 import contextlib
 import errno
@@ -26,10 +26,13 @@ def write_whole(path, data):
 
 
 def put_whole(beside, path):
-    """Has a file that was written beside take the place of what stands there, once all of it is on the disk. Where it
-    is on another disk a copy takes the place. Raises OSError where it is no regular file.
+    """Has a file that was written beside take the place of what stands there, once all of it is on the disk. If it is
+    on another disk, or has another name too, a copy takes the place. Raises OSError where it is no regular file.
     """
     with open_regular(beside) as file:
+        if os.fstat(file.fileno()).st_nlink > 1:
+            put_copy(file, beside, path)
+            return
         os.fchmod(file.fileno(), NEW & ~umask())
         os.fsync(file.fileno())
         try:
@@ -37,10 +40,15 @@ def put_whole(beside, path):
         except OSError as error:
             if error.errno != errno.EXDEV:
                 raise
-            with replacing(path) as copy:
-                shutil.copyfileobj(file, copy)
-            os.remove(beside)
+            put_copy(file, beside, path)
     flush_folder(os.path.dirname(path))
+
+
+def put_copy(file, beside, path):
+    """Has a copy of an open file take a place, and removes the name under which that was written."""
+    with replacing(path) as copy:
+        shutil.copyfileobj(file, copy)
+    os.remove(beside)
 
 
 @contextlib.contextmanager
@@ -72,6 +80,11 @@ def umask():
 def is_regular(path):
     """Whether a regular file stands there, and no link to one."""
     return has_form(path, stat.S_ISREG)
+
+
+def is_own(path):
+    """Whether a regular file stands there, and has no other name: to write into it changes no other file."""
+    return has_form(path, stat.S_ISREG) and os.lstat(path).st_nlink == 1
 
 
 def is_folder(path):
@@ -106,14 +119,9 @@ def remove_any(path):
 
 
 def place_copy(source, path):
-    """Has what a file holds stand under another name too, without a copy where that can be. Files are replaced whole
-    and never changed, so the two stay apart.
-    """
+    """Puts a copy of a file, with its permissions, in the place of what stands there. Neither changes the other."""
     remove_any(path)
-    try:
-        os.link(os.path.realpath(source), path)
-    except OSError:
-        shutil.copy2(source, path)
+    shutil.copy2(source, path)
 
 
 def flush_folder(folder):

@@ -4,18 +4,19 @@ It has `plan.txt` and `plan.cert`, the best plan and the certificate of the grea
 has accepted; `progress.tsv`, a line for each round; `state.json`, of which instance it is and how far it came; and
 `work`, in which the programs write. What lies there from a run that was ended at any place is looked at by the next.
 These files are regular ones, and `work` is a folder of this folder: links are refused, as whatever stands behind them
-isn't of this run.
+isn't of this run. A file that has another name elsewhere (a hard link) is read, and a new one takes its place.
 """
 import contextlib
 import fcntl
 import json
 import os
 import re
+import shutil
 from fractions import Fraction
 
 from planning.words import SLACK
-from whole_files import (BESIDE, NEW, is_folder, is_regular, open_regular, place_copy, put_whole, remove_any,
-                         write_whole)
+from whole_files import (BESIDE, NEW, is_folder, is_own, is_regular, open_regular, place_copy, put_whole, remove_any,
+                         replacing, write_whole)
 
 # Of the calls of each kind: how many there were, their seconds of a processor, and those in which they read.
 SUMS = ("calls", "processor_seconds", "reading_seconds")
@@ -117,9 +118,9 @@ class Folder:
 
     def left_over(self):
         """What an earlier run, or a queue of jobs, left in the work: files of plans, of certificates, and of parts of a
-        tree by (K, N). Links aren't looked at.
+        tree by (K, N). Links aren't looked at, and neither are files that have another name.
         """
-        names = sorted(name for name in os.listdir(self.work) if is_regular(os.path.join(self.work, name)))
+        names = sorted(name for name in os.listdir(self.work) if is_own(os.path.join(self.work, name)))
         parts = {tuple(map(int, PART.fullmatch(name).groups())): os.path.join(self.work, name)
                  for name in names if PART.fullmatch(name)}
         with_ending = lambda ending: [os.path.join(self.work, name) for name in names
@@ -147,6 +148,8 @@ class Folder:
     def note(self, row):
         """Adds a line to the progress; what was cut off of an earlier one goes."""
         path = self.file("progress.tsv")
+        if is_regular(path) and not is_own(path):
+            place_own(path)
         number = os.open(path, os.O_RDWR | os.O_CREAT | os.O_NOFOLLOW | os.O_CLOEXEC, NEW)
         try:
             size = whole_size(number)
@@ -198,6 +201,12 @@ def whole_size(number):
     begin = max(0, size - LONGEST_LINE)
     end = os.pread(number, size - begin, begin)
     return begin + end.rfind(b"\n") + 1
+
+
+def place_own(path):
+    """Has a copy of a file that has another name take its place here."""
+    with open_regular(path) as file, replacing(path) as copy:
+        shutil.copyfileobj(file, copy)
 
 
 def write_all(number, data):

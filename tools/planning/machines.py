@@ -18,7 +18,7 @@ from over_parallel import parallel_words
 from planning.running import LONGEST_SAID, Task
 from processes import end_all
 from table_text import UNREAD, stop
-from whole_files import is_regular, open_regular, place_copy, remove_any
+from whole_files import is_own, is_regular, open_regular, place_copy, remove_any
 
 HERE = os.path.dirname(os.path.abspath(__file__))
 SSH = "ssh -o BatchMode=yes -o ConnectTimeout=10 -o ServerAliveInterval=10 -o ServerAliveCountMax=3"
@@ -102,7 +102,7 @@ class Machines:
     def take_one(self, task, batch):
         """Notes what came back of a call, and when: what another machine made anew came later than any one may take."""
         said, status = f"{task.out}.said", f"{task.out}.status"
-        strange = [path for path in (task.out, said, status) if os.path.lexists(path) and not is_regular(path)]
+        strange = [path for path in (task.out, said, status) if os.path.lexists(path) and not is_own(path)]
         word, task.said, task.seconds = read_text(status, LONGEST_STATUS), "it was lost\n", batch.seconds
         task.status = LOST
         if strange:
