@@ -94,6 +94,12 @@ class Folder:
                 os.remove(self.file(name))
 
     def keep_state(self):
+        """Writes the state. A number that would be larger than any that is read stays the largest one."""
+        for name in ("seconds", "rounds"):
+            self.state[name] = min(self.state[name], MOST)
+        for name in SUMS:
+            sums = self.state.get(name, {})
+            sums.update({kind: min(number, MOST) for kind, number in sums.items()})
         write_whole(self.file(STATE), json.dumps(self.state))
 
     def take_plan(self, path):
