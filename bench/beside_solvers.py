@@ -1,4 +1,4 @@
-#!/usr/bin/env python3
+#!/usr/bin/env -S python3 -E -s
 """Sets `solve` beside mixed-integer solvers on drawn cases: one table a case.
 
     bench/beside_solvers.py [--cmd PROGRAM] [--cases "10-a1 20-a1"] [--turns "1000 10000"] [--seconds 60]

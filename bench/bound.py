@@ -1,4 +1,4 @@
-#!/usr/bin/env python3
+#!/usr/bin/env -S python3 -E -s
 """Bounds drawn cases by `bound`, times `check` of what it writes, and sets the solvers' bounds beside.
 
     bench/bound.py --cmd PLANNER --refine PROGRAM [--cases "20-a05 50-a1"] [--turns 0] [--splits] [--solved 1000]

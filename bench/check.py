@@ -1,4 +1,4 @@
-#!/usr/bin/env python3
+#!/usr/bin/env -S python3 -E -s
 """Times `check` on drawn certificates, and compares its verdicts with a plain computation of every leaf.
 
     bench/check.py [--splits "1000 10000 100000"] [--rounds 5] [--seed 1] [--program PATH]

@@ -1,4 +1,4 @@
-#!/usr/bin/env python3
+#!/usr/bin/env -S python3 -E -s
 """Times descents from the opening plans of drawn instances, and how many neighbours are judged a second.
 
     bench/descend.py [--cases "10-a1 20-a1"] [--line "NAME OPTIONS"] [--turns "1000 10000"] [--places 20000]

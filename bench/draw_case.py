@@ -1,4 +1,4 @@
-#!/usr/bin/env python3
+#!/usr/bin/env -S python3 -E -s
 """Draws an instance that has a plan which keeps all its rules: the same one for the same words.
 
     bench/draw_case.py [--interventions 50] [--periods 53] [--scenarios 20] [--resources 5] [--exclusions 25]

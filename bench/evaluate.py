@@ -1,4 +1,4 @@
-#!/usr/bin/env python3
+#!/usr/bin/env -S python3 -E -s
 """Times `evaluate` on drawn instances beside other readers of the same file, in one run.
 
     bench/evaluate.py [--sizes "60 400"] [--rounds 5] [--seed 1] [--program PATH] [--beside "NAME=COMMAND"]..

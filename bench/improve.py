@@ -1,4 +1,4 @@
-#!/usr/bin/env python3
+#!/usr/bin/env -S python3 -E -s
 """Improves plans of drawn cases by `improve` with several seeds, and sets the solvers' plans beside.
 
     bench/improve.py --cmd PLANNER --refine PROGRAM [--cases "50-a1 200-a05"] [--turns "1000"] [--seeds 3] [--solved 0]

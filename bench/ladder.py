@@ -1,4 +1,4 @@
-#!/usr/bin/env python3
+#!/usr/bin/env -S python3 -E -s
 """Times how a price list is raised on drawn instances, and sets its bound beside that of zeros and of the relaxation.
 
     bench/ladder.py [--call raise_prices] [--cases "10-a1 20-a1"] [--turns 1000] [--seconds 600] [--linear 60]

@@ -1,4 +1,4 @@
-#!/usr/bin/env python3
+#!/usr/bin/env -S python3 -E -s
 """Writes the mixed-integer program of an instance, or has a solver solve it.
 
     bench/mip.py INSTANCE --write MODEL.lp [--variant exact|mean|cvar] [--linear]

@@ -1,4 +1,4 @@
-#!/usr/bin/env python3
+#!/usr/bin/env -S python3 -E -s
 """Sets `./planner plan` beside mixed-integer solvers with the same minutes and processors: a table a case.
 
     bench/plan.py RESULTS [--only "50-a1 200-a05"] [--who "plan cbc highs"] [--jobs "1 4"] [--minutes "1 10"] [--seed 1]

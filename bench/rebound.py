@@ -1,4 +1,4 @@
-#!/usr/bin/env python3
+#!/usr/bin/env -S python3 -E -s
 """Rebounds certificates of `solve` after limits were changed, beside solving anew.
 
     bench/rebound.py --cmd PROGRAM [--cases "10-a1 20-a1"] [--turns "100 1000"] [--percent 5] [--seed 1]

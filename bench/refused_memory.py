@@ -1,4 +1,4 @@
-#!/usr/bin/env python3
+#!/usr/bin/env -S python3 -E -s
 """Runs each command on small files once for each allocation of the run, with that one refused, and prints the answers.
 
     bench/refused_memory.py [--planner PROGRAM] [--repair PROGRAM] [--refine PROGRAM] [--only "solve roll"]

@@ -1,4 +1,4 @@
-#!/usr/bin/env python3
+#!/usr/bin/env -S python3 -E -s
 """Repairs plans whose limits were tightened, and has every plan and certificate checked.
 
     bench/repair.py --cmd PLANNER --repair PROGRAM [--cases "10-a1 20-a1"] [--cells "1 3 10"]

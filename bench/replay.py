@@ -1,4 +1,4 @@
-#!/usr/bin/env python3
+#!/usr/bin/env -S python3 -E -s
 """Times the moves of `replay` on a drawn instance, and compares every key that it says with one from scratch.
 
     bench/replay.py [--scenarios "100 200 1000"] [--moves 20000] [--rounds 9] [--seed 1] [--program PATH] [--flat PATH]

@@ -1,4 +1,4 @@
-#!/usr/bin/env python3
+#!/usr/bin/env -S python3 -E -s
 """Times `roll` on a drawn instance beside `evaluate` of the same files, in one run; or compares what it writes.
 
     bench/roll.py [--size 400] [--period N] [--rounds 3] [--seed 1] [--program PATH] [--keep FOLDER]

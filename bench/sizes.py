@@ -1,4 +1,4 @@
-#!/usr/bin/env python3
+#!/usr/bin/env -S python3 -E -s
 """Runs the built program on texts at the limits of size, one past them, and on hostile ones, and prints what they cost.
 
     bench/sizes.py --program PROGRAM [--part limits|files|hostile] [--only "TEXT|TEXT"] [--without "TEXT|TEXT"]

@@ -1,4 +1,4 @@
-#!/usr/bin/env python3
+#!/usr/bin/env -S python3 -E -s
 """Solves drawn instances with several numbers of turns, and has every plan and certificate checked.
 
     bench/solve.py --cmd PROGRAM [--cases "10-a1 20-a1"] [--turns "100 1000 10000"] [--seconds 600]

@@ -78,7 +78,7 @@ class Machines:
             words += ["--transferfile", name]
         words += ["--transferfile", "{}.task", "--return", "{}", "--return", "{}.said", "--return", "{}.status"]
         words += [f"sh ./one_task {limits[0]} {{}}", ":::", *names]
-        return Task(f"{tasks[0].kind} on {self.count} machines", [sys.executable, *words], slots=1,
+        return Task(f"{tasks[0].kind} on {self.count} machines", [sys.executable, "-E", "-s", *words], slots=1,
                     details={"folder": self.work, "of": tasks, "limit": limits[1], "environment": self.environment()})
 
     def limits(self, kind, seconds, files):

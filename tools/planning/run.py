@@ -29,6 +29,8 @@ from whole_files import is_regular, remove_any
 SOLVE, MORE, FIRST_IMPROVE, FIRST_BOUND, LEAST_BOUND = 1000, 4, 200, 0, 100
 # Of how many rounds the gain of a lane is looked at, and the least part that each lane gets.
 LOOKED_AT, LEAST_SHARE = 2, 0.1
+# How scripts are started: no module of the caller's folder or variables takes the place of another one.
+PYTHON = [sys.executable, "-E", "-s"]
 JOIN = os.path.join(os.path.dirname(os.path.dirname(os.path.abspath(__file__))), "join")
 # How many leaves a part of a tree has at least, how many parts there are at least where `improve` wants processors, and
 # how many price lists there can be.
@@ -688,7 +690,7 @@ class Run:
     def join_task(self, common, parts, name):
         joined = os.path.join(self.folder.work, f"{name}.cert")
         words = [f"{one}/{count}={path}" for (one, count), path in parts.items()]
-        return Task("join", [sys.executable, JOIN, common, joined, *words], out=joined)
+        return Task("join", [*PYTHON, JOIN, common, joined, *words], out=joined)
 
     def claim(self, joined, number):
         """Has `bound` claim what the leaves of a joined certificate prove together, which is more than what the parts
