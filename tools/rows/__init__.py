@@ -3,7 +3,13 @@ from __future__ import annotations
 
 from typing import Dict, List
 
-from . import evaluate
+from . import check, evaluate, instances, replay, table
 from .case import Case
 
-SUBJECTS: Dict[str, List[Case]] = {module.__name__.rpartition(".")[2]: module.CASES for module in (evaluate,)}
+SUBJECTS: Dict[str, List[Case]] = {
+    "instances": instances.CASES,
+    "evaluate": evaluate.CASES,
+    "check": check.CASES,
+    "replay": replay.CASES,
+    "table": table.CASES,
+}
