@@ -3,7 +3,7 @@ from __future__ import annotations
 
 from typing import Dict, List
 
-from . import check, evaluate, instances, replay, table
+from . import check, evaluate, instances, refine, repair, replay, table, writing
 from .case import Case
 
 SUBJECTS: Dict[str, List[Case]] = {
@@ -12,4 +12,7 @@ SUBJECTS: Dict[str, List[Case]] = {
     "check": check.CASES,
     "replay": replay.CASES,
     "table": table.CASES,
+    "writing": writing.CASES,
+    "repair": repair.CASES,
+    "refine": refine.CASES,
 }
