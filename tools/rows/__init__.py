@@ -3,7 +3,7 @@ from __future__ import annotations
 
 from typing import Dict, List
 
-from . import check, evaluate, instances, refine, repair, replay, table, writing
+from . import check, evaluate, instances, refine, repair, replay, table, words, writing
 from .case import Case
 
 SUBJECTS: Dict[str, List[Case]] = {
@@ -15,4 +15,5 @@ SUBJECTS: Dict[str, List[Case]] = {
     "writing": writing.CASES,
     "repair": repair.CASES,
     "refine": refine.CASES,
+    "words": words.CASES,
 }

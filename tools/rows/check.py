@@ -36,7 +36,8 @@ TWO_UNITS = "2000000000000000000"
 
 WITHOUT_PLAN = [
     checked("the least scores of both, added", BOTH, t.BANDED, t.ROOT, 0, t.ACCEPTED),
-    refused("a leaf with a cost that says that there is no plan", BOTH, t.BANDED, with_tree("none", "cost 0"), "leaf 1"),
+    refused("a leaf with a cost, and the claim that no plan is there", BOTH, t.BANDED, with_tree("none", "cost 0"),
+            "leaf 1"),
     checked("a tail", BOTH, t.ONE, with_list(1, "1500000000000000000", "tail 1 1000 2"), 0,
             t.accepted("1500000000000000000", "1.500000000000")),
     refused("a tail that the leaf doesn't name", BOTH, t.ONE,
@@ -69,7 +70,8 @@ WITHOUT_PLAN = [
     checked("version 3", NEWER, t.SURE_BANDED, t.NEW_3, 0, t.ACCEPTED),
     refused("version 3 by the program of versions 1 and 2", OLDER, t.SURE_BANDED, t.NEW_3, "bad line 1"),
     checked("a clique", NEWER, t.SURE_EXCLUDED, with_list(3, TWO_UNITS, "clq 1 2000000 1 2"), 0, t.ACCEPTED),
-    refused("a clique in version 2", NEWER, t.SURE_EXCLUDED, with_list(2, TWO_UNITS, "clq 1 2000000 1 2"), "bad line 5"),
+    refused("a clique in version 2", NEWER, t.SURE_EXCLUDED, with_list(2, TWO_UNITS, "clq 1 2000000 1 2"),
+            "bad line 5"),
     checked("a tail, version 3", NEWER, t.ONE, with_list(3, "1500000000000000000", "tail 1 2 1000"), 0,
             t.accepted("1500000000000000000", "1.500000000000")),
     refused("a tail, version 3, and a bound of 1 more", NEWER, t.ONE,

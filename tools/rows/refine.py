@@ -28,7 +28,8 @@ def some_bound(splits: int) -> Around:
 def split(what: str, part: str, tree: bytes) -> Case:
     """A part of HALVES is split; what is written has this in its tree, and is valid."""
     return case(what, files(t.SURE_BANDED, t.APART, t.HALVES),
-                Call(REFINE, f"bound I - C O 1 slack=0 {part}", 0, some_bound(1), {"O": around(b"mpcert 3\n", tree, b"")}),
+                Call(REFINE, f"bound I - C O 1 slack=0 {part}", 0, some_bound(1),
+                     {"O": around(b"mpcert 3\n", tree, b"")}),
                 Call(REFINE, "check I - O", 0, around(b"accepted\nbound ", b"\nbound-cost ", b"\nrounded 0\n")))
 
 
@@ -83,7 +84,7 @@ def improved(what: str, plan: bytes, before: str, changed: int, name: str = "P")
     return case(what, files(t.SURE_BANDED, plan), Call(REFINE, f"improve I {name} O 1 7", 0, said, {"O": t.APART}))
 
 
-# The greatest overload of 10^12 in all: both are together, or each is 1 above its limit.
+# The least overload that was met is 2: both are together, or each is 1 above its limit.
 NOTHING_FOUND = lines("nothing found", "violation 2000000000000", "rounded 0")
 IMPROVEMENTS = [
     improved("the best plan is kept", t.APART, "2000000000000000000", 0),

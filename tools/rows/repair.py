@@ -28,7 +28,8 @@ REPAIRS = [
 
 # The tree bounds changes from both at once by 1; a bound is rounded up to whole changes.
 AUDITS = [
-    case(f"a bound of {bound}", {"I": t.SURE_BANDED, "P": t.TOGETHER, "C": lines("mpcert 1", f"bound {bound}", *t.TREE)},
+    case(f"a bound of {bound}",
+         {"I": t.SURE_BANDED, "P": t.TOGETHER, "C": lines("mpcert 1", f"bound {bound}", *t.TREE)},
          Call(REPAIR, "audit I P C", status, lines(*said)))
     for bound, status, said in (
         ("1000000000000000000", 0, ("accepted", "least 1", "rounded 0")),

@@ -1,8 +1,10 @@
 """Rows of `roll`, `rebound`, `solve` and `rehearse`: what is written is then read again."""
 from __future__ import annotations
 
+from typing import Dict
+
 from . import texts as t
-from .case import ANY, PLANNER, REFINE, Call, Case, around, case, lines
+from .case import ANY, PLANNER, REFINE, Call, Text, around, case, lines
 
 # ---- roll
 
@@ -65,7 +67,7 @@ FOUND = around(lines("plan found", "score 2000000000000000000", "bound 200000000
                      f"excess {t.NOTHING}") + b"splits ", b"\nmoves ", b"\nrounded 0\n")
 SURE_REPORT = t.feasible("2000000000000000000", "1.000000000000 1.000000000000", "1.000000000000 1.000000000000",
                          t.NOTHING)
-MADE = {"P": t.APART, "C": ANY, "M": ANY}
+MADE: Dict[str, Text] = {"P": t.APART, "C": ANY, "M": ANY}
 SOLUTIONS = [
     case("a solution without turns has a certificate alone", {"I": t.SURE_BANDED},
          Call(PLANNER, "solve I P C M 0", 9, around(b"nothing found\nbound ", b"\nsplits 0\nmoves 0\nrounded 0\n"),
