@@ -4,9 +4,10 @@ ghost use Rattle.std.specs.Prelude.{◌≤◌};
 
 use crate::samples::{BANDED, STARTLESS, desk, holds};
 use command_frame::Source;
-use command_rebound::rebound_files;
+use command_rebound::{rebound_files, rebound_files_by};
 use instance_model::Limits;
 use plan_desk::{DeskCall, MemDesk};
+use refined_files::VersionedCertificate;
 use std::alloc::Global;
 use std::test::Fail;
 
@@ -34,6 +35,10 @@ const UNBOUNDED: &str =
 const NARROW: &str =
     "mpcert 1\nbound 2000000000000000000\nlists 0\ntree\nsplit 1 1\nsplit 2 1\nband 1 1 over\npoint\ncost 0\n";
 
+/// The same in version 3.
+const REFINED: &str =
+    "mpcert 3\nbound 2000000000000000000\nlists 0\ntree\nsplit 1 1\nsplit 2 1\nband 1 1 over\npoint\ncost 0\n";
+
 /// What they become in the wider one.
 const WIDE: &str = "mpcert 1\nbound 0\nlists 0\ntree\nsplit 1 1\nsplit 2 1\npoint\npoint\ncost 0\n";
 
@@ -54,6 +59,21 @@ fn rebind(alloc: Global, bytes: u64, desk: &mut MemDesk) -> u8
         ..Limits::standard()
     };
     rebound_files(alloc, &limits, &source, "C", "O", desk)
+}
+
+/// The same to a certificate of version 3.
+fn rebind_refined(alloc: Global, bytes: u64, desk: &mut MemDesk) -> u8
+    requires { bytes ≤ 268_435_456 }
+{
+    let source = Source {
+        instance: "I",
+        slack: 0,
+    };
+    let limits = Limits {
+        certificate_bytes: bytes,
+        ..Limits::standard()
+    };
+    rebound_files_by::<VersionedCertificate, MemDesk>(alloc, &limits, &source, "C", "O", desk)
 }
 
 #[test]
@@ -104,6 +124,18 @@ fn a_text_above_the_limit_is_refused(rt: HostRuntime) -> Result<(), Fail> {
     assert_eq!(rt; rebind(alloc, 95, &mut fits), 0);
     assert_eq!(rt; fits.spoken(), NARROW_REPORT);
     assert!(rt; holds(&fits, "O", NARROW.as_bytes()));
+    Ok(())
+}
+
+#[test]
+fn a_text_of_version_three_above_the_limit_is_refused(rt: HostRuntime) -> Result<(), Fail> {
+    let alloc = rt.alloc();
+    let mut desk = desk(alloc, BANDED, "C", UNBOUNDED)?;
+    assert_eq!(rt; rebind_refined(alloc, 94, &mut desk), 12);
+    assert_eq!(rt; desk.spoken(), b"refused output too long 4\n".as_slice());
+    assert!(rt; desk.file("O").is_none());
+    assert_eq!(rt; rebind_refined(alloc, 95, &mut desk), 0);
+    assert!(rt; holds(&desk, "O", REFINED.as_bytes()));
     Ok(())
 }
 

@@ -13,7 +13,7 @@ use std::alloc::{AllocError, Global};
 use std::test::Fail;
 
 /// Two interventions that may start in either of two periods, and two scenarios a period.
-const TWO: &str = r#"{"Resources":{"c":{"max":[10,10],"min":[0,0]}},"Seasons":{},
+pub(crate) const TWO: &str = r#"{"Resources":{"c":{"max":[10,10],"min":[0,0]}},"Seasons":{},
 "Interventions":{
 "I1":{"tmax":2,"Delta":[1,1],
 "workload":{"c":{"1":{"1":6},"2":{"2":6}}},
