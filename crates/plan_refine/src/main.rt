@@ -10,8 +10,6 @@ ghost use Rattle.std.specs.declared.io.ErrorKind.TheVariants.{OutOfMemory};
 
 mod laws;
 mod run;
-#[cfg(test)]
-mod tests;
 mod words;
 
 pub use laws::{commands_go_by_name, refined_runs_are_complete};

@@ -9,8 +9,6 @@ ghost use Rattle.std.specs.declared.io.ErrorKind.TheVariants.{OutOfMemory};
 
 mod laws;
 mod run;
-#[cfg(test)]
-mod tests;
 mod words;
 
 pub use laws::{commands_go_by_name, repairs_are_complete};

@@ -7,27 +7,9 @@ ghost use Rattle.std.specs.Prelude.{◌≡◌, ◌≢◌};
 ghost use Rattle.std.specs.IoError.{error_kind};
 ghost use Rattle.std.specs.declared.io.ErrorKind.TheVariants.{OutOfMemory};
 
-#[cfg(test)]
-mod check_tests;
-#[cfg(test)]
-mod desk_tests;
 mod laws;
-#[cfg(test)]
-mod output_tests;
-#[cfg(test)]
-mod rehearse_tests;
-#[cfg(test)]
-mod replay_tests;
 mod run;
-#[cfg(test)]
-mod solve_tests;
-#[cfg(test)]
-mod table_tests;
-#[cfg(test)]
-mod tests;
 mod words;
-#[cfg(test)]
-mod words_tests;
 
 pub use laws::{commands_go_by_name, runs_are_complete};
 use plan_desk::RealDesk;
