@@ -3,7 +3,7 @@
 
 ghost use Rattle.std.specs.Prelude.{◌≡◌, ◌<◌};
 
-use crate::samples::{GOOD, PIECES, REORDERED, of_file, slack};
+use crate::instances::samples::{GOOD, PIECES, REORDERED, of_file, slack};
 use fixed_num::Steps;
 use instance_model::{Exclusion, Instance, Limits};
 use instance_read::{StreamFault, read_instance};

@@ -3,7 +3,7 @@
 ghost use Rattle.std.specs.Prelude.{◌<◌};
 ghost use Rattle.json_events.specs.Pulls.{IsUnfinished};
 
-use crate::samples::samples;
+use crate::json::samples::samples;
 use json_events::{Pull, Pulled};
 use json_grammar::{Event, Node, NumText, TextFault, Tree};
 use json_tree::read_tree;

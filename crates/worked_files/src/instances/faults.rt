@@ -3,7 +3,7 @@
 ghost use Rattle.std.specs.Prelude.{◌<◌};
 ghost use Rattle.instance_shape.specs.Ranges.{AreStandard};
 
-use crate::samples::{GOOD, PIECES, of_file, slack};
+use crate::instances::samples::{GOOD, PIECES, of_file, slack};
 use instance_model::Limits;
 use instance_read::{InstanceFault, StreamFault, read_instance};
 use instance_rows::{CrossFault, RowsFault};

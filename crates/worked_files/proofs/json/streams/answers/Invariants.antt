@@ -1,5 +1,5 @@
 use Rattle.json_events.specs.Pulls.{IsUnfinished}
-use Rattle.worked_json.proofs.streams.answers.Given as goal
+use Rattle.worked_files.proofs.json.streams.answers.Given as goal
 
 abbrev pub invariant-loop-piece : goal.invariant-loop-piece
 invariant-loop-piece l = IsUnfinished l.pull

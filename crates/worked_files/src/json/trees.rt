@@ -1,6 +1,6 @@
 //! Trees of whole texts.
 
-use crate::samples::samples;
+use crate::json::samples::samples;
 use json_grammar::{Member, Node, Text, TextFault, Tree};
 use json_tree::read_tree;
 use std::alloc::{AllocError, Global};

@@ -1,5 +1,5 @@
 use Rattle.json_events.specs.Pulls.{IsUnfinished}
-use Rattle.worked_json.proofs.streams.add_due.Given as goal
+use Rattle.worked_files.proofs.instances.walks.follow.Given as goal
 
 abbrev pub invariant-loop : goal.invariant-loop
 invariant-loop l = IsUnfinished l.pull
