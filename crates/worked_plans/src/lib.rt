@@ -1,7 +1,8 @@
-//! Plans judged on hand-made instances: a caller of `judge` that speaks in the subject's words.
+//! Plans judged, reported and read as texts, on hand-made instances: callers of `judge` and of the reports by period.
 //!
-//! The tests are worked rows: bands, seasons, exclusions, starts, ranks and values, all over small instances; and what
-//! these stand on, numbers and windows of periods.
+//! The tests are worked rows: bands, seasons, exclusions, starts, ranks and values, all over small instances; what
+//! these stand on, numbers and windows of periods; reports, said to a desk in memory; and the texts of plans, scripts
+//! and certificates, line by line.
 #![tactic(auto)]
 
 #[cfg(test)]
@@ -15,6 +16,9 @@ mod numbers;
 mod sketches;
 #[cfg(test)]
 mod starts;
+mod tables;
+#[cfg(test)]
+mod texts;
 #[cfg(test)]
 mod values;
 #[cfg(test)]
@@ -23,3 +27,4 @@ mod verdicts;
 mod windows;
 
 pub use kept::keeps_rules;
+pub use tables::is_feasible;

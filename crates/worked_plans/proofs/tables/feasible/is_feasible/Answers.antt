@@ -1,7 +1,7 @@
 use Rattle.std.proofs.Common.{◌+◌, ◌∙◌, sym, arith, true, false}
-use Rattle.worked_tables.proofs.FeasibleLemmas.{shown_by_definition, shown_by_report, feasible_from_shown}
-use Rattle.worked_tables.proofs.FeasibleLemmas.{shown_from_feasible, shown_more}
-use Rattle.worked_tables.proofs.feasible.is_feasible.Goals as goal
+use Rattle.worked_plans.proofs.FeasibleLemmas.{shown_by_definition, shown_by_report, feasible_from_shown}
+use Rattle.worked_plans.proofs.FeasibleLemmas.{shown_from_feasible, shown_more}
+use Rattle.worked_plans.proofs.tables.feasible.is_feasible.Goals as goal
 
 pub returns-then-not-has_no_fault-clause-wherever_feasible : goal.returns-then-not-has_no_fault-clause-wherever_feasible
 returns-then-not-has_no_fault-clause-wherever_feasible c feasible =

@@ -1,5 +1,5 @@
-use Rattle.worked_texts.proofs.MoveLemmas.{three_known, three_small}
-use Rattle.worked_texts.proofs.scripts.writes_a_line_each.Goals as goal
+use Rattle.worked_plans.proofs.MoveLemmas.{three_known, three_small}
+use Rattle.worked_plans.proofs.texts.scripts.writes_a_line_each.Goals as goal
 
 pub write_to_file-requires-clause-known : goal.write_to_file-requires-clause-known
 write_to_file-requires-clause-known g c =

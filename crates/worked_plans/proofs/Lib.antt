@@ -1,1 +1,2 @@
 mod FeasibleLemmas
+pub mod MoveLemmas

@@ -4,7 +4,8 @@ ghost use Rattle.std.specs.Prelude.{IsTrue};
 ghost use Rattle.small_instances.specs.Sketches.{is_fitting};
 
 use crate::is_feasible;
-use instance_model::{Exclusion, Instance};
+use crate::sketches::{BOTH, ONE, PAIR, SINGLE};
+use instance_model::Instance;
 use plan_desk::MemDesk;
 use plan_table::{period_report, say_report};
 use small_instances::{Sketch, are_allowed, instance};
@@ -12,60 +13,20 @@ use std::alloc::{AllocError, Global};
 use std::process::Abort;
 use std::test::Fail;
 
-/// The count of 1.
-const ONE: i64 = 1_000_000_000_000;
-
-/// Two interventions of one period each, of which either start takes 6 of the one resource.
-const PAIR: Sketch<'static> = Sketch {
-    periods: 2,
-    alpha: 500_000,
-    quantile: 500_000,
-    scenarios: &[2, 2],
-    resources: 1,
-    upper: &[10 * ONE, 10 * ONE],
-    lower: &[0, 0],
-    seasons: 0,
-    in_season: &[],
-    delta: &[&[1, 1], &[1, 1]],
-    excluded: &[],
-    loads: &[
-        &[(1, 1, 0, 6 * ONE), (2, 2, 0, 6 * ONE)],
-        &[(1, 1, 0, 6 * ONE), (2, 2, 0, 6 * ONE)],
-    ],
-    risks: &[ONE, 3 * ONE, 5 * ONE, 5 * ONE, 2 * ONE, 2 * ONE, 4 * ONE, 0],
-    soft: &[false, false, false, false],
-};
-
 /// The two exclude each other in period 2 alone, and both are needed in period 1.
 const LATE: Sketch<'static> = Sketch {
     upper: &[12 * ONE, 12 * ONE],
     lower: &[ONE, 0],
     seasons: 1,
     in_season: &[false, true],
-    excluded: &[Exclusion {
-        first: 0,
-        second: 1,
-        season: 0,
-    }],
+    excluded: &[BOTH],
     ..PAIR
 };
 
 /// One intervention in one period at a soft start, in three scenarios.
 const ROUNDED: Sketch<'static> = Sketch {
-    periods: 1,
-    alpha: 1_000_000,
-    quantile: 1_000_000,
-    scenarios: &[3],
-    resources: 0,
-    upper: &[],
-    lower: &[],
-    seasons: 0,
-    in_season: &[],
-    delta: &[&[1]],
-    excluded: &[],
-    loads: &[&[]],
-    risks: &[-ONE, -2 * ONE, -2 * ONE],
     soft: &[true],
+    ..SINGLE
 };
 
 /// Whether the report of period `t` says this text; none where there is no such report.

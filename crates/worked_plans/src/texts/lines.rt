@@ -1,5 +1,5 @@
 //! Texts cut, read as numbers, and looked up among the names N1 and N2.
-use crate::samples::two_names;
+use crate::texts::samples::two_names;
 use std::test::Fail;
 use text_lines::{find_name, numeral, split_feed, split_line, split_once, value_of_digits};
 

@@ -4,7 +4,7 @@ ghost use Rattle.plan_moves.specs.Scripts.{NamesKnown, line_of};
 ghost use Rattle.plan_moves.specs.declared.change.Change.TheVariants.{Move, Swap};
 ghost use Rattle.move_script.specs.Spelling.{HasSmallStart};
 
-use crate::samples::two_names;
+use crate::texts::samples::two_names;
 use instance_model::Instance;
 use move_script::{ScriptFault, read_script, write_moves};
 use plan_desk::{Desk, Failed, MemDesk};

@@ -1,7 +1,7 @@
 //! Plans read and written, over the interventions N1 and N2.
 ghost use Rattle.std.specs.Prelude.{◌≡◌, length};
 
-use crate::samples::two_names;
+use crate::texts::samples::two_names;
 use instance_model::Instance;
 use plan_desk::{Desk, Failed, MemDesk};
 use plan_text::{PlanFault, read_plan, write_plan};
