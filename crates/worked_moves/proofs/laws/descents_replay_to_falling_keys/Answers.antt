@@ -1,5 +1,0 @@
-use Rattle.worked_moves.proofs.FallLemmas.{descents_replay_falling}
-use Rattle.worked_moves.proofs.laws.descents_replay_to_falling_keys.Goals as goal
-
-pub returns : goal.returns
-returns c = descents_replay_falling

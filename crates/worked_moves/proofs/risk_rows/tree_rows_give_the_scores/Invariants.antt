@@ -1,4 +1,0 @@
-use Rattle.worked_moves.proofs.risk_rows.tree_rows_give_the_scores.Given as goal
-
-abbrev pub ghosts-gives_the_scores : goal.ghosts-gives_the_scores
-ghosts-gives_the_scores g a = record { name = a.blank.name; parts = a.blank.parts }
