@@ -21,7 +21,7 @@ import cases
 import scratch
 from descend import READING, READING_PROOFS, seconds_between
 
-USES = ["worked_ladders", "price_ladder", "lagrange_bound", "local_search", "plan_moves", "quantile_index",
+USES = ["worked_bounds", "price_ladder", "lagrange_bound", "local_search", "plan_moves", "quantile_index",
         "instance_read", "instance_model", "fixed_num", "anyhow"]
 
 SOURCE = '''//! Raises a price list for the plan at the end of a descent.
@@ -42,7 +42,7 @@ use quantile_index::{Row, TreeRow};
 use std::alloc::{AllocError, Global};
 use std::time::CpuClock;
 use std::{env, fs};
-use worked_ladders::root_worth;
+use worked_bounds::root_worth;
 ''' + READING + '''
 fn present_starts<R: Row>(alloc: Global, kept: &Kept<'_, R>) -> Result<Vec<u32>, AllocError> {
     let mut starts = Vec::new(alloc);

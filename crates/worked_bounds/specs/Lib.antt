@@ -1,0 +1,3 @@
+-- What the contracts of a bound by raised prices and of an audit say.
+pub mod Bounding
+pub mod Audited
