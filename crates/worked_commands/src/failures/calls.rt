@@ -1,7 +1,7 @@
 //! The table of failing calls: each kind, each call of it that a run makes, and each command.
 
-use crate::commands::{COMMANDS, Command, OLD, fresh_desk};
-use crate::due::{Case, Ran, are_all};
+use crate::failures::commands::{COMMANDS, Command, OLD, fresh_desk};
+use crate::failures::due::{Case, Ran, are_all};
 use plan_desk::DeskCall;
 use std::alloc::{AllocError, Global};
 use std::test::Fail;

@@ -1,5 +1,6 @@
 //! The commands of the programs, over the same files in memory.
 
+use crate::samples::BANDED;
 use branch_search::Part;
 use command_audit::audit_files;
 use command_bound::bound_files;
@@ -20,19 +21,7 @@ use quantile_index::TreeRow;
 use refined_files::VersionedCertificate;
 use std::alloc::{AllocError, Global};
 
-/// Two interventions that are too much together, and one scenario a period.
-const INSTANCE: &str = r#"{"Resources":{"c":{"max":[10,10],"min":[0,0]}},"Seasons":{},
-"Interventions":{
-"I1":{"tmax":2,"Delta":[1,1],
-"workload":{"c":{"1":{"1":6},"2":{"2":6}}},
-"risk":{"1":{"1":[0]},"2":{"2":[4]}}},
-"I2":{"tmax":2,"Delta":[1,1],
-"workload":{"c":{"1":{"1":6},"2":{"2":6}}},
-"risk":{"1":{"1":[0]},"2":{"2":[2]}}}},
-"Exclusions":{},"T":2,"Scenarios_number":[1,1],
-"Quantile":1,"Alpha":1}"#;
-
-/// A certificate of that, with a bound that no change of a start lowers.
+/// A certificate of `BANDED`, with a bound that no change of a start lowers.
 const CERTIFICATE: &str =
     "mpcert 1\nbound 0\nlists 0\ntree\nsplit 1 1\nsplit 2 1\nband 1 1 over\ncost 0\ncost 0\n";
 
@@ -44,7 +33,7 @@ pub(crate) const OLD: &str = "old\n";
 
 /// The files of a desk with their texts. Those behind the certificates may be written.
 pub(crate) const FILES: [(&str, &str); 8] = [
-    ("I", INSTANCE),
+    ("I", BANDED),
     ("P", "I1 1\nI2 2\n"),
     ("S", "swap I1 I2\nundo\n"),
     ("C", CERTIFICATE),

@@ -1,6 +1,6 @@
 //! What a run leaves of which one call failed, from the kind of the call alone.
 
-use crate::commands::{Command, FILES, OLD, PIECE, Word};
+use crate::failures::commands::{Command, FILES, OLD, PIECE, Word};
 use plan_desk::{DeskCall, MemDesk};
 use std::alloc::{AllocError, Global};
 

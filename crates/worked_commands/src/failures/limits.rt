@@ -1,7 +1,7 @@
 //! Reads that fail of a file that is refused for another cause too.
 
-use crate::commands::{ANY, COMMANDS, Command, OLD, fresh_desk, rebound, roll};
-use crate::due::reads_of;
+use crate::failures::commands::{ANY, COMMANDS, Command, OLD, fresh_desk, rebound, roll};
+use crate::failures::due::reads_of;
 use plan_desk::{DeskCall, MemDesk};
 use std::alloc::{AllocError, Global};
 use std::test::Fail;
