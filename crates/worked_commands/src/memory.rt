@@ -59,7 +59,10 @@ fn memory_may_run_out_for_a_bound(rt: HostRuntime) -> Result<(), Fail> {
         &mut desk,
     );
     let report = "bound 2000000000000000000\nscore 2000000000000000000\ngap 0\nlists ";
-    assert!(rt; desk.spoken().starts_with(told(status, report).as_bytes()), "{status}");
+    assert!(rt;
+        desk.spoken().starts_with(told(status, report).as_bytes()),
+        "{status}"
+    );
     Ok(())
 }
 
@@ -67,9 +70,11 @@ fn memory_may_run_out_for_a_bound(rt: HostRuntime) -> Result<(), Fail> {
 fn memory_may_run_out_for_an_improvement(rt: HostRuntime) -> Result<(), Fail> {
     let alloc = rt.alloc();
     let mut desk = desk(alloc, BANDED, "P", "I1 2\nI2 1\n")?;
-    let status =
-        improve_files::<TreeRow, _>(alloc, &SOURCE, Some("P"), "O", 1, 7, &mut desk);
+    let status = improve_files::<TreeRow, _>(alloc, &SOURCE, Some("P"), "O", 1, 7, &mut desk);
     let report = "plan improved\nscore 2000000000000000000\nbefore 4000000000000000000\n";
-    assert!(rt; desk.spoken().starts_with(told(status, report).as_bytes()), "{status}");
+    assert!(rt;
+        desk.spoken().starts_with(told(status, report).as_bytes()),
+        "{status}"
+    );
     Ok(())
 }

@@ -10,8 +10,7 @@ use std::test::Fail;
 const CERTIFICATE: &str =
     "mpcert 1\nbound 2000000000000000000\nlists 0\ntree\nsplit 1 1\nsplit 2 1\nband 1 1 over\ncost 0\ncost 0\n";
 
-const FEASIBLE: &str =
-    "feasible\nscore 2000000000000000000\ncost 1.000000000000 1.000000000000\n\
+const FEASIBLE: &str = "feasible\nscore 2000000000000000000\ncost 1.000000000000 1.000000000000\n\
         mean 1.000000000000 1.000000000000\nexcess 0.000000000000 0.000000000000\nrounded 0\n";
 
 const ACCEPTED: &str =
@@ -30,7 +29,11 @@ fn pieces_of_each_size_are_judged_alike(rt: HostRuntime) -> Result<(), Fail> {
         desk.read_by(most);
         assert_eq!(rt; evaluate_files(alloc, &source, "P", &mut desk), 0, "{most}");
         assert_eq!(rt; desk.spoken(), FEASIBLE.as_bytes(), "{most}");
-        assert_eq!(rt; check_files(alloc, &source, Some("P"), "C", &mut desk), 0, "{most}");
+        assert_eq!(rt;
+            check_files(alloc, &source, Some("P"), "C", &mut desk),
+            0,
+            "{most}"
+        );
         assert!(rt; desk.spoken().ends_with(ACCEPTED.as_bytes()), "{most}");
     }
     Ok(())

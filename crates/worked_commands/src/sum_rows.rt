@@ -81,7 +81,10 @@ fn rows_hold_the_keys(rt: HostRuntime) -> Result<(), Fail> {
     assert!(rt; is_replayed::<FlatRow>(alloc, 6, KEYS)?);
     assert!(rt; is_replayed::<NoRow>(alloc, 11, MEMORY)?);
     let mut desk = MemDesk::make(alloc);
-    assert_eq!(rt; rehearse_drawn::<NoRow, MemDesk>(alloc, 7, 40, &mut desk), 11);
+    assert_eq!(rt;
+        rehearse_drawn::<NoRow, MemDesk>(alloc, 7, 40, &mut desk),
+        11
+    );
     Ok(())
 }
 
@@ -94,7 +97,10 @@ fn rows_hold_the_sums_of_a_descent(rt: HostRuntime) -> Result<(), Fail> {
         certificate: "C",
         trail: "M",
     };
-    assert_eq!(rt; solve_files::<NoRow, MemDesk>(alloc, &SOURCE, &files, 3, &mut desk), 11);
+    assert_eq!(rt;
+        solve_files::<NoRow, MemDesk>(alloc, &SOURCE, &files, 3, &mut desk),
+        11
+    );
     assert_eq!(rt; desk.spoken(), MEMORY);
     assert!(rt; desk.file("C").is_none() && desk.file("M").is_none());
     Ok(())
