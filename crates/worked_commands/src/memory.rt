@@ -8,6 +8,7 @@ use command_evaluate::evaluate_files;
 use command_frame::Source;
 use command_improve::improve_files;
 use instance_model::Limits;
+use plan_desk::MemDesk;
 use quantile_index::TreeRow;
 use std::test::Fail;
 
@@ -70,7 +71,7 @@ fn memory_may_run_out_for_a_bound(rt: HostRuntime) -> Result<(), Fail> {
 fn memory_may_run_out_for_an_improvement(rt: HostRuntime) -> Result<(), Fail> {
     let alloc = rt.alloc();
     let mut desk = desk(alloc, BANDED, "P", "I1 2\nI2 1\n")?;
-    let status = improve_files::<TreeRow, _>(alloc, &SOURCE, Some("P"), "O", 1, 7, &mut desk);
+    let status = improve_files::<TreeRow, MemDesk>(alloc, &SOURCE, Some("P"), "O", 1, 7, &mut desk);
     let report = "plan improved\nscore 2000000000000000000\nbefore 4000000000000000000\n";
     assert!(rt;
         desk.spoken().starts_with(told(status, report).as_bytes()),
