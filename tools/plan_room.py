@@ -94,6 +94,20 @@ def do(out=None):
         if word == "sleep":
             open(os.path.join(told, f"at-{{command}}-{{os.getpid()}}"), "w").close()
             time.sleep(float(doing[at + 1]))
+        if word == "closed":
+            # (goes on behind its output)
+            open(os.path.join(told, f"at-{{command}}-{{os.getpid()}}"), "w").close()
+            os.close(1)
+            time.sleep(600)
+        if word == "held" and os.fork() == 0:
+            # (a child holds the output)
+            signal.signal(signal.SIGTERM, signal.SIG_IGN)
+            time.sleep(600)
+            os._exit(0)
+        if word == "flood":
+            signal.signal(signal.SIGTERM, signal.SIG_IGN)
+            while True:
+                os.write(2, b"x" * 65536)
         if word == "status":
             end(int(doing[at + 1]), "refused memory\n" if doing[at + 1] == "11" else "")
         if word == "kill":

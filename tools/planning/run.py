@@ -10,6 +10,7 @@ A lane is a generator: it hands out the calls of programs that it waits for, and
 """
 import collections
 import hashlib
+import math
 import os
 import shlex
 import sys
@@ -37,6 +38,8 @@ JOIN = os.path.join(os.path.dirname(os.path.dirname(os.path.abspath(__file__))),
 LEAVES_OF_PART, LEAST_PARTS, MOST_LISTS = 4, 4, 16
 # What `bound` answers where it knows the words of a call of which there is no instance.
 NO_INSTANCE, UNREAD = os.path.join(os.devnull, "none"), 7
+# How long the last calls may take behind the time of a run: seconds, and how many readings.
+LAST_SECONDS, LAST_READINGS = 5.0, 10
 # After how many rounds without any call that succeeded a lane is given up.
 MOST_FAILURES = 3
 # Statuses: of a program that finds no plan, and where none exists; where the instance can't be read.
@@ -215,12 +218,19 @@ class Run:
     # Driving the lanes.
 
     def drive(self, *lanes, is_last=False):
-        """Goes on with the lanes until they end, or it is over; the last ones go on behind that, until a signal."""
+        """Goes on with the lanes until they end, or it is over; the last ones go on behind that, until a signal, or for
+        some readings where a clock decides.
+        """
+        most = self.last_seconds() if is_last else math.inf
+        end = time.monotonic() + most
         try:
             for lane in lanes:
                 self.advance(lane, None)
             while self.batches and not (self.runner.signals if is_last else self.is_over()):
                 self.runner.start_waiting()
+                if time.monotonic() >= end:
+                    self.teller.remark(f"`check` is ended after {most:.1f} s; what stands was accepted before")
+                    break
                 for task in self.runner.wait(BEAT if is_last else min(BEAT, self.left())):
                     self.go_on_behind(task)
                 self.show()
@@ -228,6 +238,10 @@ class Run:
             self.is_out_of_time = bool(self.paused) and not self.batches
         finally:
             self.end_all_calls()
+
+    def last_seconds(self):
+        """How long the last calls may take, which read what was read before."""
+        return math.inf if self.words.seconds is None else LAST_SECONDS + LAST_READINGS * self.reading
 
     def go_on_behind(self, task):
         """Goes on with the lane of a call that has ended, once all of its batch have, and with those that wait."""

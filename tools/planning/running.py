@@ -20,6 +20,8 @@ from processes import SIGNALS, end_all, ended_with_this, take_orphans
 LONGEST_SAID = 1 << 20
 # The status of what couldn't be started, as a shell has it.
 NOT_STARTED = 127
+# Seconds between two looks at whether programs have ended: at all of them, and if one has closed its output.
+LOOK, LOOK_AT_CLOSED = 1.0, 0.01
 # How many files this script has open beside a pipe for each program that runs.
 OTHER_FILES = 24
 
@@ -66,7 +68,7 @@ class Runner:
     """What runs, and what waits for a processor."""
 
     def __init__(self, jobs):
-        self.jobs, self.waiting, self.running = jobs, [], {}
+        self.jobs, self.waiting, self.running, self.closed = jobs, [], {}, set()
         self.signals = []
         self.selector = selectors.DefaultSelector()
         take_orphans()
@@ -117,18 +119,29 @@ class Runner:
         self.selector.register(pipe, selectors.EVENT_READ)
 
     def wait(self, seconds):
-        """The tasks that have ended, once one has, or a signal came, or the seconds are over."""
+        """The tasks that have ended, once one has, or a signal came, or the seconds are over.
+
+        A program has ended when its process has. It may close its output before, and what it started may keep that
+        open.
+        """
         end, ended = time.monotonic() + max(0.0, seconds), []
         while not ended and not self.signals:
-            for key, _ in self.selector.select(max(0.0, end - time.monotonic())):
+            step = LOOK_AT_CLOSED if self.closed else LOOK
+            for key, _ in self.selector.select(min(step, max(0.0, end - time.monotonic()))):
                 if key.fd == self.awake:
                     with contextlib.suppress(BlockingIOError):
                         os.read(self.awake, 4096)
                 elif not self.drain(key.fd):
-                    ended.append(self.finish(key.fd))
+                    self.close(key.fd)
+            ended = [self.finish(pipe) for pipe in list(self.running) if has_ended(self.running[pipe][1])]
             if time.monotonic() >= end:
                 break
         return ended
+
+    def close(self, pipe):
+        """Takes note that a program says no more."""
+        self.selector.unregister(pipe)
+        self.closed.add(pipe)
 
     def drain(self, pipe):
         """Reads what a program has said; answers whether more may come."""
@@ -142,8 +155,14 @@ class Runner:
         return True
 
     def finish(self, pipe):
+        if pipe not in self.closed:
+            self.drain(pipe)
+            self.close(pipe)
+        self.closed.remove(pipe)
         task, process, began, said = self.running.pop(pipe)
-        self.selector.unregister(pipe)
+        # (what the program started, and left behind, ends with it)
+        with contextlib.suppress(OSError):
+            os.killpg(process.pid, signal.SIGKILL)
         before = processor_seconds()
         task.status = process.wait()
         process.stdout.close()
@@ -164,8 +183,18 @@ def processor_seconds():
     return used.ru_utime + used.ru_stime
 
 
+def has_ended(process):
+    """Whether a process has ended; its status is left for who waits for it, so its number stays its own."""
+    if isinstance(process, NotStarted):
+        return True
+    return os.waitid(os.P_PID, process.pid, os.WEXITED | os.WNOHANG | os.WNOWAIT) is not None
+
+
 class NotStarted:
     """Stands in the place of a process that couldn't be started: one that said nothing."""
+
+    # (the number of no process)
+    pid = 2 ** 31 - 1
 
     def __init__(self):
         read, write = os.pipe()
