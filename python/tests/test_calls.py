@@ -352,6 +352,32 @@ def test_cancelled_and_late_calls(program, tmp_path):
         gadvresa.solve(SUMMER, 10, timeout=0.5, cancel=threading.Event())
 
 
+@pytest.mark.parametrize("text", [
+    "trap '' TERM INT HUP; while :; do sleep 0.1; done",
+    "exec >&- 2>&-; sleep 100 & echo $! >{note}; wait",
+    "sleep 100 & echo $! >{note}; wait",
+    "setsid sleep 100 & echo $! >{note}; wait",
+    "while :; do echo 0123456789 >&2; done",
+])
+def test_calls_end_in_their_time(program, tmp_path, text):
+    note = tmp_path / "pid"
+    program(text.format(note=note))
+    began = time.monotonic()
+    with pytest.raises(gadvresa.TimedOut):
+        gadvresa.solve(SUMMER, 10, timeout=0.5)
+    assert time.monotonic() - began < 20
+    assert not note.exists() or waited_for(lambda: not is_alive(int(note.read_text())))
+
+
+def test_what_a_program_leaves_holds_no_call(program, tmp_path):
+    note = tmp_path / "pid"
+    program(f"sleep 100 & echo $! >{note}; echo refused words; exit 2")
+    began = time.monotonic()
+    with pytest.raises(gadvresa.WordsRefused):
+        gadvresa.solve(SUMMER, 10)
+    assert time.monotonic() - began < 20 and waited_for(lambda: not is_alive(int(note.read_text())))
+
+
 def test_ctrl_c_ends_the_program(program, tmp_path, monkeypatch):
     note, ended = tmp_path / "pid", []
     program(f"echo $$ >{note}\nexec sleep 100")

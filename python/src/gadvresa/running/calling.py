@@ -1,6 +1,7 @@
 """Calls of the proved programs: each is run to its end, or is ended, and its status and all that it said are kept."""
 from __future__ import annotations
 
+import contextlib
 import signal
 import subprocess
 import threading
@@ -8,11 +9,12 @@ import time
 from dataclasses import dataclass, field
 from typing import Optional, Sequence, Tuple
 
-from .ending import ended, held, look
+from .ending import end_all_of, ended, held, look
 from .finding import Program
 
-# How often a call that can be cancelled looks whether it is, in seconds.
-LOOK = 0.05
+# How often a call that can be cancelled looks whether it is, in seconds; how often each call looks whether its program
+# has ended; and how long what it said is waited for then.
+LOOK, LOOK_AT_END, LAST = 0.05, 0.5, 0.5
 
 
 @dataclass(frozen=True)
@@ -57,34 +59,48 @@ def run_words(words: Sequence[str], timeout: Optional[float] = None,
     process: "Optional[subprocess.Popen[bytes]]" = None
     try:
         with held():
-            process = subprocess.Popen(words, stdin=subprocess.DEVNULL, stdout=subprocess.PIPE, stderr=subprocess.PIPE)
+            process = subprocess.Popen(words, stdin=subprocess.DEVNULL, stdout=subprocess.PIPE, stderr=subprocess.PIPE,
+                                       start_new_session=True)
         with ended(process):
             said, errors = _wait(process, end, cancel)
-    except BaseException:
+    finally:
         if process is not None:
             _end(process)
-        raise
     return process.returncode, said, errors
 
 
 def _wait(process: "subprocess.Popen[bytes]", end: Optional[float],
           cancel: Optional[threading.Event]) -> Tuple[bytes, bytes]:
     while True:
-        left = None if end is None else max(0.0, end - time.monotonic())
-        step = left if cancel is None else LOOK if left is None else min(LOOK, left)
+        step = LOOK_AT_END if cancel is None else LOOK
         try:
-            return process.communicate(timeout=step)
+            return process.communicate(timeout=step if end is None else min(step, max(0.0, end - time.monotonic())))
         except subprocess.TimeoutExpired:
+            if process.poll() is not None:
+                return _rest(process)
             if cancel is not None and cancel.is_set():
                 raise Stopped(False) from None
             if end is not None and time.monotonic() >= end:
                 raise Stopped(True) from None
 
 
+def _rest(process: "subprocess.Popen[bytes]") -> Tuple[bytes, bytes]:
+    """What a program said that has ended. A process that it left may hold its output open, and is ended."""
+    end_all_of(process)
+    try:
+        return process.communicate(timeout=LAST)
+    except subprocess.TimeoutExpired as late:
+        return late.output or b"", late.stderr or b""
+
+
 def _end(process: "subprocess.Popen[bytes]") -> None:
-    """Ends a program at once: what it writes is in a folder of its own, which nobody sees."""
-    process.kill()
-    process.communicate()
+    """Ends a program at once, with all that it started: what it writes is in a folder of its own, which nobody sees."""
+    end_all_of(process)
+    process.wait()
+    for pipe in (process.stdout, process.stderr):
+        if pipe is not None:
+            with contextlib.suppress(OSError):
+                pipe.close()
 
 
 def signal_name(number: int) -> str:
