@@ -15,6 +15,14 @@ NEWEST = HEADS[-1]
 MOST_LISTS = 16
 LEAVES = (b"cost", b"point", b"band", b"excl", b"empty")
 BOUND, LIST = re.compile(rb"none|-?[0-9]{1,60}"), re.compile(rb"[0-9]{1,9}")
+ENTRY = re.compile(rb"(up|lo|ex|tail|off|clq)( [0-9]{1,19})+|cap")
+NODE = re.compile(rb"split [0-9]{1,4} [0-9]{1,4}|cost [0-9]{1,4}|point|band [0-9]{1,4} [0-9]{1,4} (over|under)"
+                  rb"|excl [0-9]{1,6}|empty [0-9]{1,4}")
+# The most bytes of a certificate, and of one of its lines.
+LONGEST, LONGEST_LINE = 1 << 28, 1 << 14
+# An instance has 1,024 interventions and 512 periods at most. That many nodes are open at most, as no split comes twice
+# on the way to a leaf, and that many nodes differ.
+MOST_OPEN, MOST_NODES = 1 << 19, 1 << 20
 
 
 class Misfit(Exception):
@@ -23,7 +31,7 @@ class Misfit(Exception):
 
 @dataclass
 class Certificate:
-    """The lines of a certificate: of each price list those of its entries, and those of the nodes of its tree."""
+    """A certificate: the text of the entries of each price list, and the lines of the nodes of its tree."""
 
     path: str
     head: bytes
@@ -32,35 +40,80 @@ class Certificate:
     nodes: list
 
 
+class Lines:
+    """The lines of a file, one after the other, of which no more is read than a certificate can have."""
+
+    def __init__(self, file, path):
+        self.file, self.path, self.left = file, path, LONGEST
+
+    def next(self):
+        """The next line without its end; None behind the last one."""
+        line = self.file.readline(min(LONGEST_LINE, self.left) + 1)
+        self.left -= len(line)
+        if self.left < 0 or len(line) > LONGEST_LINE:
+            raise Misfit(f"{self.path} has a line or a text that is longer than any of a certificate")
+        if line and not line.endswith(b"\n"):
+            raise Misfit(f"{self.path} is no whole certificate")
+        return line[:-1] if line else None
+
+    def needed(self):
+        """The next line, where there has to be one."""
+        line = self.next()
+        if line is None:
+            raise Misfit(f"{self.path} is no whole certificate")
+        return line
+
+
 def read_certificate(path):
+    """The certificate that a file holds. A file that is none is read up to the line that shows it."""
     with open(path, "rb") as file:
-        lines = file.read().split(b"\n")
-    place = lambda number: f"{path}, line {number}"
-    if len(lines) < 6 or lines.pop() or lines[0] not in HEADS:
-        raise Misfit(f"{path} is no whole certificate")
-    word, _, value = lines[1].partition(b" ")
-    if word != b"bound" or not BOUND.fullmatch(value):
-        raise Misfit(f"{place(2)}: the bound, and not {lines[1][:40]!r}")
-    try:
-        tree = lines.index(b"tree")
-    except ValueError:
-        raise Misfit(f"{path} has no tree") from None
+        lines = Lines(file, path)
+        head = lines.needed()
+        if head not in HEADS:
+            raise Misfit(f"{path} is no whole certificate")
+        line = lines.needed()
+        word, _, value = line.partition(b" ")
+        if word != b"bound" or not BOUND.fullmatch(value):
+            raise Misfit(f"{path}, line 2: the bound, and not {line[:40]!r}")
+        count = lines.needed()
+        lists = read_lists(lines)
+        if count != b"lists %d" % len(lists):
+            raise Misfit(f"{path}, line 3: lists {len(lists)}, and not {count[:40]!r}")
+        nodes = read_nodes(lines)
+        if lines.next() is not None:
+            raise Misfit(f"{path} has lines behind its tree")
+    return Certificate(path, head, None if value == b"none" else int(value), lists, nodes)
+
+
+def read_lists(lines):
+    """The texts of the price lists, up to the line `tree`."""
     lists = []
-    for line in lines[3:tree]:
+    while (line := lines.next()) != b"tree":
+        if line is None:
+            raise Misfit(f"{lines.path} has no tree")
         if line == b"prices" and len(lists) == MOST_LISTS:
-            raise Misfit(f"{path} has more than {MOST_LISTS} price lists, which no certificate has")
+            raise Misfit(f"{lines.path} has more than {MOST_LISTS} price lists, which no certificate has")
         if line == b"prices":
-            lists.append([])
-        elif lists:
-            lists[-1].append(line)
+            lists.append(bytearray())
+        elif lists and ENTRY.fullmatch(line):
+            lists[-1] += line + b"\n"
         else:
-            raise Misfit(f"{place(4)}: a price list, and not {line[:40]!r}")
-    nodes = lines[tree + 1:]
-    if lines[2] != b"lists %d" % len(lists):
-        raise Misfit(f"{place(3)}: lists {len(lists)}, and not {lines[2][:40]!r}")
-    if end_of(nodes, 0, path) != len(nodes):
-        raise Misfit(f"{path} has lines behind its tree")
-    return Certificate(path, lines[0], None if value == b"none" else int(value), lists, nodes)
+            raise Misfit(f"{lines.path}: an entry of a price list, or its first line, and not {line[:40]!r}")
+    return [bytes(it) for it in lists]
+
+
+def read_nodes(lines):
+    """The nodes of the tree. Equal ones are kept once, as most trees have few that differ."""
+    nodes, kept, open_nodes = [], {}, 1
+    while open_nodes:
+        line = lines.next()
+        if line is None or not NODE.fullmatch(line):
+            raise Misfit(f"{lines.path}: a node of the tree, and not {(line or b'')[:40]!r}")
+        nodes.append(kept.setdefault(line, line))
+        open_nodes += 1 if line.startswith(b"split ") else -1
+        if open_nodes > MOST_OPEN or len(kept) > MOST_NODES:
+            raise Misfit(f"{lines.path} has a tree that is deeper, or of more different nodes, than any can be")
+    return nodes
 
 
 def claim_of(path):
@@ -109,7 +162,7 @@ def joined_lists(common, parts):
     """The lists of the common certificate, and behind them those of the parts, each once; and by part what each of its
     numbers becomes.
     """
-    lists = [list(it) for it in common.lists]
+    lists = list(common.lists)
     for part in parts:
         if len(part.lists) < len(lists):
             raise Misfit(f"{part.path} has fewer price lists than {common.path}")
@@ -163,5 +216,5 @@ def text_of(certificate):
     bound = b"none" if certificate.bound is None else b"%d" % certificate.bound
     lines = [certificate.head, b"bound " + bound, b"lists %d" % len(certificate.lists)]
     for one in certificate.lists:
-        lines += [b"prices", *one]
+        lines += [b"prices", one[:-1]] if one else [b"prices"]
     return b"\n".join([*lines, b"tree", *certificate.nodes, b""])
