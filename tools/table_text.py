@@ -1,57 +1,15 @@
-"""What scripts over a table share: their words, their statuses, and how they ask `table` and end.
+"""What scripts over a table share: their words, and how they ask `table`.
 
-`gadvresa.reports` reads the table. What goes wrong in such a script itself has a status above 63, so that it is never
-taken for a verdict; those of the program are below, and handed on.
+`gadvresa.reports` reads the table, and `gadvresa.cli` has what all scripts share, which some take from here.
 """
-import argparse
-import os
-import signal
-import subprocess
-import sys
-import traceback
-
 import package_path  # noqa: F401
+from gadvresa.cli import PLANNER, Parser, asked, held, run_script, say, stop  # noqa: F401
 from gadvresa.reports import NoReport, read_table
+from gadvresa.running import SIGNALLED, Status
 
-PLANNER = os.path.join(os.path.dirname(os.path.dirname(os.path.abspath(__file__))), "planner")
-
-# The statuses of a script: its words are wrong; the text is none of `table`; a file can't be read; what it needs isn't
-# there; something that it didn't foresee; what it makes can't be written. A signal ends it with 128 and its number.
-WORDS, NO_TABLE, UNREAD, MISSING, UNFORESEEN, UNWRITTEN, SIGNAL = 64, 65, 66, 69, 70, 74, 128
-
-
-class Parser(argparse.ArgumentParser):
-    """A parser that ends the script with a status of its own."""
-
-    def error(self, message):
-        stop(WORDS, f"{message}\n{self.format_usage().strip()}")
-
-
-def stop(status, text):
-    """Ends the script, and says why on standard error."""
-    print(f"{os.path.basename(sys.argv[0])}: {text}", file=sys.stderr)
-    sys.exit(status)
-
-
-def say(text):
-    """Writes a text to standard output whole."""
-    rest = text.encode("utf-8", "surrogateescape")
-    try:
-        while rest:
-            rest = rest[os.write(1, rest):]
-    except OSError as error:
-        stop(UNWRITTEN, f"standard output: {error.strerror}")
-
-
-def run_script(main):
-    """Runs a script, which ends with a status of its own where it meets what it didn't foresee, or Ctrl-C comes."""
-    try:
-        main()
-    except KeyboardInterrupt:
-        sys.exit(SIGNAL + signal.SIGINT)
-    except Exception:
-        traceback.print_exc()
-        sys.exit(UNFORESEEN)
+WORDS, NO_TABLE, UNREAD, MISSING, UNFORESEEN, UNWRITTEN, SIGNAL = (
+    Status.SCRIPT_WORDS, Status.NO_REPORT, Status.SCRIPT_UNREAD, Status.TOOL_MISSING, Status.UNFORESEEN,
+    Status.SCRIPT_UNWRITTEN, SIGNALLED)
 
 
 def table_parser(description, *more):
@@ -59,7 +17,7 @@ def table_parser(description, *more):
     parser = Parser(description=description)
     parser.add_argument("files", nargs="*", metavar="FILE", help=" ".join(["INSTANCE PLAN", *more, "[slack=D]"]))
     parser.add_argument("--table", metavar="FILE", help="what `table` said, in place of INSTANCE, PLAN and slack")
-    parser.add_argument("--cmd", metavar="PROGRAM", default=PLANNER, help="what is asked for the table, not ./planner")
+    parser.add_program("what is asked for the table, not ./planner")
     return parser
 
 
@@ -70,7 +28,9 @@ def asked_table(parser, words, more):
     given = 0 if words.table else 2
     if len(files) != given + more or len(slack) > (0 if words.table else 1):
         parser.error("wrong words")
-    said = held_text(words.table) if words.table else said_text([words.cmd, "table", *files[:2], "1", "512", *slack])
+    # (a word may name a pipe that this script was given)
+    said = held(words.table) if words.table else asked(
+        [words.cmd, "table", *files[:2], "1", "512", *slack], close_fds=False)[1]
     try:
         return read_table(said.decode("utf-8")), files[given:]
     except UnicodeDecodeError as error:
@@ -82,25 +42,3 @@ def asked_table(parser, words, more):
 def no_table(fault):
     """What is wrong with a text that is no table."""
     return f"line {fault.number} isn't one of a table: {fault.line!r}"
-
-
-def held_text(path):
-    """What a file holds."""
-    try:
-        with open(path, "rb") as file:
-            return file.read()
-    except OSError as error:
-        stop(UNREAD, f"{path}: {error.strerror}")
-
-
-def said_text(words):
-    """What the program says. Where it has another status than 0, that is handed on, and what it says as an error."""
-    try:
-        # (a word may name a pipe that this script was given)
-        ran = subprocess.run(words, stdout=subprocess.PIPE, close_fds=False)
-    except OSError as error:
-        stop(MISSING, f"{words[0]}: {error.strerror}")
-    if ran.returncode:
-        sys.stderr.write(ran.stdout.decode("utf-8", errors="replace"))
-        sys.exit(ran.returncode if ran.returncode > 0 else SIGNAL - ran.returncode)
-    return ran.stdout

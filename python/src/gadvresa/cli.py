@@ -1,0 +1,95 @@
+"""How scripts take their words, ask the programs, say what they have to say, and end: in one way for all of them.
+
+What goes wrong in a script itself has a status above 63, so that it is never taken for a verdict. The statuses of the
+programs are below, and handed on.
+"""
+from __future__ import annotations
+
+import argparse
+import os
+import signal
+import subprocess
+import sys
+import traceback
+from typing import Callable, NoReturn, Sequence, Tuple
+
+from .running.statuses import SIGNALLED, Status
+
+_TOP = os.path.join(os.path.dirname(os.path.abspath(__file__)), "..", "..", "..")
+# The launcher of the clone, or of the Debian package, that this stands in.
+PLANNER = os.path.join(os.path.normpath(_TOP), "planner")
+
+
+class Parser(argparse.ArgumentParser):
+    """A parser of the words of a script, which ends the script with a status of its own where they are wrong."""
+
+    @classmethod
+    def of_head(cls, head: str) -> Parser:
+        """A parser whose help is the head of the script, whole."""
+        first, rest = head.split("\n\n", 1)
+        return cls(description=first, formatter_class=argparse.RawDescriptionHelpFormatter, epilog=rest)
+
+    def add_program(self, what: str) -> None:
+        """Adds the word for the program that is asked `what`, in the place of the launcher."""
+        self.add_argument("--cmd", metavar="PROGRAM", default=PLANNER, help=what)
+
+    def error(self, message: str) -> NoReturn:
+        """Ends the script, and says what is wrong with its words."""
+        stop(Status.SCRIPT_WORDS, f"{message}\n{self.format_usage().strip()}")
+
+
+def stop(status: int, text: str) -> NoReturn:
+    """Ends the script, and says why on standard error."""
+    print(f"{os.path.basename(sys.argv[0])}: {text}", file=sys.stderr)
+    sys.exit(status)
+
+
+def say(text: str) -> None:
+    """Writes a text to standard output whole."""
+    rest = text.encode("utf-8", "surrogateescape")
+    try:
+        while rest:
+            rest = rest[os.write(1, rest):]
+    except OSError as error:
+        stop(Status.SCRIPT_UNWRITTEN, f"standard output: {error.strerror}")
+
+
+def held(path: str) -> bytes:
+    """What a file holds. Ends the script where it can't be read."""
+    try:
+        with open(path, "rb") as file:
+            return file.read()
+    except OSError as error:
+        stop(Status.SCRIPT_UNREAD, f"{path}: {error.strerror}")
+
+
+def asked(call: Sequence[str], taken: Sequence[int] = (Status.DONE,), close_fds: bool = True) -> Tuple[int, bytes]:
+    """The status of a program, and what it says on standard output.
+
+    Ends the script where the status isn't one of those that are taken: it is handed on, and what the program says goes
+    to standard error. Without `close_fds` a word may name a pipe that the script was given.
+    """
+    try:
+        ran = subprocess.run(call, stdout=subprocess.PIPE, close_fds=close_fds)
+    except OSError as error:
+        stop(Status.TOOL_MISSING, f"{call[0]}: {error.strerror}")
+    if ran.returncode not in taken:
+        sys.stderr.write(ran.stdout.decode("utf-8", "replace"))
+        sys.exit(status_of(ran.returncode))
+    return ran.returncode, ran.stdout
+
+
+def status_of(code: int) -> int:
+    """The status of a process as a shell has it: for one that a signal ended 128 and the number of the signal."""
+    return code if code >= 0 else SIGNALLED - code
+
+
+def run_script(main: Callable[[], object]) -> None:
+    """Runs a script, which ends with a status of its own where it meets what it didn't foresee, or Ctrl-C comes."""
+    try:
+        main()
+    except KeyboardInterrupt:
+        sys.exit(SIGNALLED + signal.SIGINT)
+    except Exception:
+        traceback.print_exc()
+        sys.exit(Status.UNFORESEEN)
