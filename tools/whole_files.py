@@ -124,6 +124,12 @@ def place_copy(source, path):
     shutil.copy2(source, path)
 
 
+def write_all(number, data):
+    """Writes all of it to an open file."""
+    while data:
+        data = data[os.write(number, data):]
+
+
 def flush_folder(folder):
     """Has the names in a folder be on the disk, where its file system can do that."""
     number = os.open(folder or ".", os.O_RDONLY)

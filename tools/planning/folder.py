@@ -16,7 +16,7 @@ from fractions import Fraction
 
 from planning.words import SLACK
 from whole_files import (BESIDE, NEW, is_folder, is_own, is_regular, open_regular, place_copy, put_whole, remove_any,
-                         replacing, write_whole)
+                         replacing, write_all, write_whole)
 
 # Of the calls of each kind: how many there were, their seconds of a processor, and those in which they read.
 SUMS = ("calls", "processor_seconds", "reading_seconds")
@@ -213,8 +213,3 @@ def place_own(path):
     """Has a copy of a file that has another name take its place here."""
     with open_regular(path) as file, replacing(path) as copy:
         shutil.copyfileobj(file, copy)
-
-
-def write_all(number, data):
-    while data:
-        data = data[os.write(number, data):]

@@ -8,6 +8,7 @@ import os
 import sys
 
 from gadvresa.model import cost_shown, gap_shown
+from whole_files import write_all
 
 # Seconds between two looks at the clock on a terminal, and how wide a line is where the terminal doesn't tell.
 BEAT, WIDTH = 1.0, 80
@@ -21,9 +22,9 @@ class Teller:
     def put(self, text):
         # (there is none where it was closed from the beginning)
         if sys.stderr:
-            with contextlib.suppress(OSError, ValueError):
-                sys.stderr.write(text)
-                sys.stderr.flush()
+            # (what a buffer held of it would be tried again at the end, and change the status)
+            with contextlib.suppress(OSError):
+                write_all(2, text.encode(errors="backslashreplace"))
 
     def remark(self, text):
         """Says something that stays."""
