@@ -1,4 +1,4 @@
-"""The steps of tools/reading_list: the sentences of README on what is proved, and the clauses that say each of them.
+"""The steps of dev/reading_list: the sentences of README on what is proved, and the clauses that say each of them.
 
 The contract of the top call is the statement: that of `run` for planner_cli, that of `run_repair` for plan_repair, that
 of `run_refine` for plan_refine. A sentence is said by some of its clauses, and these by some cases and fields of what
