@@ -7,7 +7,7 @@
 PROGRAM is what `./planner --build` names; without it the solvers stand alone. Debian's packages have the solvers
 (bench/mip.py). All runs come one after the other, and have the same limit in seconds of the clock, behind which they
 are killed. `--match` also gives the solvers the seconds of the program's last run. A solver with a word behind a colon
-takes another model (tools/modelling/program.py); those are left out where `Alpha` is 1.
+takes another model (gadvresa.milp); those are left out where `Alpha` is 1.
 
 A row has seconds of the clock and of a processor, score and bound as multiples of 10^18, the gap in percent of the
 score, how far in percent the score is above the best one of the table and the bound below the best one, peak memory,

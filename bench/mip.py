@@ -20,7 +20,8 @@ from fractions import Fraction
 
 sys.dont_write_bytecode = True
 from milp import solvers
-from modelling import program, writing
+from gadvresa import Instance
+from gadvresa.milp import VARIANTS, TooLarge, build, write_lp
 from plain import MILLION, Plain, read_instance
 
 SCORE = 10 ** 18
@@ -32,7 +33,7 @@ def read_words():
     parser.add_argument("--write", metavar="LP")
     parser.add_argument("--solve", type=float, metavar="SECONDS")
     parser.add_argument("--solver", choices=solvers.SOLVERS, default="cbc")
-    parser.add_argument("--variant", choices=program.VARIANTS, default="exact")
+    parser.add_argument("--variant", choices=VARIANTS, default="exact")
     parser.add_argument("--linear", action="store_true", help="binaries from 0 to 1")
     parser.add_argument("--plan", default=os.devnull, help="where to write the plan")
     parser.add_argument("--largest", type=int, default=8_000_000, help="terms of the model")
@@ -80,15 +81,15 @@ def main():
     words = read_words()
     plain = Plain(read_instance(words.instance))
     try:
-        built = program.build(plain, words.variant, words.largest)
-    except program.TooLarge as fault:
+        built = build(Instance.read(words.instance), words.variant, words.largest)
+    except TooLarge as fault:
         sys.exit(f"model {fault}")
     print(f"model columns {len(built.columns)} rows {len(built.rows)} terms {built.terms}")
     if built.hopeless:
         print(f"status infeasible: {built.hopeless}")
         return
     if words.write:
-        writing.write_lp(built, words.write, linear=words.linear)
+        write_lp(built, words.write, linear=words.linear)
     if words.solve is None:
         return
     with tempfile.TemporaryDirectory() as folder:

@@ -13,7 +13,7 @@ none, and prints the tables of those that stand, as each call does at its end. F
 A run has as many processors as it has jobs, and no other ones. `plan` runs for the greatest number of minutes, which
 gives the rows of the lesser ones too, as it stood then. cbc runs for each number of minutes, with as many threads as
 jobs, and so does scipy's HiGHS, which takes one, so its runs are among those with 1 job. `highs:mean` and `highs:cvar`
-take another model (tools/modelling/program.py), where `Alpha` is below 1. Runs come one after the other; with
+take another model (gadvresa.milp), where `Alpha` is below 1. Runs come one after the other; with
 --side-by-side as many at once as there are processors for.
 
 A row has score and bound as multiples of 10^18, the gap in percent of the score, how far in percent the score is above
@@ -30,10 +30,11 @@ import sys
 
 sys.dont_write_bytecode = True
 sys.path.insert(0, os.path.join(os.path.dirname(os.path.abspath(__file__)), "..", "tools"))
+import package_path  # noqa: F401
 import cases
 from plan_runs import Machine, Runs
 from plan_tables import print_case, print_goals, print_summary
-from processes import end_all, take_orphans
+from gadvresa.running.holding import end_all, take_orphans
 
 CASES = "50-a1 50-tight-a1 200-a05 300-s120-a05 700-a05"
 

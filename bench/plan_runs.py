@@ -11,8 +11,8 @@ from dataclasses import dataclass
 
 import cases
 from beside_solvers import solver_words
-from processes import ended_with_this
-from whole_files import sum_of, write_whole
+from gadvresa.running.holding import ended_with_this
+from gadvresa.whole_files import sum_of, write_whole
 
 TOP = os.path.dirname(cases.HERE)
 PLAN, GUARD = os.path.join(TOP, "tools", "plan"), os.path.join(TOP, "tools", "planning", "guard")

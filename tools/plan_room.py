@@ -10,7 +10,7 @@ import sys
 import time
 
 import package_path  # noqa: F401
-from viewing.progress import read_progress
+from gadvresa.tables.progress import read_progress
 
 HERE = os.path.dirname(os.path.abspath(__file__))
 TOP = os.path.dirname(HERE)

@@ -10,7 +10,7 @@ from typing import Optional
 import cases
 import gadvresa
 from beating.known import Fault, Known, with_changes
-from whole_files import sum_of
+from gadvresa.whole_files import sum_of
 
 
 class Broken(Exception):

@@ -8,7 +8,8 @@ import sys
 from dataclasses import dataclass
 
 sys.path.insert(0, os.path.join(os.path.dirname(os.path.abspath(__file__)), "..", "..", "tools"))
-from modelling.writing import write_lp
+import package_path  # noqa: F401
+from gadvresa.milp import write_lp
 
 SOLVERS = ("cbc", "glpk", "highs")
 # The seconds behind its limit after which a solver is killed, and the status that it then ends with.

@@ -17,10 +17,9 @@ BEGAN = time.monotonic()
 TOOLS = os.path.join(os.path.dirname(os.path.abspath(__file__)), "..", "..", "tools")
 sys.dont_write_bytecode = True
 sys.path.insert(0, TOOLS)
-from modelling.program import VARIANTS, build
-from modelling.solutions import NoPlan, plan_of
-from modelling.writing import write_lp, write_mps
-from plain import Plain, read_instance
+import package_path  # noqa: F401
+from gadvresa import Instance
+from gadvresa.milp import VARIANTS, NoPlan, build, plan_of, write_lp, write_mps
 
 
 def cbc(model, left, folder):
@@ -75,18 +74,16 @@ def main():
     parser.add_argument("--variant", choices=VARIANTS, default="exact")
     words = parser.parse_args()
     end = BEGAN + words.seconds * 0.95 - 0.5
-    inst = read_instance(words.instance)
-    model = build(Plain(inst), words.variant)
+    instance = Instance.read(words.instance)
+    model = build(instance, words.variant)
     if model.hopeless:
         sys.exit(f"no plan keeps every rule: {model.hopeless}")
     with tempfile.TemporaryDirectory() as folder:
         {"cbc": cbc, "glpsol": glpsol, "highs": highs}[words.solver](
             model, lambda: max(0.1, round(end - time.monotonic(), 1)), folder)
         with open(f"{folder}/solution", encoding="utf-8", errors="replace") as file:
-            plan = plan_of(inst, file.read())
-    with open(f"{words.plan}.part", "w", encoding="utf-8") as out:
-        out.writelines(f"{name} {start}\n" for name, start in zip(inst.intervention_names, plan))
-    os.replace(f"{words.plan}.part", words.plan)
+            plan = plan_of(instance, file.read())
+    plan.write(words.plan)
 
 
 if __name__ == "__main__":

@@ -381,15 +381,15 @@ def test_what_a_program_leaves_holds_no_call(program, tmp_path):
 def test_ctrl_c_ends_the_program(program, tmp_path, monkeypatch):
     note, ended = tmp_path / "pid", []
     program(f"echo $$ >{note}\nexec sleep 100")
-    whole = subprocess.Popen.communicate
+    whole = subprocess.Popen.poll
 
-    def interrupted(process, *words, **more):
+    def interrupted(process):
         if not ended and note.exists():
             ended.append(process.pid)
             raise KeyboardInterrupt
-        return whole(process, *words, **{**more, "timeout": 0.1} if not ended else more)
+        return whole(process)
 
-    monkeypatch.setattr(subprocess.Popen, "communicate", interrupted)
+    monkeypatch.setattr(subprocess.Popen, "poll", interrupted)
     with pytest.raises(KeyboardInterrupt):
         gadvresa.solve(SUMMER, 10, cancel=threading.Event())
     assert not is_alive(ended[0])
@@ -467,6 +467,29 @@ def test_ignored_signals_stay_so(program, tmp_path):
     program("kill -HUP $PPID; sleep 0.5; echo refused words; exit 2")
     process, rooms = call_elsewhere(CALL.format(SUMMER), tmp_path, ["nohup"])
     assert b"WordsRefused" in process.communicate(timeout=60)[1] and os.listdir(rooms) == []
+
+
+FLOODED = """import gadvresa, resource
+before = resource.getrusage(resource.RUSAGE_SELF).ru_maxrss
+try:
+    gadvresa.evaluate({!r}, {{}})
+except gadvresa.WordsRefused as refused:
+    called = refused.called
+assert called.said == "refused words\\n", called.said[:100]
+assert len(called.errors) < 100_000 and called.errors.endswith("x\\nlast\\n"), called.errors[-100:]
+assert resource.getrusage(resource.RUSAGE_SELF).ru_maxrss - before < 50_000, "megabytes of standard error are kept"
+"""
+
+
+def test_of_standard_error_the_end_is_kept(program, tmp_path):
+    program("head -c 300000000 /dev/zero | tr '\\0' x >&2; echo >&2; echo last >&2; echo refused words; exit 2")
+    process, _ = call_elsewhere(FLOODED.format(SUMMER), tmp_path)
+    assert process.communicate(timeout=60) == (None, b"") and process.returncode == 0
+
+
+def test_all_of_a_long_report_is_kept():
+    said = gadvresa.running.run_words(["sh", "-c", "head -c 30000000 /dev/zero; echo last; exit 3"])
+    assert (said[0], len(said[1]), said[1][-5:], said[2]) == (3, 30_000_005, b"last\n", b"")
 
 
 def waited_for(holds):

@@ -94,8 +94,36 @@ def test_ends(body, status, said, errors):
     assert (ran.returncode, ran.stdout) == (status, said) and ran.stderr.endswith(errors)
 
 
-def test_standard_output_that_takes_nothing():
-    with open("/dev/full", "wb") as full:
-        ran = subprocess.run([sys.executable, "-Bc", SCRIPT.format(
-            body="say('a')", source=os.path.abspath("python/src"))], stdout=full, stderr=subprocess.PIPE)
-    assert ran.returncode == Status.SCRIPT_UNWRITTEN and b"standard output: No space left" in ran.stderr
+def ended_with(body, redirections):
+    """The status of a script whose standard files a shell sets so, and what went to standard output and error."""
+    call = [sys.executable, "-Bc", SCRIPT.format(body=body, source=os.path.abspath("python/src"))]
+    ran = subprocess.run(["bash", "-c", f'"$@" {redirections}', "bash", *call], stdin=subprocess.DEVNULL,
+                         stdout=subprocess.PIPE, stderr=subprocess.PIPE)
+    return ran.returncode, ran.stdout, ran.stderr
+
+
+HELP = "from gadvresa.cli import Parser; Parser().parse_args(['--help'])"
+STOP = "from gadvresa.cli import stop; stop(65, 'why')"
+HANDED_ON = "from gadvresa.cli import asked; asked(['sh', '-c', 'echo no; exit 3'])"
+
+
+@pytest.mark.parametrize("body", ["say('a')", HELP])
+@pytest.mark.parametrize("redirection, fault", [(">/dev/full", b"No space left"), (">&-", b"Bad file descriptor")])
+def test_standard_output_that_takes_nothing(body, redirection, fault):
+    status, said, errors = ended_with(body, redirection)
+    assert (status, said) == (Status.SCRIPT_UNWRITTEN, b"") and b"standard output: " + fault in errors
+
+
+@pytest.mark.parametrize("body, status", [
+    (STOP, 65), (HANDED_ON, 3), ("raise ValueError('odd')", 70), ("say('a\\n')", 0)])
+@pytest.mark.parametrize("redirection", ["2>/dev/full", "2>&-", "2>&- <&-"])
+def test_standard_error_that_takes_nothing(body, status, redirection):
+    assert ended_with(body, redirection)[:2] == (status, b"a\n" if status == 0 else b"")
+
+
+@pytest.mark.parametrize("body, status", [("say('a')", 74), (STOP, 65)])
+def test_nothing_is_said_into_a_file_that_is_opened(tmp_path, body, status):
+    path = tmp_path / "file"
+    path.write_bytes(b"held\n")
+    opened = f"import os; [os.open({str(path)!r}, os.O_RDWR) for _ in range(3)]; {body}"
+    assert ended_with(opened, ">&- 2>&- <&-")[0] == status and path.read_bytes() == b"held\n"

@@ -119,6 +119,7 @@ def test_an_instance_in_the_forms_of_the_challenge():
     assert (work.last_start, work.durations, work.starts) == (2, (2, 1), (1, 2))
     assert work.load("c1", 1, 1) == Fraction("10.5") and work.load("c1", 3, 1) == 0 and work.load("none", 1, 1) == 0
     assert work.risks(1, 1) == (4, 8, 3) and work.float_risks(2, 2) == [6.0, 2.0]
+    assert work.counted_risks(1, 1) == [4 * 10 ** 12, 8 * 10 ** 12, 3 * 10 ** 12]
     assert instance.seasons["winter"] == {1, 3} and instance.alpha == Fraction(1, 2)
     assert [instance.rank(t) for t in (1, 2, 3)] == [3, 2, 4]
     assert instance.meeting("E1", {"I1": 1, "I2": 2}) == (2,) and instance.meeting("E1", {"I1": 1, "I2": 1}) == ()
@@ -136,6 +137,17 @@ def test_the_loads_of_one_run():
             assert work.run_loads(start) == {name: row for name, row in rows.items() if any(row)}
     with pytest.raises(ValueError):
         work.run_loads(9)
+
+
+def test_counted_loads_are_those_of_allowed_runs(tmp_path):
+    """A load of 0, one outside the run of its start, and one of a start that isn't allowed are left out."""
+    loads = {"1": {"1": 2, "2": 9}, "2": {"1": 0, "2": 0.0000000000005}, "3": {"2": 1e-3, "3": 4}}
+    work = {"tmax": 3, "Delta": [2, 2, 2], "workload": {"crew": loads}, "risk": {}}
+    path = tmp_path / "instance.json"
+    path.write_text(json.dumps({"Interventions": {"line": work}, "T": 3}))
+    line = Instance.read(path).interventions["line"]
+    assert line.counted_loads("crew") == {(1, 1): 2 * 10 ** 12, (2, 2): 1, (3, 2): 10 ** 9}
+    assert line.counted_loads("none") == {}
 
 
 def test_a_season_may_list_periods_past_the_year(tmp_path):

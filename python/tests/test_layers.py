@@ -8,7 +8,8 @@ PYTHON = os.path.dirname(os.path.dirname(os.path.abspath(__file__)))
 PACKAGE = os.path.join(PYTHON, "src", "gadvresa")
 TOOLS = os.path.join(os.path.dirname(PYTHON), "tools")
 # From the lowest on. A part may import from those before it.
-LAYERS = ["running", "cli", "model", "reports", "explaining", "files", "errors", "answers", "commands", "__init__"]
+LAYERS = ["whole_files", "running", "cli", "over_parallel", "model", "reports", "explaining", "files", "errors",
+          "answers", "commands", "__init__", "milp", "tables", "explain", "plan", "view", "compare"]
 # What judges the programs from the formats alone, and what of ours they may share.
 INDEPENDENT = {"decimals.py": [], "plain.py": ["decimals"], "plain_drawn.py": [], "plain_faults.py": [],
                "format_cases.py": []}

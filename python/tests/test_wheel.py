@@ -40,9 +40,9 @@ def test_a_wheel(built):
     with zipfile.ZipFile(wheels[0]) as wheel:
         held = set(wheel.namelist())
     top = os.path.dirname(gadvresa.__file__)
-    modules = {os.path.relpath(os.path.join(folder, name), os.path.dirname(top))
-               for folder, _, names in os.walk(top) for name in names if name.endswith((".py", ".typed"))}
-    assert modules <= held and "gadvresa/py.typed" in held and len(held - modules) == 3
+    files = {os.path.relpath(os.path.join(folder, name), os.path.dirname(top))
+             for folder, _, names in os.walk(top) for name in names if not name.endswith(".pyc")}
+    assert files <= held and {"gadvresa/py.typed", "gadvresa/view/page.html"} <= held and len(held - files) == 3
 
 
 def test_a_wheel_alone(built, tmp_path):

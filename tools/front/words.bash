@@ -116,5 +116,5 @@ statuses=(
     74 'the disk is full, or what this script itself has to say could not be written'
     75 'plan: another run has FOLDER'
     127 'the processor lacks a feature that the program was built for; what --build builds needs x86-64-v2 alone'
-    128+n 'signal n ended the run'
+    128+n 'signal n ended the run; plan: 137 if the last check took longer than its time'
 )

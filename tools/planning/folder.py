@@ -12,16 +12,13 @@ import json
 import os
 import re
 import shutil
-from fractions import Fraction
 
-from planning.words import SLACK
-from whole_files import (BESIDE, NEW, is_folder, is_own, is_regular, open_regular, place_copy, put_whole, remove_any,
-                         replacing, write_all, write_whole)
+from gadvresa.plan.state import MOST, STATE, SUMS, Refused, is_same_slack, read_state
+from gadvresa.whole_files import (BESIDE, NEW, is_folder, is_own, is_regular, open_regular, place_copy, put_whole,
+                                  remove_any, replacing, write_all, write_whole)
 
-# Of the calls of each kind: how many there were, their seconds of a processor, and those in which they read.
-SUMS = ("calls", "processor_seconds", "reading_seconds")
 COLUMNS = "seconds\tscore\tbound\tgap_percent\trounds\tturns\tstep\n"
-STATE, WORK = "state.json", "work"
+WORK = "work"
 OURS = ("plan.txt", "plan.cert", "progress.tsv", WORK)
 PART = re.compile(r"part-([0-9]{1,6})-of-([0-9]{1,6})\.cert")
 # The certificate that parts are of, in the work.
@@ -30,12 +27,6 @@ COMMON = "common.cert"
 KEPT = "kept-"
 # More than this of the end of `progress.tsv` is no line.
 LONGEST_LINE = 4096
-# No number of a state is larger, of rounds as of seconds, and no text of one has more bytes.
-MOST, LONGEST_STATE = 10 ** 12, 1 << 20
-
-
-class Refused(Exception):
-    """The folder can't be taken; the message says why."""
 
 
 class Busy(Exception):
@@ -166,39 +157,6 @@ class Folder:
             os.fsync(number)
         finally:
             os.close(number)
-
-
-def read_state(folder):
-    """Of which instance and slack a folder is, and how far it came."""
-    path = os.path.join(folder, STATE)
-    with open_regular(path, 0) as file:
-        try:
-            state = json.loads(file.read(LONGEST_STATE))
-        except (ValueError, RecursionError):
-            state = None
-    if not is_state(state):
-        raise Refused(f"{path} isn't as `plan` writes it: name another folder")
-    return state
-
-
-def is_state(state):
-    """Whether a value of JSON is a state: earlier ones have no tree, no calls and no seconds of them."""
-    is_count = lambda it: type(it) is int and 0 <= it <= MOST
-    is_seconds = lambda it: type(it) in (int, float) and 0 <= it <= MOST
-    has_values = lambda it, form: isinstance(it, dict) and all(map(form, it.values()))
-    is_round = lambda it: isinstance(it, list) and len(it) == 2 and is_count(it[0]) and is_seconds(it[1])
-    is_tree = lambda it: it == [] or (isinstance(it, list) and list(map(type, it)) == [int, int, bool]
-                                      and all(map(is_count, it[:2])))
-    return (isinstance(state, dict) and isinstance(state.get("instance"), str)
-            and isinstance(state.get("slack"), str) and SLACK.fullmatch(state["slack"]) is not None
-            and is_seconds(state.get("seconds")) and is_count(state.get("rounds"))
-            and has_values(state.get("turns"), is_round) and is_tree(state.get("tree", []))
-            and all(has_values(state.get(name, {}), is_seconds) for name in SUMS))
-
-
-def is_same_slack(one, other):
-    """Whether two words stand for the same slack, as 0.001 and 0.0010 do."""
-    return one == other or all(map(SLACK.fullmatch, (one, other))) and Fraction(one) == Fraction(other)
 
 
 def whole_size(number):

@@ -14,11 +14,12 @@ import subprocess
 import sys
 import time
 
-from over_parallel import parallel_words
+from gadvresa.over_parallel import host_of, parallel_words, read_logins
 from planning.running import LONGEST_SAID, Task
-from processes import end_all
-from table_text import UNREAD, stop
-from whole_files import is_own, is_regular, open_regular, place_copy, remove_any
+from gadvresa.running.holding import end_all
+from gadvresa.cli import stop
+from gadvresa.running import Status
+from gadvresa.whole_files import is_own, is_regular, open_regular, place_copy, remove_any
 
 HERE = os.path.dirname(os.path.abspath(__file__))
 SSH = "ssh -o BatchMode=yes -o ConnectTimeout=10 -o ServerAliveInterval=10 -o ServerAliveCountMax=3"
@@ -44,7 +45,7 @@ rm -rf {folder}"""
 class Machines:
     def __init__(self, hosts, work, name, instance, program):
         self.hosts, self.work, self.folder = os.path.abspath(hosts), work, f".gadvresa-plan/{name}"
-        self.count = len(read_logins(hosts))
+        self.count = len(reached_logins(hosts))
         parallel_words(1)
         self.instance, self.program = instance, program
         self.sent, self.measured = False, set()
@@ -119,7 +120,7 @@ class Machines:
 
     def clear(self):
         """Ends what runs on the machines, as after a signal, and removes what they have, as far as they are there."""
-        words = [*parallel_words(0, self.hosts)[:-2], "--nonall", self.ending()]
+        words = [*parallel_words(0, self.hosts), "--nonall", self.ending()]
         try:
             subprocess.run(words, stdin=subprocess.DEVNULL, stdout=subprocess.DEVNULL, stderr=subprocess.DEVNULL,
                            env={**os.environ, "PARALLEL_SSH": SSH}, timeout=TIDYING)
@@ -134,36 +135,17 @@ class Machines:
         return f"sh -c {shlex.quote(ENDING.format(folder=self.folder))}"
 
 
-def read_logins(hosts):
-    """The machines that a file of --sshloginfile names. Ends the script where there are none, or where one of them
-    can't be reached by ssh and rsync.
-    """
-    try:
-        with open_regular(hosts, 0) as file:
-            lines = [line.strip() for line in file.read().decode("utf-8").split("\n")]
-    except OSError as error:
-        stop(UNREAD, f"{hosts}: {error.strerror}")
-    except UnicodeDecodeError:
-        stop(UNREAD, f"{hosts} isn't a text in UTF-8")
-    # (as parallel has it, machines are parted by commas, and two of them stand for one)
-    logins = [login.strip() for line in lines if line and not line.startswith("#")
-              for login in re.split(r"(?<![\\,]),(?!,)", line)]
-    if not logins:
-        stop(UNREAD, f"{hosts} names no machine")
+def reached_logins(hosts):
+    """The machines that a file names. Ends the script where one of them can't be reached by ssh and rsync."""
+    logins = read_logins(hosts)
     for name in map(host_of, logins):
         if name == ":":
-            stop(UNREAD, f"{hosts}: ':' stands for this machine without ssh, and no files are sent to it: write "
-                         f"localhost, or leave it out")
+            stop(Status.SCRIPT_UNREAD, f"{hosts}: ':' stands for this machine without ssh, and no files are sent to "
+                                       f"it: write localhost, or leave it out")
         if name.count(":") > 1:
-            stop(UNREAD, f"{hosts}: {name} is an address that parallel doesn't hand on to rsync: give it a name in "
-                         f"~/.ssh/config, and write that")
+            stop(Status.SCRIPT_UNREAD, f"{hosts}: {name} is an address that parallel doesn't hand on to rsync: give it "
+                                       f"a name in ~/.ssh/config, and write that")
     return logins
-
-
-def host_of(login):
-    """The host of [@GROUP/][COUNT/][SSH ][USER@]HOST[:PORT], with its port."""
-    login = re.sub(r"^[0-9]+/", "", re.sub(r"^@[^/]+/?", "", login))
-    return login.rpartition(" ")[2].rpartition("@")[2]
 
 
 def read_text(path, most):

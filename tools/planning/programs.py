@@ -5,7 +5,8 @@ import os
 import subprocess
 import sys
 
-from table_text import MISSING, stop
+from gadvresa.cli import stop
+from gadvresa.running import Status
 
 TOP = os.path.dirname(os.path.dirname(os.path.dirname(os.path.abspath(__file__))))
 VARIABLE = "GADVRESA_PROGRAMS"
@@ -23,5 +24,5 @@ def find(name):
         if status:
             sys.exit(status if status > 0 else 128 - status)
     if not (os.path.isfile(path) and os.access(path, os.X_OK)):
-        stop(MISSING, f"{path} is no program: see GADVRESA_PROGRAMS, or install the package anew")
+        stop(Status.TOOL_MISSING, f"{path} is no program: see GADVRESA_PROGRAMS, or install the package anew")
     return path

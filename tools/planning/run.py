@@ -18,13 +18,13 @@ import time
 
 from gadvresa.model import gap_of, gap_shown
 from gadvresa.reports import first_line, periods_of, says_no_plan, whole_in
-from planning.afresh import CALLS, LONG_CALLS, Afresh, calls_of
+from gadvresa.plan.afresh import CALLS, LONG_CALLS, Afresh, calls_of
 from planning.folder import COMMON, SUMS
-from planning.joining import claim_of
-from planning.pace import LEAST, MOST_TURNS, Pace, long_round_seconds, round_seconds
+from gadvresa.plan.joining import claim_of
+from gadvresa.plan.pace import LEAST, MOST_TURNS, Pace, long_round_seconds, round_seconds
 from planning.running import Task
 from planning.telling import BEAT, clock, standing
-from whole_files import is_regular, remove_any
+from gadvresa.whole_files import is_regular, remove_any
 
 # The turns of `solve`, and how many times as many it gets where it found no plan; and those of the first rounds.
 SOLVE, MORE, FIRST_IMPROVE, FIRST_BOUND, LEAST_BOUND = 1000, 4, 200, 0, 100

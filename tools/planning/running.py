@@ -14,7 +14,7 @@ import time
 from dataclasses import dataclass, field
 from typing import Optional
 
-from processes import SIGNALS, end_all, ended_with_this, take_orphans
+from gadvresa.running.holding import SIGNALS, end_all, ended_with_this, take_orphans
 
 # How much of what a program says is kept.
 LONGEST_SAID = 1 << 20

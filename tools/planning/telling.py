@@ -5,10 +5,9 @@ what is printed reaches the terminal.
 """
 import contextlib
 import os
-import sys
 
+from gadvresa.cli import complain
 from gadvresa.model import cost_shown, gap_shown
-from whole_files import write_all
 
 # Seconds between two looks at the clock on a terminal, and how wide a line is where the terminal doesn't tell.
 BEAT, WIDTH = 1.0, 80
@@ -20,11 +19,7 @@ class Teller:
         self.shown = False
 
     def put(self, text):
-        # (there is none where it was closed from the beginning)
-        if sys.stderr:
-            # (what a buffer held of it would be tried again at the end, and change the status)
-            with contextlib.suppress(OSError):
-                write_all(2, text.encode(errors="backslashreplace"))
+        complain(text)
 
     def remark(self, text):
         """Says something that stays."""

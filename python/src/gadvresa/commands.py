@@ -28,12 +28,13 @@ from . import errors
 from .answers import (Audited, Bounded, Checked, Improved, Judged, Outcome, Rebound, Repaired, Replayed, Rolled, Solved,
                       Table)
 from .explaining import Source
-from .files import Certificate, Plan, is_refined, permissions, script_data
+from .files import Certificate, Plan, is_refined, script_data
 from .model.exact import Slack, decimal_of, slack_word, whole_of
 from .model.instance import Instance
 from .reports import NoReport, Report, broken_rule, costs, keys_of, read_table, refusal
 from .reports.lines import count_of, or_none
 from .running import Called, NotFound, Path, Status, Stopped, find, room, run, signal_name
+from .whole_files import permissions
 
 Made = TypeVar("Made")
 AnyInstance = Union[Instance, Path]

@@ -1,14 +1,13 @@
 """Plans, certificates and lines of scripts: what calls take and give beside instances."""
 from __future__ import annotations
 
-import contextlib
 import os
 import re
-import tempfile
 from dataclasses import dataclass, field
-from typing import Dict, Iterable, Iterator, Mapping, Optional, Tuple, Union
+from typing import Dict, Iterable, Iterator, Mapping, Tuple, Union
 
 from .running import Path, tidied
+from .whole_files import permissions, replacing
 
 # The line of a plan: a name without blanks, one blank or more, and the start. Only a line feed ends a line.
 LINE = re.compile(r"([^ ]+) +([0-9]{1,9}) *")
@@ -180,55 +179,8 @@ def script_data(lines: Iterable[str]) -> bytes:
 
 
 def write_whole(path: Path, data: bytes) -> None:
-    """Puts a file in the place of what stands there, once all of it is written beside it."""
+    """Puts a file in the place of what stands there, with its permissions, once all of it is written beside it."""
     place = os.path.realpath(os.fspath(path))
-    with tidied():
-        number, beside = tempfile.mkstemp(prefix=".gadvresa-", dir=os.path.dirname(place))
-        try:
-            with os.fdopen(number, "wb") as file:
-                file.write(data)
-                file.flush()
-                os.fsync(file.fileno())
-            os.chmod(beside, permissions(place))
-            os.replace(beside, place)
-        except BaseException:
-            # (it isn't there where an interrupt comes just behind the replacing)
-            with contextlib.suppress(OSError):
-                os.unlink(beside)
-            raise
-
-
-def permissions(place: str) -> int:
-    """What a file that takes this place has to be allowed: what stood there was, or what new files are."""
-    try:
-        return os.stat(place).st_mode & 0o777
-    except OSError:
-        return 0o666 & ~umask()
-
-
-def umask() -> int:
-    """Which permissions new files don't get. It is only read here: setting it would change the files of other threads.
-    """
-    mask = _read_umask()
-    return FIRST_UMASK if mask is None else mask
-
-
-def _read_umask() -> Optional[int]:
-    """The umask as the system tells it, where it does."""
-    try:
-        with open("/proc/self/status", encoding="ascii", errors="replace") as file:
-            return next((int(line.split()[1], 8) for line in file if line.startswith("Umask:")), None)
-    except OSError:
-        return None
-
-
-def _first_umask() -> int:
-    """The umask when this package is imported, which no other thread sees changed to one that lets others in."""
-    mask = _read_umask()
-    if mask is None:
-        mask = os.umask(0o077)
-        os.umask(mask)
-    return mask
-
-
-FIRST_UMASK = _first_umask()
+    with tidied(), replacing(place) as file:
+        os.fchmod(file.fileno(), permissions(place))
+        file.write(data)

@@ -14,7 +14,7 @@ from functools import cached_property
 from typing import Any, Callable, Dict, FrozenSet, List, Mapping, Tuple, TypeVar
 
 from ..running.finding import Path
-from .exact import kept, kept_whole
+from .exact import counted, kept, kept_whole
 from .json_text import Broken, Data, Value, mapped
 
 Made = TypeVar("Made")
@@ -123,6 +123,17 @@ class Intervention:
     def risks(self, period: int, start: int) -> Tuple[Fraction, ...]:
         """Its risks in a period of its run from a start, one for each scenario of the period."""
         return tuple(self._risk_row(kept, period, start))
+
+    def counted_loads(self, resource: str) -> Dict[Tuple[int, int], int]:
+        """Its loads on a resource other than 0 in the periods of its allowed runs, by period and start, in counts."""
+        runs = {start: self.run(start) for start in self.starts}
+        found = self._read("workload", lambda: {
+            at: counted(text) for at, text in self._loads.get(resource, {}).items() if at[0] in runs.get(at[1], ())})
+        return {at: count for at, count in found.items() if count}
+
+    def counted_risks(self, period: int, start: int) -> List[int]:
+        """`risks` in counts, which are whole numbers."""
+        return self._risk_row(counted, period, start)
 
     def float_load(self, resource: str, period: int, start: int) -> float:
         """`load` as a float, which is fast and rounded."""

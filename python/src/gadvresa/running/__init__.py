@@ -2,7 +2,7 @@
 package.
 
 `finding` looks for the programs, `calling` runs them, `ending` ends them with this process, and `statuses` names how
-they end.
+they end. `holding` ends what a script starts with that script, and `processes` says what runs below a process.
 """
 from .calling import Called, Stopped, run, run_words, signal_name
 from .ending import room, tidied

@@ -2,6 +2,8 @@
 from __future__ import annotations
 
 import contextlib
+import os
+import selectors
 import signal
 import subprocess
 import threading
@@ -15,11 +17,15 @@ from .finding import Program
 # How often a call that can be cancelled looks whether it is, in seconds; how often each call looks whether its program
 # has ended; and how long what it said is waited for then.
 LOOK, LOOK_AT_END, LAST = 0.05, 0.5, 0.5
+# How many bytes of the end of standard error are kept, and how many are read at a time.
+LONGEST_ERRORS, MOST_READ = 1 << 16, 1 << 16
 
 
 @dataclass(frozen=True)
 class Called:
-    """A call of a program: its file, its words, its status (below 0: ended by that signal), seconds, what it said."""
+    """A call of a program: its file, its words, its status (below 0: ended by that signal), seconds, and what it said:
+    all of standard output, and the end of standard error.
+    """
 
     program: str
     words: Tuple[str, ...]
@@ -51,7 +57,9 @@ def run(program: Program, words: Tuple[str, ...], timeout: Optional[float] = Non
 
 def run_words(words: Sequence[str], timeout: Optional[float] = None,
               cancel: Optional[threading.Event] = None) -> Tuple[int, bytes, bytes]:
-    """The status of a call, and what it said on standard output and standard error. It raises and ends as `run`."""
+    """The status of a call, what it said on standard output, and the end of what it said on standard error. It raises
+    and ends as `run`.
+    """
     end = None if timeout is None else time.monotonic() + timeout
     if cancel is not None and cancel.is_set():
         raise Stopped(False)
@@ -71,26 +79,59 @@ def run_words(words: Sequence[str], timeout: Optional[float] = None,
 
 def _wait(process: "subprocess.Popen[bytes]", end: Optional[float],
           cancel: Optional[threading.Event]) -> Tuple[bytes, bytes]:
-    while True:
+    with contextlib.closing(_Said(process)) as said:
         step = LOOK_AT_END if cancel is None else LOOK
-        try:
-            return process.communicate(timeout=step if end is None else min(step, max(0.0, end - time.monotonic())))
-        except subprocess.TimeoutExpired:
+        while process.poll() is None:
+            said.read(step if end is None else min(step, max(0.0, end - time.monotonic())))
             if process.poll() is not None:
-                return _rest(process)
+                break
             if cancel is not None and cancel.is_set():
-                raise Stopped(False) from None
+                raise Stopped(False)
             if end is not None and time.monotonic() >= end:
-                raise Stopped(True) from None
+                raise Stopped(True)
+        # (a process that it left may hold its output open, and is ended)
+        end_all_of(process)
+        said.read_rest(LAST)
+        return bytes(said.output), bytes(said.errors)
 
 
-def _rest(process: "subprocess.Popen[bytes]") -> Tuple[bytes, bytes]:
-    """What a program said that has ended. A process that it left may hold its output open, and is ended."""
-    end_all_of(process)
-    try:
-        return process.communicate(timeout=LAST)
-    except subprocess.TimeoutExpired as late:
-        return late.output or b"", late.stderr or b""
+class _Said:
+    """What a program says as it comes: all of standard output, and the end of standard error."""
+
+    def __init__(self, process: "subprocess.Popen[bytes]") -> None:
+        self.process, self.output, self.errors = process, bytearray(), bytearray()
+        self.selector = selectors.DefaultSelector()
+        for pipe, kept in ((process.stdout, self.output), (process.stderr, self.errors)):
+            assert pipe is not None
+            os.set_blocking(pipe.fileno(), False)
+            self.selector.register(pipe, selectors.EVENT_READ, kept)
+
+    def is_open(self) -> bool:
+        return bool(self.selector.get_map())
+
+    def read(self, seconds: float) -> None:
+        """Takes what comes, and waits so many seconds for it; for the end of the program, where nothing can come."""
+        if not self.is_open():
+            with contextlib.suppress(subprocess.TimeoutExpired):
+                self.process.wait(seconds)
+        for key, _ in self.selector.select(seconds) if self.is_open() else ():
+            try:
+                data = os.read(key.fd, MOST_READ)
+            except BlockingIOError:
+                continue
+            if not data:
+                self.selector.unregister(key.fileobj)
+            key.data.extend(data)
+        del self.errors[:-LONGEST_ERRORS]
+
+    def read_rest(self, seconds: float) -> None:
+        """Takes what is left behind the end of the program, and waits so many seconds for it at most."""
+        end = time.monotonic() + seconds
+        while self.is_open() and time.monotonic() < end:
+            self.read(max(0.0, end - time.monotonic()))
+
+    def close(self) -> None:
+        self.selector.close()
 
 
 def _end(process: "subprocess.Popen[bytes]") -> None:

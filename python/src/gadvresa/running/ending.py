@@ -13,7 +13,9 @@ import signal
 import subprocess
 import tempfile
 import threading
-from typing import Dict, Iterator, List, Optional
+from typing import Iterator, List, Optional
+
+from .processes import below, send
 
 SIGNALS = (signal.SIGTERM, signal.SIGHUP)
 _came: List[int] = []
@@ -97,31 +99,7 @@ def _note(number: int, _: object) -> None:
 
 def end_all_of(process: "subprocess.Popen[bytes]") -> None:
     """Kills a program that leads a session of its own, and what it started; what is in its session also behind it."""
-    for number in _below(process.pid) if process.returncode is None else []:
-        _kill(number)
+    if process.returncode is None:
+        send(below(process.pid), signal.SIGKILL)
     with contextlib.suppress(ProcessLookupError, PermissionError):
         os.killpg(process.pid, signal.SIGKILL)
-
-
-def _kill(number: int) -> None:
-    with contextlib.suppress(ProcessLookupError, PermissionError):
-        os.kill(number, signal.SIGKILL)
-
-
-def _below(number: int) -> List[int]:
-    """The processes below a process, as far as the system has a /proc that tells of them."""
-    children: Dict[int, List[int]] = {}
-    names: List[str] = []
-    with contextlib.suppress(OSError):
-        names = [name for name in os.listdir("/proc") if name.isdigit()]
-    for name in names:
-        with contextlib.suppress(OSError, ValueError, IndexError):
-            with open(f"/proc/{name}/stat", "rb") as file:
-                parent = int(file.read().rpartition(b")")[2].split()[1])
-            children.setdefault(parent, []).append(int(name))
-    found, ahead = [], [number]
-    while ahead:
-        own = children.get(ahead.pop(), [])
-        found += own
-        ahead += own
-    return found
