@@ -12,7 +12,7 @@ use Rattle.certificate_tree.specs.Ranges.{AreNodesOf}
 use Rattle.certificate_text.proofs.FormLemmas.{ascend_pairs}
 use Rattle.refined_prices.specs.declared.clique.Clique.{Clique}
 use Rattle.refined_prices.specs.RefinedLists.{RefinedList, IsRefinedList}
-use Rattle.refined_certificate.specs.Orders.{GroupBefore, AreGroupsInOrder, IsInOrder}
+use Rattle.refined_check.specs.certificate.Orders.{GroupBefore, AreGroupsInOrder, IsInOrder}
 use Rattle.refined_check.specs.Singles.{single, singles_of, refined_of, PriceListsAreRefined}
 use Rattle.certificate_versions.specs.Laws.{VersionsStayInRange}
 

@@ -14,8 +14,8 @@ use Rattle.certificate_read.specs.declared.fault.CertFault.TheVariants.{Cut, Bad
 use Rattle.certificate_read.specs.Faults.{HasCertFault, IsTextOf}
 use Rattle.certificate_read.specs.Laws.{TextsAreTold}
 use Rattle.certificate_read.proofs.CompleteLemmas.{no_fault}
-use Rattle.refined_certificate.specs.declared.certificate.RefinedCertificate.{RefinedCertificate}
-use Rattle.refined_certificate.specs.Ranges.{IsRefinedInRange}
+use Rattle.refined_check.specs.declared.certificate.certificate.RefinedCertificate.{RefinedCertificate}
+use Rattle.refined_check.specs.certificate.Ranges.{IsRefinedInRange}
 use Rattle.refined_text.specs.Text.{refined_text}
 use Rattle.refined_grammar.specs.Laws.{RefinedTextsTell}
 use Rattle.refined_read.specs.Faults.{HasRefinedCertFault, IsRefinedTextOf}

@@ -6,7 +6,7 @@ use Rattle.instance_model.specs.Tables.{Tables}
 use Rattle.certificate_tree.specs.declared.certificate.Certificate.{Certificate}
 use Rattle.certificate_read.specs.declared.fault.CertFault.{CertFault}
 use Rattle.certificate_read.specs.Faults.{HasCertFault, IsTextOf}
-use Rattle.refined_certificate.specs.declared.certificate.RefinedCertificate.{RefinedCertificate}
+use Rattle.refined_check.specs.declared.certificate.certificate.RefinedCertificate.{RefinedCertificate}
 use Rattle.refined_read.specs.Faults.{HasRefinedCertFault, IsRefinedTextOf}
 use Rattle.certificate_versions.specs.Versions.{refined_certificate_of}
 

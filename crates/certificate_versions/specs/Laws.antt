@@ -8,8 +8,8 @@ use Rattle.certificate_tree.specs.Ranges.{IsInRange}
 use Rattle.certificate_tree.specs.Validity.{IsValid, IsFirstFailing}
 use Rattle.certificate_read.specs.declared.fault.CertFault.{CertFault}
 use Rattle.certificate_read.specs.Faults.{IsTextOf}
-use Rattle.refined_certificate.specs.declared.certificate.RefinedCertificate.{RefinedCertificate}
-use Rattle.refined_certificate.specs.Ranges.{IsRefinedInRange}
+use Rattle.refined_check.specs.declared.certificate.certificate.RefinedCertificate.{RefinedCertificate}
+use Rattle.refined_check.specs.certificate.Ranges.{IsRefinedInRange}
 use Rattle.refined_check.specs.Validity.{IsRefinedValid, IsRefinedFirstFailing}
 use Rattle.refined_read.specs.Faults.{IsRefinedTextOf}
 use Rattle.certificate_versions.specs.Versions.{refined_certificate_of}

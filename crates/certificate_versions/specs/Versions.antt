@@ -2,7 +2,7 @@
 use Rattle.std.specs.Prelude.{map}
 use Rattle.instance_model.specs.Tables.{Tables}
 use Rattle.certificate_tree.specs.declared.certificate.Certificate.{Certificate}
-use Rattle.refined_certificate.specs.declared.certificate.RefinedCertificate.{RefinedCertificate}
+use Rattle.refined_check.specs.declared.certificate.certificate.RefinedCertificate.{RefinedCertificate}
 use Rattle.refined_check.specs.Singles.{refined_of}
 
 -- the same bound and nodes, and each price list as a refined one

@@ -2,7 +2,7 @@
 ghost use Rattle.std.specs.Prelude.{◌≡◌, map, All, IfOk};
 ghost use Rattle.lagrange_bound.specs.Prices.{IsPriceList};
 ghost use Rattle.certificate_tree.specs.Ranges.{IsInRange};
-ghost use Rattle.refined_certificate.specs.Ranges.{IsRefinedInRange};
+ghost use Rattle.refined_check.specs.certificate.Ranges.{IsRefinedInRange};
 ghost use Rattle.refined_check.specs.Singles.{refined_of};
 ghost use Rattle.certificate_versions.specs.Versions.{refined_certificate_of};
 
@@ -11,7 +11,7 @@ use crate::list::refined_list;
 use certificate_tree::{Certificate, Nodes};
 use instance_model::Instance;
 use lagrange_bound::Prices;
-use refined_certificate::{RefinedCertificate, RefinedLists};
+use refined_check::{RefinedCertificate, RefinedLists};
 use std::alloc::{AllocError, Global};
 
 /// The certificate by refined price lists that a certificate of version 1 or 2 is told as: the same bound and nodes,

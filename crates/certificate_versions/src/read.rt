@@ -3,15 +3,15 @@ ghost use Rattle.std.specs.Prelude.{◌≡◌, ◌≢◌, ◌⊎◌, Ok, Err, If
 ghost use Rattle.certificate_read.specs.declared.fault.CertFault.{CertFault};
 ghost use Rattle.certificate_read.specs.declared.fault.CertFault.TheVariants.{Memory};
 ghost use Rattle.certificate_read.specs.Faults.{HasCertFault};
-ghost use Rattle.refined_certificate.specs.declared.certificate.RefinedCertificate.{RefinedCertificate};
-ghost use Rattle.refined_certificate.specs.Ranges.{IsRefinedInRange};
+ghost use Rattle.refined_check.specs.declared.certificate.certificate.RefinedCertificate.{RefinedCertificate};
+ghost use Rattle.refined_check.specs.certificate.Ranges.{IsRefinedInRange};
 ghost use Rattle.certificate_versions.specs.AnyTexts.{begins_refined, IsOlderText, IsAnyText, HasAnyFault};
 
 use crate::certificate::refined_certificate;
 use crate::laws::any_texts_tell;
 use certificate_read::{CertFault, read_certificate};
 use instance_model::Instance;
-use refined_certificate::RefinedCertificate;
+use refined_check::RefinedCertificate;
 use refined_read::read_refined_certificate;
 use std::alloc::Global;
 

@@ -9,7 +9,7 @@ use Rattle.instance_model.proofs.RuleLemmas.{KeepsRules-from}
 use Rattle.lagrange_bound.specs.Goals.{risk_value}
 use Rattle.branch_search.specs.declared.part.Part.{Part}
 use Rattle.branch_search.specs.Best.{IsFeasiblePlan, IsBestOver, bound_of}
-use Rattle.refined_certificate.specs.declared.certificate.RefinedCertificate.{RefinedCertificate}
+use Rattle.refined_check.specs.declared.certificate.certificate.RefinedCertificate.{RefinedCertificate}
 use Rattle.refined_search.specs.declared.raised.Raised.{Raised}
 use Rattle.refined_search.specs.Raising.{IsRaised}
 use Rattle.descent_ends.specs.Turns.{AreEnough}

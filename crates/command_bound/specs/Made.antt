@@ -7,8 +7,8 @@ use Rattle.instance_model.specs.Tables.{Tables}
 use Rattle.instance_model.specs.Values.{score_of}
 use Rattle.branch_search.specs.declared.part.Part.{Part}
 use Rattle.branch_search.specs.Best.{IsFeasiblePlan}
-use Rattle.refined_certificate.specs.declared.certificate.RefinedCertificate.{RefinedCertificate}
-use Rattle.refined_certificate.specs.Ranges.{IsRefinedInRange}
+use Rattle.refined_check.specs.declared.certificate.certificate.RefinedCertificate.{RefinedCertificate}
+use Rattle.refined_check.specs.certificate.Ranges.{IsRefinedInRange}
 use Rattle.refined_files.specs.RefinedKind.{refined_kind}
 use Rattle.refined_search.specs.Raising.{IsRaised}
 use Rattle.command_frame.specs.Sources.{Source}

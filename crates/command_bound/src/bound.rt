@@ -4,7 +4,7 @@ ghost use Rattle.instance_model.specs.Limits.{standard_limits};
 ghost use Rattle.instance_shape.specs.Ranges.{AreStandard};
 ghost use Rattle.plan_desk.specs.Contents.{OnlyReads};
 ghost use Rattle.branch_search.specs.declared.part.Part.{Part};
-ghost use Rattle.refined_certificate.specs.Ranges.{IsRefinedInRange};
+ghost use Rattle.refined_check.specs.certificate.Ranges.{IsRefinedInRange};
 ghost use Rattle.command_frame.specs.Sources.{source_view};
 ghost use Rattle.command_frame.specs.Files.{reading};
 ghost use Rattle.command_frame.specs.Refusals.{CountsRefusal, IsDueAs};

@@ -2,7 +2,7 @@
 ghost use Rattle.std.specs.Prelude.{◌≡◌, ◌≤◌, ◌<◌, ◌^◌, ◌++◌, ℤ, Option, length, option_map, IfOk, IfSome, OnOk};
 ghost use Rattle.std.specs.Prelude.{unsigned_abs};
 ghost use Rattle.certificate_tree.specs.Ranges.{IsBoundInRange};
-ghost use Rattle.refined_certificate.specs.Ranges.{IsRefinedInRange};
+ghost use Rattle.refined_check.specs.certificate.Ranges.{IsRefinedInRange};
 ghost use Rattle.command_frame.specs.Reports.{bound_or_none_line, gap_text};
 ghost use Rattle.command_bound.specs.Bounding.{counts_text, bound_status};
 ghost use Rattle.command_bound.specs.Made.{starts_of, IsMade};
@@ -14,7 +14,7 @@ use command_answers::valid_is_accepted;
 use command_frame::{Report, Text, push_bound_or_none, push_gap, push_numbered, push_rounded};
 use instance_model::Instance;
 use plan_text::Plan;
-use refined_certificate::RefinedCertificate;
+use refined_check::RefinedCertificate;
 use refined_files::VersionedCertificate;
 use refined_search::{Raised, raise_bound};
 use std::alloc::{AllocError, Global};

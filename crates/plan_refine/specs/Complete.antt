@@ -9,7 +9,7 @@ use Rattle.plan_desk.specs.Desk.{Shown}
 use Rattle.instance_model.specs.Limits.{standard_limits}
 use Rattle.instance_model.specs.Tables.{Tables}
 use Rattle.branch_search.specs.declared.part.Part.{Part}
-use Rattle.refined_certificate.specs.declared.certificate.RefinedCertificate.{RefinedCertificate}
+use Rattle.refined_check.specs.declared.certificate.certificate.RefinedCertificate.{RefinedCertificate}
 use Rattle.refined_files.specs.RefinedKind.{refined_kind}
 use Rattle.command_frame.specs.Sources.{Source}
 use Rattle.command_frame.specs.Files.{TellsInstance, TellsCertificateBy}

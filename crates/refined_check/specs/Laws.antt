@@ -5,8 +5,8 @@ use Rattle.instance_model.specs.Fitting.{IsFitting}
 use Rattle.lagrange_bound.specs.Goals.{risk_value}
 use Rattle.certificate_tree.specs.Validity.{BoundBoxes, BoundsPlans}
 use Rattle.refined_prices.specs.RefinedLists.{RefinedList, IsRefinedList}
-use Rattle.refined_certificate.specs.declared.certificate.RefinedCertificate.{RefinedCertificate}
-use Rattle.refined_certificate.specs.Ranges.{IsRefinedInRange}
+use Rattle.refined_check.specs.declared.certificate.certificate.RefinedCertificate.{RefinedCertificate}
+use Rattle.refined_check.specs.certificate.Ranges.{IsRefinedInRange}
 use Rattle.refined_check.specs.Worths.{refined_worths}
 use Rattle.refined_check.specs.Validity.{IsRefinedValid}
 

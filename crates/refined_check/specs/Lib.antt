@@ -1,4 +1,5 @@
 -- What the contracts cite.
+pub mod certificate
 pub mod Worths
 pub mod Validity
 pub mod Laws

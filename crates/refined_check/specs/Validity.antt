@@ -6,7 +6,7 @@ use Rattle.lagrange_bound.specs.Goals.{risk_value}
 use Rattle.certificate_tree.specs.Validity.{Claim, IsProved, IsFirstUnproved}
 use Rattle.certificate_check.specs.declared.verdict.CertVerdict.{CertVerdict}
 use Rattle.certificate_check.specs.Verdicts.{IsVerdictOn}
-use Rattle.refined_certificate.specs.declared.certificate.RefinedCertificate.{RefinedCertificate}
+use Rattle.refined_check.specs.declared.certificate.certificate.RefinedCertificate.{RefinedCertificate}
 use Rattle.refined_check.specs.Worths.{refined_worths}
 
 -- its bound, the worths by its lists, and its nodes

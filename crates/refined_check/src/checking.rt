@@ -4,16 +4,16 @@ ghost use Rattle.lagrange_bound.specs.Goals.{risk_value};
 ghost use Rattle.certificate_tree.specs.Validity.{BoundsPlans};
 ghost use Rattle.certificate_check.specs.declared.verdict.CertVerdict.{CertVerdict};
 ghost use Rattle.certificate_check.specs.declared.verdict.CertVerdict.TheVariants.{Valid};
-ghost use Rattle.refined_certificate.specs.Ranges.{IsRefinedInRange};
+ghost use Rattle.refined_check.specs.certificate.Ranges.{IsRefinedInRange};
 ghost use Rattle.refined_check.specs.Validity.{IsRefinedVerdict};
 
+use crate::certificate::RefinedCertificate;
 use crate::laws::refined_valid_bounds_plans;
 use crate::tables::refined_tables_of;
 use certificate_check::{CertVerdict, verdict_by};
 use certificate_tree::{nodes_are_one_tree, same_worths_prove_the_same};
 use instance_model::Instance;
 use lagrange_bound::RiskGoal;
-use refined_certificate::RefinedCertificate;
 use std::alloc::{AllocError, Global};
 
 /// Whether a certificate by refined price lists is valid for the score.

@@ -11,8 +11,8 @@ use Rattle.certificate_tree.specs.Validity.{AreSameWorths}
 use Rattle.certificate_versions.specs.AnyTexts.{IsAnyText}
 use Rattle.certificate_versions.specs.Laws.{EachTextIsTold, AnyTextsTell, AnyTextsAreSound}
 use Rattle.refined_prices.specs.RefinedLists.{RefinedList}
-use Rattle.refined_certificate.specs.declared.certificate.RefinedCertificate.{RefinedCertificate}
-use Rattle.refined_certificate.specs.Ranges.{IsRefinedInRange}
+use Rattle.refined_check.specs.declared.certificate.certificate.RefinedCertificate.{RefinedCertificate}
+use Rattle.refined_check.specs.certificate.Ranges.{IsRefinedInRange}
 use Rattle.refined_check.specs.Worths.{refined_pricing_at, refined_worths}
 use Rattle.refined_check.specs.Validity.{refined_claim}
 use Rattle.refined_check.specs.Laws.{RefinedListsBoundBoxes}

@@ -8,8 +8,7 @@ use command_frame::FileCertificate;
 use instance_model::Instance;
 use lagrange_bound::PriceTable;
 use plan_desk::{Desk, Failed};
-use refined_certificate::RefinedCertificate;
-use refined_check::{refined_lists_bound_boxes, refined_tables_of};
+use refined_check::{RefinedCertificate, refined_lists_bound_boxes, refined_tables_of};
 use refined_text::{refined_text_length, write_refined_certificate};
 use std::alloc::{AllocError, Global};
 use std::marker::Model;
@@ -21,7 +20,7 @@ pub struct VersionedCertificate {
 }
 
 impl Model for VersionedCertificate {
-    ghost use Rattle.refined_certificate.specs.declared.certificate.RefinedCertificate.{RefinedCertificate};
+    ghost use Rattle.refined_check.specs.declared.certificate.certificate.RefinedCertificate.{RefinedCertificate};
 
     ghost Value = { RefinedCertificate };
 

@@ -31,7 +31,7 @@ use Rattle.certificate_text.proofs.FormLemmas.{bound_form}
 use Rattle.certificate_text.proofs.FormLemmas.{tree_such, root_small}
 use Rattle.refined_lines.specs.declared.line.RefinedLine.TheVariants.{Plain}
 use Rattle.refined_lines.specs.Spelling.{IsPlain, IsMember, MemberBefore, IsRefinedLine}
-use Rattle.refined_certificate.specs.Orders.{first_scenario, GroupBefore, AreGroupsInOrder, IsInOrder}
+use Rattle.refined_check.specs.certificate.Orders.{first_scenario, GroupBefore, AreGroupsInOrder, IsInOrder}
 use Rattle.refined_text.specs.Text.{line_member, group_line, group_lines, cap_lines, offset_line, clique_line}
 use Rattle.refined_text.specs.Text.{further_lines, refined_list_lines, refined_certificate_lines}
 use Rattle.refined_grammar.specs.Laws.{RefinedLinesHaveForms}

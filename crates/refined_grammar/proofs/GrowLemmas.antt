@@ -12,7 +12,7 @@ use Rattle.refined_prices.specs.declared.group_tail.GroupTail.{GroupTail}
 use Rattle.refined_prices.specs.Groups.{IsGroup, AreDisjoint}
 use Rattle.refined_prices.specs.Offsets.{group_tail_at}
 use Rattle.refined_lines.specs.declared.line.RefinedLine.{RefinedLine}
-use Rattle.refined_certificate.specs.Orders.{GroupBefore}
+use Rattle.refined_check.specs.certificate.Orders.{GroupBefore}
 use Rattle.refined_text.specs.Text.{group_line, group_lines}
 use Rattle.refined_grammar.specs.Further.{groups_of, with_group, with_group_at}
 use Rattle.refined_grammar.specs.SoFar.{IsPartTail}

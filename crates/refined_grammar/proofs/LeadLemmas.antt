@@ -30,7 +30,7 @@ use Rattle.certificate_text.proofs.TellLemmas.{each_append, limits_each, ex_each
 use Rattle.certificate_text.proofs.LeadLemmas.{entries_lead, tree_leads}
 use Rattle.refined_lines.specs.declared.line.RefinedLine.{RefinedLine}
 use Rattle.refined_lines.specs.declared.line.RefinedLine.TheVariants.{Plain}
-use Rattle.refined_certificate.specs.Orders.{GroupBefore, AreGroupsInOrder, IsInOrder}
+use Rattle.refined_check.specs.certificate.Orders.{GroupBefore, AreGroupsInOrder, IsInOrder}
 use Rattle.refined_text.specs.Text.{group_line, group_lines, cap_lines, offset_line, clique_line}
 use Rattle.refined_text.specs.Text.{further_lines, refined_entry_lines, refined_list_lines}
 use Rattle.refined_grammar.specs.Further.{Further, no_further, groups_of, with_group}

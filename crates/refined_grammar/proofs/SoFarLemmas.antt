@@ -15,7 +15,7 @@ use Rattle.refined_prices.specs.Cliques.{IsPricedClique, CliqueBefore}
 use Rattle.refined_prices.specs.RefinedLists.{IsRefinedList}
 use Rattle.certificate_text.specs.Grammar.{EntryKey}
 use Rattle.certificate_text.proofs.KeyLemmas.{less_one}
-use Rattle.refined_certificate.specs.Orders.{AreGroupsInOrder, IsInOrder}
+use Rattle.refined_check.specs.certificate.Orders.{AreGroupsInOrder, IsInOrder}
 use Rattle.refined_grammar.specs.Further.{Further, with_group, with_group_at, HasEnough, IsNextGroup, GroupFits}
 use Rattle.refined_grammar.specs.Further.{IsNextOffset, OffsetFits, IsNextClique, CliqueFits, with_cap, with_group_of}
 use Rattle.refined_grammar.specs.Further.{with_offset, with_clique, offset_of_line, clique_of_line}

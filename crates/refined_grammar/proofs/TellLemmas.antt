@@ -25,7 +25,7 @@ use Rattle.refined_lines.specs.declared.line.RefinedLine.{RefinedLine}
 use Rattle.refined_lines.specs.declared.line.RefinedLine.TheVariants.{Title, Plain, Cap, Group}
 use Rattle.refined_lines.specs.declared.line.RefinedLine.TheVariants as refined
 use Rattle.refined_lines.specs.Spelling.{refined_spelling, IsRefinedLine}
-use Rattle.refined_certificate.specs.Orders.{IsInOrder}
+use Rattle.refined_check.specs.certificate.Orders.{IsInOrder}
 use Rattle.refined_text.specs.Text.{line_member, group_line, group_lines, cap_lines, offset_line, clique_line}
 use Rattle.refined_text.specs.Text.{further_lines}
 use Rattle.refined_text.specs.Text.{refined_entry_lines, refined_list_lines, refined_line_text, text_of_refined}

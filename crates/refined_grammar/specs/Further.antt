@@ -12,7 +12,7 @@ use Rattle.refined_prices.specs.Groups.{weight_in, IsGroup, AreDisjoint}
 use Rattle.refined_prices.specs.Offsets.{group_tail_at, IsOffset}
 use Rattle.refined_prices.specs.Cliques.{IsPricedClique}
 use Rattle.refined_lines.specs.declared.members.LineMember.{LineMember}
-use Rattle.refined_certificate.specs.Orders.{GroupBefore}
+use Rattle.refined_check.specs.certificate.Orders.{GroupBefore}
 
 -- The kind of the last entry, counted from 1 as cap, group, offset and clique, 0 where there is none; the period of the
 -- last group, 0 where there is none; and the entries.

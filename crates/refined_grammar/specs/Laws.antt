@@ -9,9 +9,9 @@ use Rattle.refined_lines.specs.declared.members.LineMember.{LineMember}
 use Rattle.refined_lines.specs.declared.line.RefinedLine.{RefinedLine}
 use Rattle.refined_lines.specs.declared.line.RefinedLine.TheVariants as refined
 use Rattle.refined_lines.specs.Spelling.{IsRefinedLine}
-use Rattle.refined_certificate.specs.declared.certificate.RefinedCertificate.{RefinedCertificate}
-use Rattle.refined_certificate.specs.Orders.{IsInOrder}
-use Rattle.refined_certificate.specs.Ranges.{IsRefinedInRange}
+use Rattle.refined_check.specs.declared.certificate.certificate.RefinedCertificate.{RefinedCertificate}
+use Rattle.refined_check.specs.certificate.Orders.{IsInOrder}
+use Rattle.refined_check.specs.certificate.Ranges.{IsRefinedInRange}
 use Rattle.refined_text.specs.Text.{refined_entry_lines, refined_certificate_lines, refined_text}
 use Rattle.refined_grammar.specs.Further.{Further, no_further, group_of, offset_of_line, clique_of_line, HasEnough}
 use Rattle.refined_grammar.specs.Further.{IsNextGroup, GroupFits, IsNextOffset, OffsetFits, IsNextClique, CliqueFits}

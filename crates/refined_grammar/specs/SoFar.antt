@@ -10,7 +10,7 @@ use Rattle.refined_prices.specs.Cliques.{IsPricedClique, CliqueBefore}
 use Rattle.refined_prices.specs.RefinedLists.{RefinedList}
 use Rattle.certificate_text.specs.Grammar.{EntryKey}
 use Rattle.certificate_text.specs.Entries.{IsUpTo}
-use Rattle.refined_certificate.specs.Orders.{GroupBefore}
+use Rattle.refined_check.specs.certificate.Orders.{GroupBefore}
 use Rattle.refined_grammar.specs.Further.{Further, HasEnough}
 
 -- a list, by what was read of it

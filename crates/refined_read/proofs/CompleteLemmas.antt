@@ -14,8 +14,8 @@ use Rattle.refined_lines.specs.declared.line.RefinedLine.{RefinedLine}
 use Rattle.refined_lines.specs.declared.line.RefinedLine.TheVariants.{Title, Plain, Cap, Group, Offset, Clique}
 use Rattle.refined_lines.specs.Spelling.{refined_spelling, IsRefinedLine}
 use Rattle.refined_lines.proofs.LawLemmas.{one_refined, no_feed}
-use Rattle.refined_certificate.specs.declared.certificate.RefinedCertificate.{RefinedCertificate}
-use Rattle.refined_certificate.specs.Ranges.{IsRefinedInRange}
+use Rattle.refined_check.specs.declared.certificate.certificate.RefinedCertificate.{RefinedCertificate}
+use Rattle.refined_check.specs.certificate.Ranges.{IsRefinedInRange}
 use Rattle.refined_text.specs.Text.{text_of_refined, refined_certificate_lines, refined_text}
 use Rattle.refined_grammar.specs.Further.{no_further}
 use Rattle.refined_grammar.specs.Grammar.{RefinedPlace, start, within, HasRefinedEnded, RefinedStands, RefinedFits}

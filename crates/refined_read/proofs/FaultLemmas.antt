@@ -12,7 +12,7 @@ use Rattle.certificate_read.specs.declared.fault.CertFault.TheVariants.{Cut, Bad
 use Rattle.refined_lines.specs.declared.line.RefinedLine.{RefinedLine}
 use Rattle.refined_lines.specs.Spelling.{refined_spelling, IsRefinedLine}
 use Rattle.refined_lines.proofs.LawLemmas.{one_refined, no_feed}
-use Rattle.refined_certificate.specs.declared.certificate.RefinedCertificate.{RefinedCertificate}
+use Rattle.refined_check.specs.declared.certificate.certificate.RefinedCertificate.{RefinedCertificate}
 use Rattle.refined_text.specs.Text.{text_of_refined}
 use Rattle.refined_grammar.specs.Grammar.{RefinedPlace, start, RefinedStands, RefinedFits, refined_after, RefinedLeads}
 use Rattle.refined_grammar.specs.Laws.{RefinedTextsTell}

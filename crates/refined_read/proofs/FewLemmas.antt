@@ -10,7 +10,7 @@ use Rattle.refined_prices.specs.declared.group_tail.GroupTail.{GroupTail}
 use Rattle.refined_prices.specs.Groups.{scenarios_in, IsGroup}
 use Rattle.refined_prices.specs.Offsets.{group_tail_at, group_count}
 use Rattle.certificate_text.proofs.FormLemmas.{scenarios_small}
-use Rattle.refined_certificate.specs.Orders.{first_scenario, GroupBefore}
+use Rattle.refined_check.specs.certificate.Orders.{first_scenario, GroupBefore}
 use Rattle.refined_read.specs.Parts.{Part}
 use Rattle.refined_read.specs.Taking.{IsPart}
 

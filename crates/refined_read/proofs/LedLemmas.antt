@@ -32,9 +32,9 @@ use Rattle.refined_lines.specs.declared.members.LineMember.{LineMember}
 use Rattle.refined_lines.specs.declared.line.RefinedLine.{RefinedLine}
 use Rattle.refined_lines.specs.declared.line.RefinedLine.TheVariants.{Title, Plain, Cap, Group}
 use Rattle.refined_lines.specs.declared.line.RefinedLine.TheVariants as refined
-use Rattle.refined_certificate.specs.declared.certificate.RefinedCertificate.{RefinedCertificate}
-use Rattle.refined_certificate.specs.Orders.{IsInOrder}
-use Rattle.refined_certificate.specs.Ranges.{IsRefinedInRange}
+use Rattle.refined_check.specs.declared.certificate.certificate.RefinedCertificate.{RefinedCertificate}
+use Rattle.refined_check.specs.certificate.Orders.{IsInOrder}
+use Rattle.refined_check.specs.certificate.Ranges.{IsRefinedInRange}
 use Rattle.refined_text.specs.Text.{refined_entry_lines, refined_list_lines, refined_certificate_lines}
 use Rattle.refined_grammar.specs.Further.{Further, no_further, HasEnough, group_of, with_cap, with_group_of}
 use Rattle.refined_grammar.specs.Further.{with_offset, with_clique, offset_of_line, clique_of_line}

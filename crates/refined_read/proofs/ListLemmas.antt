@@ -15,7 +15,7 @@ use Rattle.certificate_read.specs.Reading.{fault_at}
 use Rattle.refined_prices.specs.RefinedLists.{RefinedList, IsRefinedList}
 use Rattle.refined_lines.specs.declared.line.RefinedLine.{RefinedLine}
 use Rattle.refined_lines.specs.declared.line.RefinedLine.TheVariants.{Title, Plain, Cap, Group, Offset, Clique}
-use Rattle.refined_certificate.specs.Orders.{IsInOrder}
+use Rattle.refined_check.specs.certificate.Orders.{IsInOrder}
 use Rattle.refined_text.specs.Text.{refined_entry_lines, refined_list_lines}
 use Rattle.refined_grammar.specs.Further.{no_further, HasEnough}
 use Rattle.refined_grammar.specs.Grammar.{RefinedPlace, within, RefinedStands, RefinedFits, refined_after}

@@ -17,7 +17,7 @@ use Rattle.certificate_read.specs.Lines.{Left}
 use Rattle.refined_prices.specs.RefinedLists.{RefinedList}
 use Rattle.refined_lines.specs.declared.line.RefinedLine.{RefinedLine}
 use Rattle.refined_lines.specs.declared.line.RefinedLine.TheVariants.{Title, Plain}
-use Rattle.refined_certificate.specs.declared.certificate.RefinedCertificate.{RefinedCertificate}
+use Rattle.refined_check.specs.declared.certificate.certificate.RefinedCertificate.{RefinedCertificate}
 use Rattle.refined_text.specs.Text.{text_of_refined, refined_list_lines, refined_certificate_lines}
 use Rattle.refined_grammar.specs.Further.{no_further}
 use Rattle.refined_grammar.specs.Grammar.{start, within}

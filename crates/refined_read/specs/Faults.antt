@@ -6,8 +6,8 @@ use Rattle.certificate_read.specs.declared.fault.CertFault.{CertFault}
 use Rattle.certificate_read.specs.declared.fault.CertFault.TheVariants.{Cut, BadLine, Bounds, Memory}
 use Rattle.refined_lines.specs.declared.line.RefinedLine.{RefinedLine}
 use Rattle.refined_lines.specs.Spelling.{refined_spelling, IsRefinedLine}
-use Rattle.refined_certificate.specs.declared.certificate.RefinedCertificate.{RefinedCertificate}
-use Rattle.refined_certificate.specs.Ranges.{IsRefinedInRange}
+use Rattle.refined_check.specs.declared.certificate.certificate.RefinedCertificate.{RefinedCertificate}
+use Rattle.refined_check.specs.certificate.Ranges.{IsRefinedInRange}
 use Rattle.refined_text.specs.Text.{text_of_refined, refined_text}
 use Rattle.refined_grammar.specs.Grammar.{RefinedPlace, start, HasRefinedEnded, RefinedStands, RefinedFits}
 use Rattle.refined_grammar.specs.Grammar.{RefinedLeads}

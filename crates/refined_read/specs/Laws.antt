@@ -2,7 +2,7 @@
 use Rattle.std.specs.Prelude.{ℕ, List}
 use Rattle.instance_model.specs.Tables.{Tables}
 use Rattle.certificate_read.specs.declared.fault.CertFault.{CertFault}
-use Rattle.refined_certificate.specs.declared.certificate.RefinedCertificate.{RefinedCertificate}
+use Rattle.refined_check.specs.declared.certificate.certificate.RefinedCertificate.{RefinedCertificate}
 use Rattle.refined_read.specs.Faults.{HasRefinedCertFault, IsRefinedTextOf}
 
 -- a text is that of a certificate, or has a fault: it can't be without both

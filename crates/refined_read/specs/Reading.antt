@@ -17,9 +17,9 @@ use Rattle.refined_prices.specs.RefinedLists.{RefinedList, IsRefinedList}
 use Rattle.refined_lines.specs.declared.line.RefinedLine.{RefinedLine}
 use Rattle.refined_lines.specs.declared.line.RefinedLine.TheVariants as refined
 use Rattle.refined_lines.specs.Spelling.{refined_spelling, IsRefinedLine}
-use Rattle.refined_certificate.specs.declared.certificate.RefinedCertificate.{RefinedCertificate}
-use Rattle.refined_certificate.specs.Orders.{IsInOrder}
-use Rattle.refined_certificate.specs.Ranges.{IsRefinedInRange}
+use Rattle.refined_check.specs.declared.certificate.certificate.RefinedCertificate.{RefinedCertificate}
+use Rattle.refined_check.specs.certificate.Orders.{IsInOrder}
+use Rattle.refined_check.specs.certificate.Ranges.{IsRefinedInRange}
 use Rattle.refined_text.specs.Text.{text_of_refined, refined_entry_lines, refined_list_lines, refined_certificate_lines}
 use Rattle.refined_grammar.specs.Further.{no_further}
 use Rattle.refined_grammar.specs.Grammar.{RefinedPlace, start, within, RefinedLeads}

@@ -2,7 +2,7 @@
 ghost use Rattle.std.specs.Prelude.{◌≡◌, ◌≢◌, ℕ, ◌≤◌, ◌↔◌, min, AllPairs, All, IsTrue, IfOk, IfSome, IfNone};
 ghost use Rattle.std.specs.Prelude.{option_map};
 ghost use Rattle.refined_prices.specs.Groups.{scenarios_in, weight_in, IsGroup, AreDisjoint};
-ghost use Rattle.refined_certificate.specs.Orders.{first_scenario as first_of, GroupBefore};
+ghost use Rattle.refined_check.specs.certificate.Orders.{first_scenario as first_of, GroupBefore};
 ghost use Rattle.refined_grammar.specs.Further.{group_of, groups_of, with_group};
 ghost use Rattle.refined_read.specs.Taking.{FitsBeside};
 

@@ -10,7 +10,7 @@ use crate::marks::{is_mark, is_mark_for};
 use crate::part::PartList;
 use certificate_read::{CertFault, Refusal};
 use instance_model::Instance;
-use refined_certificate::RefinedLists;
+use refined_check::RefinedLists;
 use refined_lines::RefinedLine;
 use refined_prices::RefinedPrices;
 use season_exclusion::{Named, named_lists};

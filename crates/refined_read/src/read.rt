@@ -2,7 +2,7 @@
 ghost use Rattle.std.specs.Prelude.{◌≡◌, ◌≢◌, ◌⊎◌, Ok, Err, IfOk, IfErr};
 ghost use Rattle.certificate_read.specs.declared.fault.CertFault.{CertFault};
 ghost use Rattle.certificate_read.specs.declared.fault.CertFault.TheVariants.{Memory};
-ghost use Rattle.refined_certificate.specs.declared.certificate.RefinedCertificate.{RefinedCertificate};
+ghost use Rattle.refined_check.specs.declared.certificate.certificate.RefinedCertificate.{RefinedCertificate};
 ghost use Rattle.refined_grammar.specs.Grammar.{start};
 ghost use Rattle.refined_read.specs.Faults.{HasRefinedFault, HasRefinedCertFault, IsRefinedTextOf};
 ghost use Rattle.refined_read.specs.Reading.{RefinedFails, ReadsRefinedCertificate};
@@ -13,7 +13,7 @@ use crate::lists::read_lists;
 use crate::tree::read_tree;
 use certificate_read::CertFault;
 use instance_model::Instance;
-use refined_certificate::RefinedCertificate;
+use refined_check::RefinedCertificate;
 use refined_grammar::refined_texts_tell;
 use std::alloc::Global;
 

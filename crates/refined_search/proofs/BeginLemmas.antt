@@ -18,7 +18,7 @@ use Rattle.band_rebound.specs.declared.rebounded.ReboundTree.{ReboundTree}
 use Rattle.band_rebound.specs.Rebinding.{IsNoLower}
 use Rattle.band_rebound.specs.Rebounds.{IsReboundBy}
 use Rattle.refined_prices.specs.RefinedLists.{RefinedList, IsRefinedList}
-use Rattle.refined_certificate.specs.declared.certificate.RefinedCertificate.{RefinedCertificate}
+use Rattle.refined_check.specs.declared.certificate.certificate.RefinedCertificate.{RefinedCertificate}
 use Rattle.refined_check.specs.Worths.{refined_worths, AreRefinedTables}
 use Rattle.refined_check.specs.Laws.{RefinedListsBoundBoxes}
 use Rattle.refined_search.specs.Steps.{IsBegun}

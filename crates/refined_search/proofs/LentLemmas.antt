@@ -16,9 +16,9 @@ use Rattle.certificate_tree.specs.Validity.{IsTreeOfClaim}
 use Rattle.certificate_tree.specs.PriceTables.{claim_by}
 use Rattle.certificate_versions.specs.Laws.{VersionsStayInRange}
 use Rattle.refined_prices.specs.RefinedLists.{RefinedList, IsRefinedList}
-use Rattle.refined_certificate.specs.declared.certificate.RefinedCertificate.{RefinedCertificate}
-use Rattle.refined_certificate.specs.Orders.{IsInOrder}
-use Rattle.refined_certificate.specs.Ranges.{IsRefinedInRange}
+use Rattle.refined_check.specs.declared.certificate.certificate.RefinedCertificate.{RefinedCertificate}
+use Rattle.refined_check.specs.certificate.Orders.{IsInOrder}
+use Rattle.refined_check.specs.certificate.Ranges.{IsRefinedInRange}
 use Rattle.refined_check.specs.Singles.{refined_of}
 use Rattle.refined_search.specs.Lists.{lists_of}
 use Rattle.refined_search.specs.Steps.{MayStand}

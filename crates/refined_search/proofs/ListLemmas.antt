@@ -13,7 +13,7 @@ use Rattle.price_ladder.specs.Raised.{IsRaised as IsRaisedFor}
 use Rattle.branch_search.specs.Best.{IsFeasiblePlan}
 use Rattle.descent_ends.specs.Openings.{IsWithoutStart}
 use Rattle.refined_prices.specs.RefinedLists.{RefinedList, IsRefinedList}
-use Rattle.refined_certificate.specs.Orders.{IsInOrder}
+use Rattle.refined_check.specs.certificate.Orders.{IsInOrder}
 use Rattle.refined_check.specs.Singles.{refined_of}
 use Rattle.refined_search.specs.Alike.{PriceAlike, IsUnlike, AddUnlike}
 use Rattle.refined_search.specs.Lists.{HasRaised, AreListsFor}

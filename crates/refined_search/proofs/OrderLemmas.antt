@@ -1,9 +1,10 @@
 -- Lists whose elements are looked at one by one, and groups in order.
-use Rattle.std.proofs.Common.{◌≡◌, ℕ, ◌+◌, ◌-◌, ◌<◌, ◌≤◌, ◌⊎◌, inl, inr, sym, subst, arith, List, length, get_or, All, AllPairs}
+use Rattle.std.proofs.Common.{◌≡◌, ℕ, ◌+◌, ◌-◌, ◌<◌, ◌≤◌, ◌⊎◌, inl, inr, sym, subst, arith, List, length, get_or, All}
+use Rattle.std.proofs.Common.{AllPairs}
 use Rattle.std.proofs.Math.Nat.{eq-or-lt_of_le}
 use Rattle.std.proofs.lemmas.List.{get_or_read}
 use Rattle.refined_prices.specs.declared.member.Member.{Member}
-use Rattle.refined_certificate.specs.Orders.{GroupBefore}
+use Rattle.refined_check.specs.certificate.Orders.{GroupBefore}
 use Rattle.refined_tables.proofs.OrderLemmas.{AreOrdered, AreOrdered-none, AreOrdered-more, AreOrdered-all}
 
 -- ---- each element

@@ -47,8 +47,8 @@ use Rattle.band_rebound.proofs.SameLemmas.{rebound_same}
 use Rattle.band_rebound.proofs.ReboundLemmas.{reach_least_bound}
 use Rattle.refined_prices.specs.RefinedLists.{RefinedList, zero_refined}
 use Rattle.refined_prices.specs.RefinedWorth.{refined_pricing}
-use Rattle.refined_certificate.specs.declared.certificate.RefinedCertificate.{RefinedCertificate}
-use Rattle.refined_certificate.specs.Ranges.{IsRefinedInRange}
+use Rattle.refined_check.specs.declared.certificate.certificate.RefinedCertificate.{RefinedCertificate}
+use Rattle.refined_check.specs.certificate.Ranges.{IsRefinedInRange}
 use Rattle.refined_check.specs.Worths.{refined_pricing_at, refined_worths, AreRefinedTables}
 use Rattle.refined_check.specs.Validity.{refined_claim, IsRefinedValid}
 use Rattle.refined_check.specs.Laws.{RefinedListsBoundBoxes}

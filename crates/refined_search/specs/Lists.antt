@@ -5,8 +5,8 @@ use Rattle.instance_model.specs.Keys.{IsOpening}
 use Rattle.lagrange_bound.specs.Prices.{PriceList}
 use Rattle.price_ladder.specs.Raised.{IsRaised as IsRaisedFor}
 use Rattle.refined_prices.specs.RefinedLists.{RefinedList, IsRefinedList}
-use Rattle.refined_certificate.specs.declared.certificate.RefinedCertificate.{RefinedCertificate}
-use Rattle.refined_certificate.specs.Orders.{IsInOrder}
+use Rattle.refined_check.specs.declared.certificate.certificate.RefinedCertificate.{RefinedCertificate}
+use Rattle.refined_check.specs.certificate.Orders.{IsInOrder}
 use Rattle.refined_check.specs.Singles.{refined_of}
 use Rattle.refined_search.specs.Alike.{PriceAlike, AddUnlike}
 

@@ -21,8 +21,8 @@ use Rattle.branch_search.specs.Parts.{IsLeftToOthers, IsGoneOnBy}
 use Rattle.band_rebound.specs.declared.rebounded.ReboundTree.{ReboundTree}
 use Rattle.band_rebound.specs.Rebinding.{IsNoLower}
 use Rattle.band_rebound.specs.Rebounds.{IsReboundBy}
-use Rattle.refined_certificate.specs.declared.certificate.RefinedCertificate.{RefinedCertificate}
-use Rattle.refined_certificate.specs.Ranges.{IsRefinedInRange}
+use Rattle.refined_check.specs.declared.certificate.certificate.RefinedCertificate.{RefinedCertificate}
+use Rattle.refined_check.specs.certificate.Ranges.{IsRefinedInRange}
 use Rattle.refined_check.specs.Worths.{refined_worths}
 use Rattle.refined_check.specs.Validity.{IsRefinedValid}
 use Rattle.refined_search.specs.declared.raised.Raised.{Raised}

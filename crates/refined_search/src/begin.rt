@@ -13,7 +13,7 @@ use band_rebound::{ReboundTree, rebound_by};
 use certificate_tree::{Bound, Node, Nodes};
 use instance_model::Instance;
 use lagrange_bound::PriceTable;
-use refined_certificate::RefinedCertificate;
+use refined_check::RefinedCertificate;
 use std::alloc::{AllocError, Global};
 
 /// One `cost` leaf over all starts.

@@ -2,7 +2,7 @@
 ghost use Rattle.std.specs.Prelude.{◌≡◌, ◌<◌, length, option_map, IfOk, IfSome, OnOk};
 ghost use Rattle.branch_search.specs.Best.{IsFeasiblePlan};
 ghost use Rattle.refined_prices.specs.RefinedLists.{IsRefinedList};
-ghost use Rattle.refined_certificate.specs.Ranges.{IsRefinedInRange};
+ghost use Rattle.refined_check.specs.certificate.Ranges.{IsRefinedInRange};
 ghost use Rattle.instance_model.specs.Plans.{AreAllowedStarts};
 ghost use Rattle.refined_search.specs.Lists.{lists_of, HasRaised, AreListsFor};
 ghost use Rattle.refined_search.specs.Steps.{MayStand, AddsOne, AddsSome, AddsRaised};
@@ -15,7 +15,7 @@ use certificate_versions::{refined_list, versions_stay_in_range};
 use group_ladder::raise_groups;
 use instance_model::{Instance, Starts};
 use price_ladder::raise_prices;
-use refined_certificate::RefinedCertificate;
+use refined_check::RefinedCertificate;
 use refined_prices::RefinedPrices;
 use std::alloc::{AllocError, Global};
 

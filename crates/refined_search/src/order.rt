@@ -1,7 +1,7 @@
 //! Whether a refined price list is in the order in which certificates have its groups.
 ghost use Rattle.std.specs.Prelude.{◌≡◌, ◌-◌, ◌<◌, ◌≤◌, ◌↔◌, ℕ, List, length, All, AllPairs, IsTrue, slice_index_or};
 ghost use Rattle.refined_prices.specs.declared.member.Member.{Member};
-ghost use Rattle.refined_certificate.specs.Orders.{first_scenario, GroupBefore, AreGroupsInOrder, IsInOrder};
+ghost use Rattle.refined_check.specs.certificate.Orders.{first_scenario, GroupBefore, AreGroupsInOrder, IsInOrder};
 
 use refined_prices::{Clique, Group, GroupTail, RefinedPrices};
 

@@ -1,7 +1,7 @@
 //! A certificate is made, or gone on with: the contract is `IsRaised`.
 ghost use Rattle.std.specs.Prelude.{◌≡◌, ◌<◌, IfOk, IfSome, option_map};
 ghost use Rattle.branch_search.specs.Best.{IsFeasiblePlan};
-ghost use Rattle.refined_certificate.specs.Ranges.{IsRefinedInRange};
+ghost use Rattle.refined_check.specs.certificate.Ranges.{IsRefinedInRange};
 ghost use Rattle.refined_search.specs.Raising.{within_range, IsRaised};
 
 use crate::Raised;
@@ -13,8 +13,9 @@ use certificate_tree::{
 };
 use instance_model::Instance;
 use lagrange_bound::{RiskGoal, worths_are_small};
-use refined_certificate::{RefinedCertificate, RefinedLists};
-use refined_check::{refined_lists_bound_boxes, refined_tables_of};
+use refined_check::{
+    RefinedCertificate, RefinedLists, refined_lists_bound_boxes, refined_tables_of,
+};
 use std::alloc::{AllocError, Global};
 
 /// The greatest number that a bound may be.

@@ -10,7 +10,7 @@ use Rattle.certificate_lines.specs.declared.line.CertificateLine.TheVariants as 
 use Rattle.certificate_lines.specs.Spelling.{words}
 use Rattle.refined_lines.specs.declared.line.RefinedLine.{RefinedLine}
 use Rattle.refined_lines.specs.declared.line.RefinedLine.TheVariants as refined
-use Rattle.refined_certificate.specs.declared.certificate.RefinedCertificate.{RefinedCertificate}
+use Rattle.refined_check.specs.declared.certificate.certificate.RefinedCertificate.{RefinedCertificate}
 use Rattle.refined_text.specs.Text.{refined_line_text, text_of_refined, group_line, offset_line, clique_line}
 use Rattle.refined_text.specs.Text.{refined_list_lines}
 

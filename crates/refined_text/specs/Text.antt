@@ -14,7 +14,7 @@ use Rattle.refined_lines.specs.declared.members.LineMember.{LineMember}
 use Rattle.refined_lines.specs.declared.line.RefinedLine.{RefinedLine}
 use Rattle.refined_lines.specs.declared.line.RefinedLine.TheVariants as refined
 use Rattle.refined_lines.specs.Spelling.{refined_spelling}
-use Rattle.refined_certificate.specs.declared.certificate.RefinedCertificate.{RefinedCertificate}
+use Rattle.refined_check.specs.declared.certificate.certificate.RefinedCertificate.{RefinedCertificate}
 
 -- a scenario and its weight, as a line has them
 abbrev pub line_member : Member → LineMember

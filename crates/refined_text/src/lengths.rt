@@ -1,7 +1,7 @@
 //! The length of the whole text.
 ghost use Rattle.std.specs.Prelude.{◌≡◌, All};
 ghost use Rattle.refined_prices.specs.RefinedLists.{IsRefinedList};
-ghost use Rattle.refined_certificate.specs.Ranges.{IsRefinedInRange};
+ghost use Rattle.refined_check.specs.certificate.Ranges.{IsRefinedInRange};
 ghost use Rattle.certificate_text.specs.Lengths.{counted_length};
 ghost use Rattle.refined_text.specs.Text.{text_of_refined, refined_text};
 ghost use Rattle.refined_text.specs.Steps.{refined_header, list_text, list_texts};
@@ -9,7 +9,7 @@ ghost use Rattle.refined_text.specs.Steps.{refined_header, list_text, list_texts
 use crate::entry_lengths::refined_entries_length;
 use certificate_text::{bound_length, count_length, tree_length};
 use instance_model::Instance;
-use refined_certificate::RefinedCertificate;
+use refined_check::RefinedCertificate;
 use refined_prices::RefinedPrices;
 
 /// How many bytes the text of a certificate has. Takes no memory.

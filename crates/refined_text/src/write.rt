@@ -2,7 +2,7 @@
 ghost use Rattle.std.specs.Prelude.{All, IsTrue};
 ghost use Rattle.plan_desk.specs.Written.{WritesText};
 ghost use Rattle.refined_prices.specs.RefinedLists.{IsRefinedList};
-ghost use Rattle.refined_certificate.specs.Ranges.{IsRefinedInRange};
+ghost use Rattle.refined_check.specs.certificate.Ranges.{IsRefinedInRange};
 ghost use Rattle.refined_text.specs.Text.{text_of_refined, refined_text};
 ghost use Rattle.refined_text.specs.Steps.{refined_header, list_text, list_texts};
 
@@ -12,7 +12,7 @@ use certificate_lines::CertificateLine;
 use certificate_text::write_tree;
 use instance_model::Instance;
 use plan_desk::{Desk, Failed};
-use refined_certificate::RefinedCertificate;
+use refined_check::RefinedCertificate;
 use refined_prices::RefinedPrices;
 
 /// Writes the text of a certificate to the end of the file that is open. Takes no memory.

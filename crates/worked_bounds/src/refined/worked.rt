@@ -1,14 +1,13 @@
 //! What drawn lists come to, beside the plain formulas, and what they bound, with every plan tried.
 ghost use Rattle.std.specs.Prelude.{IfOk};
 ghost use Rattle.refined_prices.specs.RefinedLists.{IsRefinedList};
-ghost use Rattle.refined_certificate.specs.Ranges.{IsRefinedInRange};
+ghost use Rattle.refined_check.specs.certificate.Ranges.{IsRefinedInRange};
 
 use crate::refined::cases::{CASES, Case, LISTS};
 use crate::samples::instance;
 use instance_model::Instance;
 use plan_score::{Verdict, judge};
-use refined_certificate::RefinedCertificate;
-use refined_check::{CertVerdict, check_refined};
+use refined_check::{CertVerdict, RefinedCertificate, check_refined};
 use refined_prices::RefinedPrices;
 use refined_read::read_refined_certificate;
 use refined_tables::{is_refined_list, refined_rows};

@@ -1,6 +1,6 @@
 use Rattle.std.proofs.Common.{ℕ, List, sym, subst, arith}
 use Rattle.refined_prices.specs.declared.member.Member.{Member}
-use Rattle.refined_certificate.specs.Orders.{first_scenario, GroupBefore}
+use Rattle.refined_check.specs.certificate.Orders.{first_scenario, GroupBefore}
 use Rattle.refined_grammar.specs.Further.{group_of}
 use Rattle.refined_read.proofs.LastLemmas.{all_from_last, last_from_all}
 use Rattle.refined_read.proofs.GroupLemmas.{less_told, less_true}

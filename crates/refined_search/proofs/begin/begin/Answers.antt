@@ -1,6 +1,6 @@
 use Rattle.std.proofs.Common.{Option, Bor, sym, ap, subst}
 use Rattle.std.specs.Prelude.{option_map}
-use Rattle.refined_certificate.specs.declared.certificate.RefinedCertificate.{RefinedCertificate}
+use Rattle.refined_check.specs.declared.certificate.certificate.RefinedCertificate.{RefinedCertificate}
 use Rattle.refined_search.specs.Steps.{IsBegun}
 use Rattle.refined_search.proofs.BeginLemmas.{begun_from}
 use Rattle.refined_search.proofs.begin.begin.Goals as goal

@@ -1,5 +1,5 @@
 use Rattle.std.proofs.Common.{sym, subst, List, ℕ}
-use Rattle.refined_certificate.specs.Orders.{IsInOrder}
+use Rattle.refined_check.specs.certificate.Orders.{IsInOrder}
 use Rattle.price_ladder.specs.Raised.{IsRaised as IsRaisedFor}
 use Rattle.refined_search.proofs.LentLemmas.{told_in_order}
 use Rattle.refined_search.proofs.ListLemmas.{adds_one, has_raised_from}

@@ -1,5 +1,5 @@
 use Rattle.std.proofs.Common.{refl, arith}
-use Rattle.refined_certificate.specs.Orders.{AreGroupsInOrder}
+use Rattle.refined_check.specs.certificate.Orders.{AreGroupsInOrder}
 use Rattle.refined_search.proofs.OrderLemmas.{each_more, each_all}
 use Rattle.refined_search.proofs.order.are_tails_in_order.Goals as goal
 

@@ -1,11 +1,11 @@
 -- Which certificates by refined price lists are in range for an instance.
-use Rattle.std.specs.Prelude.{ℕ, ◌≤◌, length, All}
+use Rattle.std.specs.Prelude.{◌≤◌, length, All}
 use Rattle.instance_model.specs.Tables.{Tables}
 use Rattle.certificate_tree.specs.Trees.{Tree, root_box}
 use Rattle.certificate_tree.specs.Ranges.{AreNodesOf, IsBoundInRange}
 use Rattle.refined_prices.specs.RefinedLists.{IsRefinedList}
-use Rattle.refined_certificate.specs.declared.certificate.RefinedCertificate.{RefinedCertificate}
-use Rattle.refined_certificate.specs.Orders.{IsInOrder}
+use Rattle.refined_check.specs.declared.certificate.certificate.RefinedCertificate.{RefinedCertificate}
+use Rattle.refined_check.specs.certificate.Orders.{IsInOrder}
 
 -- the tree of a certificate stands over the box of all starts
 abbrev pub IsRefinedTreeOf : Tables → RefinedCertificate → Tree → Type 0

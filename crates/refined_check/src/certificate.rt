@@ -1,5 +1,4 @@
 //! Certificates by refined price lists, as plain data, and which of them are in range.
-#![tactic(auto)]
 
 mod certificate;
 mod lists;

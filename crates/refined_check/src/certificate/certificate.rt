@@ -1,5 +1,5 @@
 //! A certificate by refined price lists, as plain data.
-use crate::RefinedLists;
+use crate::certificate::RefinedLists;
 use certificate_tree::{Bound, Nodes};
 
 /// A bound on the scores of all feasible plans, or that there is no such plan, with refined price lists and a tree that
