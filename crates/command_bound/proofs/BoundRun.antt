@@ -10,7 +10,7 @@ use Rattle.certificate_lines.specs.declared.line.Bound.{Bound}
 use Rattle.certificate_lines.specs.declared.line.Bound.TheVariants.{NoPlan, Least}
 use Rattle.branch_search.specs.declared.part.Part.{Part}
 use Rattle.refined_check.specs.declared.certificate.certificate.RefinedCertificate.{RefinedCertificate}
-use Rattle.refined_text.specs.Text.{refined_text}
+use Rattle.refined_text.specs.text.Text.{refined_text}
 use Rattle.refined_files.specs.RefinedKind.{refined_kind}
 use Rattle.refined_search.specs.declared.raised.Raised.{Raised}
 use Rattle.descent_ends.specs.Turns.{AreEnough}

@@ -12,7 +12,7 @@ use Rattle.certificate_text.proofs.KeyLemmas.{below_or_not}
 use Rattle.certificate_text.proofs.CountLemmas.{counted_small, counted_large}
 use Rattle.branch_search.specs.declared.part.Part.{Part}
 use Rattle.refined_check.specs.declared.certificate.certificate.RefinedCertificate.{RefinedCertificate}
-use Rattle.refined_text.specs.Text.{refined_text}
+use Rattle.refined_text.specs.text.Text.{refined_text}
 use Rattle.command_frame.specs.Lines.{write_line}
 use Rattle.command_frame.specs.Ending.{Answer, reply}
 use Rattle.command_frame.specs.Refusals.{SaysOrFails}

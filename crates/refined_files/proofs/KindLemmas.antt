@@ -8,15 +8,15 @@ use Rattle.lagrange_bound.specs.Worth.{worth_of}
 use Rattle.lagrange_bound.specs.Pricings.{pricing_worth}
 use Rattle.certificate_tree.specs.Holding.{list_at, worth_by}
 use Rattle.certificate_tree.specs.Validity.{AreSameWorths}
-use Rattle.certificate_versions.specs.AnyTexts.{IsAnyText}
-use Rattle.certificate_versions.specs.Laws.{EachTextIsTold, AnyTextsTell, AnyTextsAreSound}
 use Rattle.refined_prices.specs.RefinedLists.{RefinedList}
 use Rattle.refined_check.specs.declared.certificate.certificate.RefinedCertificate.{RefinedCertificate}
 use Rattle.refined_check.specs.certificate.Ranges.{IsRefinedInRange}
 use Rattle.refined_check.specs.Worths.{refined_pricing_at, refined_worths}
 use Rattle.refined_check.specs.Validity.{refined_claim}
 use Rattle.refined_check.specs.Laws.{RefinedListsBoundBoxes}
-use Rattle.refined_text.specs.Text.{refined_text}
+use Rattle.refined_text.specs.versions.AnyTexts.{IsAnyText}
+use Rattle.refined_text.specs.versions.Laws.{EachTextIsTold, AnyTextsTell, AnyTextsAreSound}
+use Rattle.refined_text.specs.text.Text.{refined_text}
 use Rattle.command_frame.specs.Kinds.{IsLawfulClaim, IsLawfulKind}
 use Rattle.refined_files.specs.RefinedKind.{refined_kind}
 

@@ -3,13 +3,12 @@ ghost use Rattle.std.specs.Prelude.{◌≡◌};
 
 use certificate_read::CertFault;
 use certificate_tree::{Bound, Node, Nodes};
-use certificate_versions::{any_texts_tell, read_any};
 use command_frame::FileCertificate;
 use instance_model::Instance;
 use lagrange_bound::PriceTable;
 use plan_desk::{Desk, Failed};
 use refined_check::{RefinedCertificate, refined_lists_bound_boxes, refined_tables_of};
-use refined_text::{refined_text_length, write_refined_certificate};
+use refined_text::{any_texts_tell, read_any, refined_text_length, write_refined_certificate};
 use std::alloc::{AllocError, Global};
 use std::marker::Model;
 

@@ -14,7 +14,7 @@ use Rattle.certificate_tree.specs.Trees.{Tree, leaf, root_box}
 use Rattle.certificate_tree.specs.Ranges.{HasPricesOf, IsInRange}
 use Rattle.certificate_tree.specs.Validity.{IsTreeOfClaim}
 use Rattle.certificate_tree.specs.PriceTables.{claim_by}
-use Rattle.certificate_versions.specs.Laws.{VersionsStayInRange}
+use Rattle.refined_text.specs.versions.Laws.{VersionsStayInRange}
 use Rattle.refined_prices.specs.RefinedLists.{RefinedList, IsRefinedList}
 use Rattle.refined_check.specs.declared.certificate.certificate.RefinedCertificate.{RefinedCertificate}
 use Rattle.refined_check.specs.certificate.Orders.{IsInOrder}

@@ -11,12 +11,12 @@ use crate::box_lists::add_box_lists;
 use crate::compare::has_alike;
 use crate::order::is_in_order;
 use crate::plan::ladder_plan;
-use certificate_versions::{refined_list, versions_stay_in_range};
 use group_ladder::raise_groups;
 use instance_model::{Instance, Starts};
 use price_ladder::raise_prices;
 use refined_check::RefinedCertificate;
 use refined_prices::RefinedPrices;
+use refined_text::{refined_list, versions_stay_in_range};
 use std::alloc::{AllocError, Global};
 
 /// How many lists a certificate may have.

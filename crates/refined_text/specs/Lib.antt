@@ -1,2 +1,6 @@
-pub mod Text
-pub mod Steps
+-- What the contracts cite.
+pub mod lines
+pub mod text
+pub mod grammar
+pub mod read
+pub mod versions

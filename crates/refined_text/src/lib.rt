@@ -1,17 +1,25 @@
-//! The one text that each certificate by refined price lists has, and how it is written.
+//! The text of certificates by refined price lists: its lines, its grammar, how it is written and read, and
+//! certificates of older versions as such ones.
 //!
-//! Contracts see a text as the list of its bytes. `refined_text` is the text of a certificate.
-//!
-//! `refined_text_length` computes the length of the text before it is written, and without memory. A number of 64 bits
-//! counts the bytes. Sums stop at the greatest one, so the answer is the length of each text that has no more bytes
-//! than that.
+//! Contracts see a text as the list of its bytes; `refined_text` is the text of a certificate. To be read in this
+//! order: `lines` says what one line may be, `text` writes a certificate and computes the length of its text, `grammar`
+//! says which line may stand where, `read` reads a text or finds its fault, and `versions` reads texts of all versions.
 #![tactic(auto)]
 
-mod entries;
-mod entry_lengths;
-mod lengths;
-mod put;
-mod write;
+mod grammar;
+mod lines;
+mod read;
+mod text;
+mod versions;
 
-pub use lengths::refined_text_length;
-pub use write::write_refined_certificate;
+pub use certificate_read::CertFault;
+pub use grammar::{refined_entries_grow, refined_texts_lead, refined_texts_tell};
+pub use lines::{
+    LineMember, Members, RefinedLine, refined_line_of, refined_lines_are_spelled_one_way,
+};
+pub use read::{read_refined_certificate, refined_texts_are_told};
+pub use text::{refined_text_length, write_refined_certificate};
+pub use versions::{
+    any_texts_tell, read_any, refined_certificate, refined_list, versions_hold_alike,
+    versions_stay_in_range,
+};

@@ -1,5 +1,5 @@
 use Rattle.std.proofs.Common.{List, ℕ, arith, subst, ◌≤◌, ◌^◌, length}
-use Rattle.refined_text.specs.Text.{refined_text}
+use Rattle.refined_text.specs.text.Text.{refined_text}
 use Rattle.command_frame.specs.Refusals.{SaysOrFails}
 use Rattle.command_bound.proofs.MadeLemmas.{counted_above, counted_within, long_told, written_told, unwritten_told}
 use Rattle.command_bound.proofs.bound.tell.Goals as goal

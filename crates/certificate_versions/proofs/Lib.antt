@@ -1,4 +1,0 @@
-pub mod TailLemmas
-pub mod RangeLemmas
-pub mod WorthLemmas
-pub mod TextLemmas

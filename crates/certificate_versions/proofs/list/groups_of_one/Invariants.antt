@@ -1,6 +1,0 @@
-use Rattle.std.proofs.Common.{◌≡◌, map, take}
-use Rattle.refined_check.specs.Singles.{single}
-use Rattle.certificate_versions.proofs.list.groups_of_one.Given as goal
-
-abbrev pub invariant-loop-scenario : goal.invariant-loop-scenario
-invariant-loop-scenario l = l.groups.items ≡ map (single l.weight) (take l.scenario-index l.tail.places)

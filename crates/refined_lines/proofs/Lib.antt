@@ -1,4 +1,0 @@
-pub mod KeyLemmas
-pub mod MemberLemmas
-pub mod ReadLemmas
-pub mod LawLemmas

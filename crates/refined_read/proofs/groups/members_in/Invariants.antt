@@ -1,6 +1,0 @@
-use Rattle.std.proofs.Common.{◌≡◌, take}
-use Rattle.refined_grammar.specs.Further.{group_of}
-use Rattle.refined_read.proofs.groups.members_in.Given as goal
-
-abbrev pub invariant-loop-member : goal.invariant-loop-member
-invariant-loop-member l = l.group.items ≡ group_of (take l.member-index l.members)

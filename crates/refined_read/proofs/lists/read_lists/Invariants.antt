@@ -1,9 +1,0 @@
-use Rattle.std.proofs.Common.{◌≡◌, length}
-use Rattle.refined_read.specs.Reading.{ReadsSome}
-use Rattle.refined_read.proofs.lists.read_lists.Given as goal
-
-abbrev pub invariant-loop-k : goal.invariant-loop-k
-invariant-loop-k l = record {
-  reads : ReadsSome l.inst l.count l.fn.lines l.lists.items l.lines;
-  each : length l.lists.items ≡ l.k;
-}

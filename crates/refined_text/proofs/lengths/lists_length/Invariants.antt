@@ -1,7 +1,0 @@
-use Rattle.std.proofs.Common.{◌≡◌, take}
-use Rattle.certificate_text.specs.Lengths.{counted_length}
-use Rattle.refined_text.specs.Steps.{list_texts}
-use Rattle.refined_text.proofs.lengths.lists_length.Given as goal
-
-abbrev pub invariant-loop-list : goal.invariant-loop-list
-invariant-loop-list l = l.total ≡ counted_length (list_texts l.inst (take l.list-index l.lists))
