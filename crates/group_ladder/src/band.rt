@@ -4,7 +4,7 @@
 ghost use Rattle.std.specs.Prelude.{◌≡◌, ◌*◌, ◌<◌, ◌≤◌, length, All, IfOk, OnOk, IsTrue};
 ghost use Rattle.instance_model.specs.Tables.{is_allowed};
 ghost use Rattle.lagrange_bound.specs.Changes.{IsBandPlace};
-ghost use Rattle.refined_tables.specs.CapTables.{IsCapTable};
+ghost use Rattle.refined_prices.specs.tables.CapTables.{IsCapTable};
 ghost use Rattle.group_ladder.specs.Search.{band_count, IsStart, AreStarts, IsRange, IsWork, AreWorks};
 
 use crate::number::{Number, Pace};
@@ -13,7 +13,7 @@ use crate::scales::Scales;
 use crate::start::{Range, Start};
 use crate::units::{Mean, Units};
 use instance_model::{Instance, LoadCell};
-use refined_tables::CapTable;
+use refined_prices::CapTable;
 use std::alloc::{AllocError, Global};
 
 /// The limits of a resource in a period, the prices on them, and by the starts of least price its load, and as much of

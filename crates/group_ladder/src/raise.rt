@@ -15,8 +15,7 @@ use crate::units::Units;
 use certificate_tree::{BoxPath, has_starts};
 use instance_model::Instance;
 use lagrange_bound::{PriceTable, Span, worth};
-use refined_prices::{RefinedPrices, refined_prices_are_small};
-use refined_tables::{is_refined_list, refined_rows};
+use refined_prices::{RefinedPrices, is_refined_list, refined_prices_are_small, refined_rows};
 use std::alloc::{AllocError, Global};
 
 /// How much work all rounds are together where no turn is given, about.

@@ -4,13 +4,12 @@ ghost use Rattle.std.specs.List.{range_with_len};
 ghost use Rattle.lagrange_bound.specs.PricedTables.{IsPricingTable};
 ghost use Rattle.refined_prices.specs.RefinedLists.{IsRefinedList};
 ghost use Rattle.refined_prices.specs.RefinedWorth.{refined_constant, refined_pricing};
-ghost use Rattle.refined_tables.specs.RefinedRows.{refined_row};
+ghost use Rattle.refined_prices.specs.tables.RefinedRows.{refined_row};
 ghost use Rattle.refined_check.specs.Worths.{AreRefinedTables};
 
 use instance_model::Instance;
 use lagrange_bound::{PriceTable, Prices, RiskGoal, tabulate};
-use refined_prices::{RefinedPrices, refined_prices_are_small};
-use refined_tables::refined_rows;
+use refined_prices::{RefinedPrices, refined_prices_are_small, refined_rows};
 use std::alloc::{AllocError, Global};
 
 /// The table of a refined price list.

@@ -10,3 +10,15 @@ pub mod LimitLemmas
 pub mod RefinedLaw
 pub mod SizeLemmas
 pub mod ListLemmas
+pub mod TablesCliqueTestLemmas
+pub mod TablesCapTableLemmas
+pub mod TablesGroupTestLemmas
+pub mod TablesOrderLemmas
+pub mod TablesListTestLemmas
+pub mod TablesPaidLemmas
+pub mod TablesLoadCostLemmas
+pub mod TablesRiskTermLemmas
+pub mod TablesOffsetRowLemmas
+pub mod TablesOffsetSumLemmas
+pub mod TablesReadLemmas
+pub mod TablesRowLemmas

@@ -7,3 +7,4 @@ pub mod Cliques
 pub mod RefinedLists
 pub mod RefinedWorth
 pub mod RefinedSizes
+pub mod tables

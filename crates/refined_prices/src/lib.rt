@@ -4,6 +4,8 @@
 //!
 //! Interventions, resources, exclusions and groups count from 0; periods, starts and scenarios count from 1. Prices,
 //! worths and scores are in parts of 10^-18, which are counts of 10^-12 times millionths.
+//!
+//! `tables` has exact tests of such lists, and their tables over an instance.
 #![tactic(auto)]
 
 mod clique;
@@ -14,6 +16,7 @@ mod laws;
 mod member;
 mod offset;
 mod refined;
+mod tables;
 
 pub use clique::Clique;
 pub use group::Group;
@@ -26,3 +29,7 @@ pub use laws::{
 pub use member::Member;
 pub use offset::Offset;
 pub use refined::RefinedPrices;
+pub use tables::{
+    CapTable, exclude_each_other, groups_at, is_clique, is_group, is_group_tail, is_offset,
+    is_priced_clique, is_refined_list, refined_rows,
+};

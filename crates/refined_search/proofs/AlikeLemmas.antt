@@ -7,7 +7,7 @@ use Rattle.instance_model.specs.Tables.{Tables, tmax, is_allowed}
 use Rattle.instance_model.proofs.EntryLemmas.{is_allowed_facts}
 use Rattle.refined_prices.specs.RefinedLists.{RefinedList}
 use Rattle.refined_prices.specs.RefinedWorth.{refined_price}
-use Rattle.refined_tables.specs.RefinedRows.{refined_entry, refined_row}
+use Rattle.refined_prices.specs.tables.RefinedRows.{refined_entry, refined_row}
 use Rattle.refined_search.specs.Alike.{PriceAlike}
 use Rattle.refined_search.specs.Steps.{rows_of, AreRowsOf}
 

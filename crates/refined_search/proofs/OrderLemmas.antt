@@ -3,9 +3,9 @@ use Rattle.std.proofs.Common.{◌≡◌, ℕ, ◌+◌, ◌-◌, ◌<◌, ◌≤�
 use Rattle.std.proofs.Common.{AllPairs}
 use Rattle.std.proofs.Math.Nat.{eq-or-lt_of_le}
 use Rattle.std.proofs.lemmas.List.{get_or_read}
-use Rattle.refined_prices.specs.declared.member.Member.{Member}
 use Rattle.refined_check.specs.certificate.Orders.{GroupBefore}
-use Rattle.refined_tables.proofs.OrderLemmas.{AreOrdered, AreOrdered-none, AreOrdered-more, AreOrdered-all}
+use Rattle.refined_prices.specs.declared.member.Member.{Member}
+use Rattle.refined_prices.proofs.TablesOrderLemmas.{AreOrdered, AreOrdered-none, AreOrdered-more, AreOrdered-all}
 
 -- ---- each element
 

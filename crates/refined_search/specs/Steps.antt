@@ -15,7 +15,7 @@ use Rattle.band_rebound.specs.declared.rebounded.ReboundTree.{ReboundTree}
 use Rattle.band_rebound.specs.Rebinding.{IsNoLower}
 use Rattle.refined_prices.specs.RefinedLists.{RefinedList, IsRefinedList}
 use Rattle.refined_prices.specs.RefinedWorth.{refined_constant}
-use Rattle.refined_tables.specs.RefinedRows.{refined_row}
+use Rattle.refined_prices.specs.tables.RefinedRows.{refined_row}
 use Rattle.refined_check.specs.declared.certificate.certificate.RefinedCertificate.{RefinedCertificate}
 use Rattle.refined_check.specs.certificate.Orders.{IsInOrder}
 use Rattle.refined_search.specs.Alike.{PriceAlike, IsUnlike, AddUnlike}

@@ -5,8 +5,7 @@ ghost use Rattle.refined_search.specs.Alike.{PriceAlike};
 ghost use Rattle.refined_search.specs.Steps.{AreRowsOf};
 
 use instance_model::Instance;
-use refined_prices::RefinedPrices;
-use refined_tables::refined_rows;
+use refined_prices::{RefinedPrices, refined_rows};
 use std::alloc::{AllocError, Global};
 
 /// Whether rows and a constant are those of a list. Takes memory for a table.

@@ -9,8 +9,7 @@ ghost use Rattle.refined_text.specs.read.Taking.{AreNamed, IsSomeClique};
 use certificate_read::counts_to;
 use instance_model::Instance;
 use lagrange_bound::Places;
-use refined_prices::Clique;
-use refined_tables::is_priced_clique;
+use refined_prices::{Clique, is_priced_clique};
 use season_exclusion::Named;
 use std::alloc::{AllocError, Global};
 

@@ -7,8 +7,7 @@ ghost use Rattle.refined_text.specs.grammar.Further.{group_of, groups_of, with_g
 ghost use Rattle.refined_text.specs.read.Taking.{FitsBeside};
 
 use crate::lines::LineMember;
-use refined_prices::{Group, GroupTail, Groups, Member};
-use refined_tables::is_group;
+use refined_prices::{Group, GroupTail, Groups, Member, is_group};
 use std::alloc::{AllocError, Global};
 
 /// The first scenario of a group: 0 where it has none.

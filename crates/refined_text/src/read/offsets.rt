@@ -5,8 +5,7 @@ ghost use Rattle.refined_text.specs.grammar.Further.{offset_of_line, OffsetBelow
 
 use certificate_read::counts_to;
 use instance_model::Instance;
-use refined_prices::{GroupTail, Offset};
-use refined_tables::groups_at;
+use refined_prices::{GroupTail, Offset, groups_at};
 
 /// The largest offset.
 const MOST_OFFSET: u32 = 1_000_000_000;

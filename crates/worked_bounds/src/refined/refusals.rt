@@ -6,8 +6,7 @@ ghost use Rattle.lagrange_bound.specs.Prices.{IsPriceList};
 use crate::samples::instance;
 use instance_model::Instance;
 use lagrange_bound::{Places, Prices};
-use refined_prices::{Clique, Group, GroupTail, Groups, Member, RefinedPrices};
-use refined_tables::is_refined_list;
+use refined_prices::{Clique, Group, GroupTail, Groups, Member, RefinedPrices, is_refined_list};
 use std::alloc::{AllocError, Global};
 use std::test::Fail;
 

@@ -1,5 +1,5 @@
 use Rattle.refined_check.specs.certificate.Orders.{GroupBefore}
-use Rattle.refined_tables.proofs.OrderLemmas.{AreOrdered}
+use Rattle.refined_prices.proofs.TablesOrderLemmas.{AreOrdered}
 use Rattle.refined_search.proofs.OrderLemmas.{IsAny}
 use Rattle.refined_search.proofs.order.groups_ascend.Given as goal
 

@@ -1,6 +1,0 @@
-use Rattle.refined_tables.proofs.OffsetSumLemmas.{constant_bits}
-use Rattle.refined_tables.proofs.constant.constant_from.Goals as goal
-
-pub returns : goal.returns
-returns c =
-    constant_bits c.args.fixed c.args.cliques c.args.cost c.requires.fixed c.requires.cliques c.requires.cost

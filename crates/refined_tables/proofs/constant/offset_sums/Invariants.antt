@@ -1,5 +1,0 @@
-use Rattle.refined_tables.proofs.OffsetSumLemmas.{AreSumsSoFar}
-use Rattle.refined_tables.proofs.constant.offset_sums.Given as goal
-
-abbrev pub invariant-loop-x : goal.invariant-loop-x
-invariant-loop-x l = AreSumsSoFar l.inst l.list.offsets l.width l.x-index l.sums.items

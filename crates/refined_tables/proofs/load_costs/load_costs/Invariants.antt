@@ -1,8 +1,0 @@
-use Rattle.instance_model.specs.Tables.{tmax}
-use Rattle.refined_tables.specs.LoadCosts.{load_share}
-use Rattle.refined_tables.proofs.LoadCostLemmas.{AreCosts}
-use Rattle.refined_tables.proofs.load_costs.load_costs.Given as goal
-
-abbrev pub invariant-loop-cell : goal.invariant-loop-cell
-invariant-loop-cell l =
-    AreCosts (load_share l.inst l.list) (tmax l.inst l.i) l.cell-index l.cell-items l.costs.items

@@ -1,7 +1,0 @@
-use Rattle.std.proofs.Common.{take}
-use Rattle.refined_tables.specs.PaidSums.{AreByRun}
-use Rattle.refined_tables.proofs.PaidLemmas.{paid_so_far}
-use Rattle.refined_tables.proofs.paid_sums.paid_sums.Given as goal
-
-abbrev pub invariant-loop-x : goal.invariant-loop-x
-invariant-loop-x l = AreByRun l.inst (paid_so_far l.inst l.list.prices.ex (take l.x-index l.list.cliques)) l.sums.items

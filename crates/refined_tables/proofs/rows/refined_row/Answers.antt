@@ -1,8 +1,0 @@
-use Rattle.std.proofs.Common.{arith}
-use Rattle.lagrange_bound.proofs.RowLemmas.{row_more}
-use Rattle.refined_tables.specs.RefinedRows.{refined_entry}
-use Rattle.refined_tables.proofs.rows.refined_row.Goals as goal
-
-pub loop-s-preserved : goal.loop-s-preserved
-loop-s-preserved c = row_more (refined_entry c.args.inst.now c.args.list.now c.args.i) c.loop-s.s c.loop-s.row.items
-    c.push.new.self.items c.entry.result (omega arith) c.loop-s.invariant c.entry.ensures c.in_ok-push.ensures.items
