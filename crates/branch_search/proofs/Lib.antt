@@ -1,3 +1,7 @@
+pub mod NodeStateExtentLemmas
+pub mod NodeStateWalkLemmas
+pub mod NodeStateBoxLemmas
+pub mod NodeStateExclusionLemmas
 pub mod SplitLemmas
 pub mod CellLemmas
 pub mod ShapeLemmas

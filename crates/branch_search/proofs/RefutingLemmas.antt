@@ -8,7 +8,7 @@ use Rattle.lagrange_bound.specs.declared.span.Span.{Span}
 use Rattle.lagrange_bound.specs.Boxes.{span_of, starts_in, IsBox, HasStarts}
 use Rattle.certificate_tree.specs.Trees.{IsSplit}
 use Rattle.certificate_tree.proofs.RootLemmas.{parts_are_boxes}
-use Rattle.box_state.specs.Bands.{IsPart}
+use Rattle.branch_search.specs.node_state.Bands.{IsPart}
 use Rattle.branch_search.specs.Boxes.{IsUnrefuted}
 use Rattle.branch_search.specs.Refuting.{IsPartOfUnrefuted}
 

@@ -3,8 +3,8 @@ use Rattle.std.specs.Prelude.{◌≡◌, ℕ, List, Option}
 use Rattle.instance_model.specs.Tables.{Tables}
 use Rattle.lagrange_bound.specs.declared.span.Span.{Span}
 use Rattle.certificate_tree.specs.Trees.{IsSplit}
-use Rattle.box_state.specs.KeptLoads.{IsOver}
-use Rattle.box_state.specs.Exclusions.{index_of}
+use Rattle.branch_search.specs.node_state.KeptLoads.{IsOver}
+use Rattle.branch_search.specs.node_state.Exclusions.{index_of}
 use Rattle.branch_search.specs.declared.splitting.current_box.CurrentBox.{CurrentBox}
 use Rattle.branch_search.specs.declared.splitting.settling.Parts.{Parts}
 use Rattle.branch_search.specs.Tasks.{Task}

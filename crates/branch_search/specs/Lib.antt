@@ -1,4 +1,5 @@
 -- What the contracts cite.
+pub mod node_state
 pub mod Splits
 pub mod Best
 pub mod Boxes

@@ -7,7 +7,7 @@ use Rattle.certificate_tree.specs.declared.node.Node.{Node}
 use Rattle.certificate_tree.specs.declared.node.Node.TheVariants.{Split, Cost, Point, Band, Excl, Empty}
 use Rattle.certificate_lines.specs.declared.line.Side.{Side}
 use Rattle.certificate_tree.specs.Holding.{BandHolds, ExclHolds}
-use Rattle.box_state.specs.Bands.{IsPart}
+use Rattle.branch_search.specs.node_state.Bands.{IsPart}
 use Rattle.branch_search.specs.Boxes.{IsUnrefuted}
 
 -- a `band` leaf of this resource and period that holds

@@ -7,12 +7,15 @@
 //!
 //! `choosing` says where a box is split, `closing` what closes one, `splitting` makes a step, and `tree` keeps what was
 //! made.
+//!
+//! `node_state` keeps loads and exclusions of the box at hand while one interval at a time is changed.
 #![tactic(auto)]
 
 mod best;
 mod choosing;
 mod closing;
 mod laws;
+mod node_state;
 mod part;
 mod search_end;
 mod searching;

@@ -1,13 +1,13 @@
 //! Splits of which one part is closed at once: the first or the last starts of an interval are cut off where a band or
 //! an exclusion refutes a box with them alone, or where its worth is at least the value of the best plan.
 ghost use Rattle.std.specs.Prelude.{◌<◌, ◌≤◌, length};
-ghost use Rattle.box_state.specs.KeptLoads.{IsOver};
+ghost use Rattle.branch_search.specs.node_state.KeptLoads.{IsOver};
 
 use crate::choosing::load_ranges::{LoadRange, LoadRanges};
 use crate::choosing::place_loads::{PlaceCell, load_in, place_of, places};
 use crate::choosing::separation::{meets_at, signed};
 use crate::choosing::start_prices::{is_allowed, least_price, load_at, price_at};
-use box_state::BoxLoads;
+use crate::node_state::BoxLoads;
 use certificate_tree::Side;
 use duration_calendar::run;
 use instance_model::Instance;

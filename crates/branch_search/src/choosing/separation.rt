@@ -1,14 +1,14 @@
 //! Separation: of the covers of all bands and exclusions that a plan breaks, the one that is worth most.
 ghost use Rattle.std.specs.Prelude.{◌<◌, ◌≤◌, length, IfSome};
 ghost use Rattle.duration_calendar.specs.Windows.{IsInHorizon};
-ghost use Rattle.box_state.specs.KeptLoads.{IsOver};
+ghost use Rattle.branch_search.specs.node_state.KeptLoads.{IsOver};
 
 use crate::choosing::cover::{Cover, better, cover_of};
 use crate::choosing::least_plan::LeastPlan;
 use crate::choosing::load_ranges::{LoadRange, LoadRanges};
 use crate::choosing::member::{Member, member_of};
 use crate::choosing::place_loads::{PlaceCell, load_in, place_of};
-use box_state::BoxLoads;
+use crate::node_state::BoxLoads;
 use certificate_tree::Side;
 use duration_calendar::{Window, meets_in, run};
 use instance_model::Instance;

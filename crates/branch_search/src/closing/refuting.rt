@@ -3,13 +3,13 @@ ghost use Rattle.std.specs.Prelude.{◌≡◌, ℕ, ◌<◌, ◌≤◌, length, 
 ghost use Rattle.instance_model.specs.Tables.{tmax};
 ghost use Rattle.lagrange_bound.specs.Boxes.{IsBox, HasStarts, span_of};
 ghost use Rattle.certificate_tree.specs.Ranges.{IsLeafInRange};
-ghost use Rattle.box_state.specs.Bands.{IsPart};
+ghost use Rattle.branch_search.specs.node_state.Bands.{IsPart};
 ghost use Rattle.branch_search.specs.Boxes.{IsUnrefuted};
 ghost use Rattle.branch_search.specs.CurrentBoxes.{IsCurrentBox};
 ghost use Rattle.branch_search.specs.Refuting.{IsEmptyIn, IsRefuting};
 
+use crate::node_state::{Band, holding_exclusion, holding_exclusion_by, others_are_kept};
 use crate::splitting::CurrentBox;
-use box_state::{Band, holding_exclusion, holding_exclusion_by, others_are_kept};
 use certificate_tree::{Node, band_holds, excl_holds, has_start};
 use instance_model::Instance;
 use lagrange_bound::Span;

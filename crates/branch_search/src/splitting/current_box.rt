@@ -4,7 +4,7 @@ ghost use Rattle.instance_model.specs.Tables.{tmax};
 ghost use Rattle.lagrange_bound.specs.Boxes.{span_of};
 ghost use Rattle.branch_search.specs.CurrentBoxes.{IsCurrentBox};
 
-use box_state::{BoxLoads, ExclusionIndex};
+use crate::node_state::{BoxLoads, ExclusionIndex};
 use instance_model::Instance;
 use lagrange_bound::Span;
 use std::alloc::{AllocError, Global};

@@ -1,7 +1,7 @@
 use Rattle.std.proofs.Common.{◌<◌, length, sym, subst, arith}
 use Rattle.std.proofs.lemmas.Grind.{common_steps}
 use Rattle.lagrange_bound.specs.Boxes.{span_of, starts_in}
-use Rattle.box_state.specs.Exclusions.{NoOtherHolds, NoExclusionHolds}
+use Rattle.branch_search.specs.node_state.Exclusions.{NoOtherHolds, NoExclusionHolds}
 use Rattle.branch_search.proofs.RefutingLemmas.{starts_of_part}
 use Rattle.branch_search.proofs.closing.refuting.refuting_part.Goals as goal
 

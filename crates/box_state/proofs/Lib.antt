@@ -1,4 +1,0 @@
-pub mod ExtentLemmas
-pub mod WalkLemmas
-pub mod BoxLemmas
-pub mod ExclusionLemmas

@@ -1,6 +1,0 @@
-use Rattle.std.proofs.Common.{ℕ, ◌<◌}
-use Rattle.certificate_tree.specs.Holding.{ExclHolds}
-use Rattle.box_state.proofs.exclusions.holding_exclusion.Given as goal
-
-abbrev pub invariant-loop-e : goal.invariant-loop-e
-invariant-loop-e l = (d : ℕ) → d < l.e → ¬ ExclHolds l.inst l.spans d

@@ -1,6 +1,0 @@
-use Rattle.std.proofs.Common.{ℕ, ◌<◌, get_or}
-use Rattle.certificate_tree.specs.Holding.{ExclHolds}
-use Rattle.box_state.proofs.exclusions.holding_exclusion_by.Given as goal
-
-abbrev pub invariant-loop-e : goal.invariant-loop-e
-invariant-loop-e l = (k : ℕ) → k < l.e-index → ¬ ExclHolds l.inst l.spans (get_or l.named k 0)

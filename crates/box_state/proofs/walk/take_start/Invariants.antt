@@ -1,5 +1,0 @@
-use Rattle.box_state.proofs.WalkLemmas.{AreTakenTo}
-use Rattle.box_state.proofs.walk.take_start.Given as goal
-
-abbrev pub invariant-loop-k : goal.invariant-loop-k
-invariant-loop-k l = AreTakenTo l.inst l.cells l.count l.from l.k l.fn.extents l.extents
