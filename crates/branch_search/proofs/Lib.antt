@@ -28,3 +28,4 @@ pub mod RangeLemmas
 pub mod HeapLemmas
 pub mod VolumeLemmas
 pub mod RefutingLemmas
+pub mod SplitCountLemmas

@@ -21,3 +21,6 @@ pub mod Refuting
 pub mod Pricing
 pub mod Climbing
 pub mod Listing
+pub mod Given
+pub mod Startless
+pub mod Turns

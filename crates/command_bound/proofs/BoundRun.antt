@@ -13,7 +13,7 @@ use Rattle.refined_check.specs.declared.certificate.certificate.RefinedCertifica
 use Rattle.refined_text.specs.text.Text.{refined_text}
 use Rattle.refined_files.specs.RefinedKind.{refined_kind}
 use Rattle.refined_search.specs.declared.raised.Raised.{Raised}
-use Rattle.descent_ends.specs.Turns.{AreEnough}
+use Rattle.branch_search.specs.Turns.{AreEnough}
 use Rattle.command_frame.specs.Sources.{Source}
 use Rattle.command_frame.specs.Reports.{accepted_report}
 use Rattle.command_frame.specs.Ending.{Writing, Answer, files_of, reply, Ends, IsAllowed}

@@ -12,7 +12,7 @@ use Rattle.branch_search.specs.Best.{IsFeasiblePlan, IsBestOver, bound_of}
 use Rattle.refined_check.specs.declared.certificate.certificate.RefinedCertificate.{RefinedCertificate}
 use Rattle.refined_search.specs.declared.raised.Raised.{Raised}
 use Rattle.refined_search.specs.Raising.{IsRaised}
-use Rattle.descent_ends.specs.Turns.{AreEnough}
+use Rattle.branch_search.specs.Turns.{AreEnough}
 use Rattle.command_answers.specs.Check.{IsKeptPlan, BoundsEveryPlan}
 use Rattle.command_bound.specs.Bounding.{IsLeastScore, LeavesTheRest}
 

@@ -18,7 +18,7 @@ use Rattle.refined_text.specs.text.Text.{refined_text}
 use Rattle.refined_files.specs.RefinedKind.{refined_kind}
 use Rattle.refined_search.specs.declared.raised.Raised.{Raised}
 use Rattle.refined_search.specs.Raising.{LeavesToOthers, IsRaised}
-use Rattle.descent_ends.specs.Turns.{AreEnough}
+use Rattle.branch_search.specs.Turns.{AreEnough}
 use Rattle.command_frame.specs.Sources.{Source}
 use Rattle.command_frame.specs.Lines.{numbered_line}
 use Rattle.command_frame.specs.Reports.{bound_or_none_line, gap_text, rounded_line, accepted_report}

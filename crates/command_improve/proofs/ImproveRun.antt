@@ -6,7 +6,7 @@ use Rattle.plan_desk.specs.FileWrites.{after_writes}
 use Rattle.instance_model.specs.declared.limits.Limits.{Limits}
 use Rattle.instance_model.specs.Limits.{standard_limits}
 use Rattle.instance_model.specs.Tables.{Tables}
-use Rattle.descent_ends.specs.Openings.{IsWithoutStart}
+use Rattle.local_search.specs.Openings.{IsWithoutStart}
 use Rattle.command_frame.specs.Sources.{Source}
 use Rattle.command_frame.specs.Reports.{feasible_report}
 use Rattle.command_frame.specs.Ending.{Answer, files_of, reply, OrMemory, Ends, IsAllowed}

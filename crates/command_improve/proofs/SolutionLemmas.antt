@@ -17,7 +17,7 @@ use Rattle.plan_score.specs.declared.verdict.Verdict.TheVariants.{Feasible, Brok
 use Rattle.plan_text.specs.Spelling.{plan_text}
 use Rattle.plan_changes.specs.Changes.{changes_of}
 use Rattle.branch_search.specs.Best.{IsFeasiblePlan}
-use Rattle.descent_ends.specs.Openings.{IsWithoutStart}
+use Rattle.local_search.specs.Openings.{IsWithoutStart}
 use Rattle.plan_improvement.specs.Improving.{IsImproved, IsNothing}
 use Rattle.command_frame.specs.Lines.{numbered_line}
 use Rattle.command_frame.specs.Reports.{score_line, ranges_text, rounded_line}

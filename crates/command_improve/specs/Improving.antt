@@ -16,7 +16,7 @@ use Rattle.instance_model.specs.Values.{score_of}
 use Rattle.plan_score.specs.Values.{values_of}
 use Rattle.plan_text.specs.Spelling.{plan_text}
 use Rattle.plan_changes.specs.Changes.{changes_of}
-use Rattle.descent_ends.specs.Openings.{IsWithoutStart}
+use Rattle.local_search.specs.Openings.{IsWithoutStart}
 use Rattle.plan_improvement.specs.Improving.{IsImproved, IsNothing}
 use Rattle.command_frame.specs.Sources.{Source}
 use Rattle.command_frame.specs.Lines.{numbered_line}

@@ -7,7 +7,7 @@ use Rattle.plan_moves.specs.declared.change.Change.{Change}
 use Rattle.plan_moves.specs.Changing.{after_change}
 use Rattle.plan_moves.specs.KeptPlans.{KeptPlans, present, present_key}
 use Rattle.local_search.specs.Descents.{plan_key, plans_after, IsDescent}
-use Rattle.descent_ends.proofs.EndLemmas.{opened}
+use Rattle.local_search.proofs.EndLemmas.{opened}
 
 -- a descent has one plan more with each change
 plans_count : (plan : List ℕ) (changes : List Change) → length (plans_after plan changes) ≡ length changes

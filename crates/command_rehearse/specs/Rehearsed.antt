@@ -5,13 +5,14 @@ use Rattle.std.specs.Prelude.{◌≡◌, ℕ, pos, ◌↔◌, List, length, map,
 use Rattle.instance_model.specs.Tables.{Tables}
 use Rattle.instance_model.specs.Rules.{IsFeasible}
 use Rattle.plan_moves.specs.declared.change.Change.{Change}
-use Rattle.local_search.specs.Descents.{plan_key}
 use Rattle.lagrange_bound.specs.Goals.{risk_base, risk_value}
 use Rattle.certificate_tree.specs.Validity.{IsValid}
 use Rattle.branch_search.specs.declared.tree_end.TreeEnd.{TreeEnd}
 use Rattle.branch_search.specs.Searched.{IsSearched}
 use Rattle.command_answers.specs.Check.{BoundsEveryPlan}
-use Rattle.descent_ends.specs.Ends.{end_of, IsTrail, IsGiven}
+use Rattle.local_search.specs.Descents.{plan_key}
+use Rattle.local_search.specs.Ends.{end_of, IsTrail}
+use Rattle.branch_search.specs.Given.{IsGiven}
 use Rattle.branch_search.specs.Splits.{split_count}
 use Rattle.command_rehearse.specs.declared.summary.Summary.{Summary}
 

@@ -4,11 +4,11 @@ ghost use Rattle.plan_moves.specs.KeptPlans.{present};
 ghost use Rattle.command_rehearse.specs.Rehearsed.{IsBounded};
 
 use crate::rehearsal::TURNS;
-use branch_search::{TreeEnd, search};
+use branch_search::{TreeEnd, given_end, search};
 use certificate_check::{CertVerdict, check};
-use descent_ends::{given_end, is_feasible, present_starts};
 use instance_model::Instance;
 use lagrange_bound::RiskGoal;
+use local_search::{is_feasible, present_starts};
 use plan_moves::Kept;
 use quantile_index::Row;
 use std::alloc::{AllocError, Global};

@@ -3,11 +3,11 @@ ghost use Rattle.std.specs.Prelude.{◌≡◌, ◌≤◌, IfOk};
 ghost use Rattle.instance_model.specs.Keys.{IsOpening};
 ghost use Rattle.instance_gen.specs.Drawn.{drawn_tables};
 
-use descent_ends::{Opening, opening_of};
 use fixed_num::Fixed;
 use instance_gen::{drawn_texts_are_read, generate, starts_are_allowed};
 use instance_model::{Instance, Limits, Starts};
 use instance_read::{InstanceFault, read_instance};
+use local_search::{Opening, opening_of};
 use std::alloc::{AllocError, Global};
 
 /// The instance that the drawn text stands for.

@@ -6,7 +6,7 @@ ghost use Rattle.command_rehearse.specs.Rehearsed.{IsRehearsed};
 use crate::bounding::bound_from;
 use crate::summary::Summary;
 use crate::undoing::undo_all;
-use descent_ends::split_count;
+use branch_search::split_count;
 use instance_model::Instance;
 use local_search::descend;
 use plan_moves::Kept;

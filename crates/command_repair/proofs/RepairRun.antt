@@ -34,8 +34,9 @@ use Rattle.command_frame.proofs.HoldLemmas.{IsNoneOf, named_output, named_after,
 use Rattle.command_frame.proofs.HoldLemmas.{others_stopped}
 use Rattle.command_frame.proofs.OutputLemmas.{same_holding}
 use Rattle.command_answers.specs.Audit.{AreKeptStarts, BoundsEveryRepair, audited_report, AnswersAudit}
-use Rattle.descent_ends.specs.Turns.{AreEnough}
-use Rattle.descent_ends.specs.Openings.{IsWithoutStart, empty_certificate}
+use Rattle.branch_search.specs.Turns.{AreEnough}
+use Rattle.local_search.specs.Openings.{IsWithoutStart}
+use Rattle.branch_search.specs.Startless.{empty_certificate}
 use Rattle.command_repair.specs.Repairing.{RepairFiles, AreDistinct, cert_write, out_write, Repairs}
 use Rattle.command_answers.specs.Accepting.{IsAuditable}
 use Rattle.command_repair.specs.Repairing.{AnswersRepair, DueRepair, ReadsRepair, BehindRepair, TellsRepair}

@@ -19,7 +19,8 @@ use Rattle.certificate_text.specs.Laws.{TextsFitFiles}
 use Rattle.plan_changes.specs.Changes.{change_base, change_value}
 use Rattle.command_frame.specs.declared.report.Report.{Report}
 use Rattle.command_frame.specs.Ending.{Writing}
-use Rattle.descent_ends.specs.Openings.{IsWithoutStart, empty_certificate}
+use Rattle.local_search.specs.Openings.{IsWithoutStart}
+use Rattle.branch_search.specs.Startless.{empty_certificate}
 use Rattle.command_frame.specs.Writing.{IsWritablePlan}
 use Rattle.command_frame.proofs.PlanWrites.{writable_plan, spelled_plan}
 use Rattle.fewest_changes.specs.Repaired.{IsRepairOf, ComesTo, IsMadeRepair}

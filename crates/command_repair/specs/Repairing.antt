@@ -26,8 +26,9 @@ use Rattle.command_frame.specs.Outputs.{holding, OpensSearched}
 use Rattle.command_answers.specs.Audit.{AreKeptStarts, BoundsEveryRepair, least_line, audited_report, AnswersAudit}
 use Rattle.command_answers.specs.Accepting.{IsAuditable}
 use Rattle.branch_search.specs.Splits.{split_count}
-use Rattle.descent_ends.specs.Turns.{AreEnough}
-use Rattle.descent_ends.specs.Openings.{IsWithoutStart, empty_certificate}
+use Rattle.branch_search.specs.Turns.{AreEnough}
+use Rattle.local_search.specs.Openings.{IsWithoutStart}
+use Rattle.branch_search.specs.Startless.{empty_certificate}
 use Rattle.fewest_changes.specs.Repaired.{IsRepairOf, IsRepaired, IsNothing}
 
 -- ---- the files

@@ -3,10 +3,10 @@ ghost use Rattle.std.specs.Prelude.{◌≡◌, ◌≤◌, ◌^◌, ◌++◌, IfO
 ghost use Rattle.command_repair.specs.Repairing.{counts_text, nothing_report, none_report};
 ghost use Rattle.command_repair.specs.Made.{repaired_text};
 
+use branch_search::split_count;
 use certificate_read::{Bound, Certificate};
 use command_answers::push_least;
 use command_frame::{Text, push_numbered, push_rounded};
-use descent_ends::split_count;
 use instance_model::Instance;
 use std::alloc::{AllocError, Global};
 

@@ -1,18 +1,19 @@
 //! What is answered to an instance and a plan.
 ghost use Rattle.std.specs.Prelude.{◌≤◌, ℕ, IfOk};
 ghost use Rattle.certificate_tree.specs.Ranges.{IsBoundInRange};
-ghost use Rattle.descent_ends.specs.Openings.{IsWithoutStart};
+ghost use Rattle.local_search.specs.Openings.{IsWithoutStart};
 ghost use Rattle.fewest_changes.specs.Openings.{IsKeptOpening};
 ghost use Rattle.command_repair.specs.Made.{CanReport, IsReportOf, IsSolution};
 
 use crate::report::{none_text, nothing_text, repaired_text};
+use branch_search::empty_certificate;
 use certificate_read::{Bound, Certificate};
 use certificate_text::texts_are_short;
 use command_answers::valid_is_audited;
 use command_frame::Report;
-use descent_ends::{Opening, empty_certificate};
 use fewest_changes::{Repair, make_repair, opening_of};
 use instance_model::{Instance, Starts};
+use local_search::Opening;
 use plan_changes::{ChangeGoal, changes};
 use quantile_index::Row;
 use std::alloc::{AllocError, Global};

@@ -15,10 +15,11 @@ use Rattle.branch_search.specs.Best.{IsFeasiblePlan, IsBestOver, IsNoWorse, boun
 use Rattle.branch_search.specs.Searched.{IsAmong, IsLeastOf, IsUnfinishedLeaf, IsSearched}
 use Rattle.branch_search.specs.declared.tree_end.TreeEnd.{TreeEnd}
 use Rattle.command_solve.specs.Solved.{IsSolved, IsNothing}
-use Rattle.descent_ends.specs.Ends.{end_of, IsGiven}
+use Rattle.local_search.specs.Ends.{end_of}
+use Rattle.branch_search.specs.Given.{IsGiven}
 use Rattle.branch_search.specs.Splits.{split_count}
-use Rattle.descent_ends.specs.Turns.{AreEnough}
-use Rattle.descent_ends.proofs.SplitLemmas.{splits_are}
+use Rattle.branch_search.specs.Turns.{AreEnough}
+use Rattle.branch_search.proofs.SplitCountLemmas.{splits_are}
 
 least_same : (a b : ℤ) → Least a ≡ Least b → a ≡ b
 least_same a b e = cc

@@ -16,9 +16,10 @@ use Rattle.certificate_text.specs.Laws.{TextsFitFiles}
 use Rattle.price_ladder.specs.Raised.{IsRaised, root_worth, least_total}
 use Rattle.branch_search.specs.declared.tree_end.TreeEnd.{TreeEnd}
 use Rattle.branch_search.specs.Searched.{IsSearched}
-use Rattle.descent_ends.specs.declared.ending.Descended.{Descended}
-use Rattle.descent_ends.specs.Ends.{IsGiven, IsDescended}
-use Rattle.descent_ends.specs.Turns.{AreEnough}
+use Rattle.branch_search.specs.Given.{IsGiven}
+use Rattle.local_search.specs.declared.ending.Descended.{Descended}
+use Rattle.local_search.specs.Ends.{IsDescended}
+use Rattle.branch_search.specs.Turns.{AreEnough}
 use Rattle.command_solve.specs.Made.{IsMade}
 use Rattle.command_solve.proofs.RootLemmas.{above_root}
 use Rattle.command_solve.proofs.ChangeLemmas.{known_changes, small_changes}

@@ -27,7 +27,8 @@ use Rattle.branch_search.specs.declared.tree_end.TreeEnd.{TreeEnd}
 use Rattle.command_frame.specs.declared.report.Report.{Report}
 use Rattle.command_frame.specs.Ending.{Writing}
 use Rattle.command_answers.proofs.BoundLemmas.{best_plan}
-use Rattle.descent_ends.specs.Openings.{IsWithoutStart, empty_certificate}
+use Rattle.local_search.specs.Openings.{IsWithoutStart}
+use Rattle.branch_search.specs.Startless.{empty_certificate}
 use Rattle.command_solve.specs.Solving.{SolveFiles, none_report, cert_write, trail_write, IsReplayable, IsFound, Solves}
 use Rattle.command_solve.specs.Solving.Solves.{found, nothing, none, no_start}
 use Rattle.command_answers.specs.Accepting.{IsShortCheckable, IsValidWithin, IsAcceptable}

@@ -39,8 +39,9 @@ use Rattle.command_frame.proofs.HoldLemmas.{others_stopped}
 use Rattle.command_frame.proofs.OutputLemmas.{same_holding}
 use Rattle.command_answers.specs.Check.{IsKeptPlan, BoundsEveryPlan, AnswersCheck}
 use Rattle.command_answers.specs.Accepting.{IsShortCheckable}
-use Rattle.descent_ends.specs.Turns.{AreEnough}
-use Rattle.descent_ends.specs.Openings.{IsWithoutStart, empty_certificate}
+use Rattle.branch_search.specs.Turns.{AreEnough}
+use Rattle.local_search.specs.Openings.{IsWithoutStart}
+use Rattle.branch_search.specs.Startless.{empty_certificate}
 use Rattle.command_solve.specs.Solving.{SolveFiles, AreDistinct, cert_write, trail_write, plan_write}
 use Rattle.command_solve.specs.Solving.{Solves, AnswersSolve, DueSolve, BehindSolve, ExpectsSolve, KeepsOthers}
 use Rattle.command_solve.specs.Solving.{RunsSolve}

@@ -26,7 +26,7 @@ use Rattle.command_answers.specs.Evaluate.{EnclosesEveryReading}
 use Rattle.command_answers.specs.Accepting.{IsValidWithin}
 use Rattle.command_solve.specs.declared.solution.Solution.{Solution}
 use Rattle.command_solve.specs.declared.solve.SolveFiles.{SolveFiles as SolveNames}
-use Rattle.descent_ends.specs.Turns.{AreEnough}
+use Rattle.branch_search.specs.Turns.{AreEnough}
 use Rattle.command_solve.specs.Solved.{IsSolved}
 use Rattle.command_solve.specs.Solving.{SolveFiles, counts_text, found_report, nothing_report, none_report}
 use Rattle.command_solve.specs.Solving.{cert_write, trail_write, plan_write, Solves}

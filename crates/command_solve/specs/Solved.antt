@@ -14,9 +14,10 @@ use Rattle.certificate_tree.specs.Holding.{worth_by}
 use Rattle.price_ladder.specs.Raised.{IsRaised, root_worth, least_total}
 use Rattle.branch_search.specs.declared.tree_end.TreeEnd.{TreeEnd}
 use Rattle.branch_search.specs.Searched.{IsSearched, IsUnfinishedLeaf}
-use Rattle.descent_ends.specs.Ends.{end_of, IsTrail, IsGiven}
+use Rattle.local_search.specs.Ends.{end_of, IsTrail}
+use Rattle.branch_search.specs.Given.{IsGiven}
 use Rattle.branch_search.specs.Splits.{split_count}
-use Rattle.descent_ends.specs.Turns.{AreEnough}
+use Rattle.branch_search.specs.Turns.{AreEnough}
 
 -- ---- the price list
 

@@ -31,9 +31,10 @@ use Rattle.command_frame.specs.Outputs.{holding, OpensSearched}
 use Rattle.command_answers.specs.Evaluate.{Judges, AnswersEvaluate}
 use Rattle.command_answers.specs.Check.{IsKeptPlan, BoundsEveryPlan, IsBest, AnswersCheck}
 use Rattle.command_answers.specs.Accepting.{IsShortCheckable}
-use Rattle.descent_ends.specs.Openings.{IsWithoutStart, empty_certificate}
+use Rattle.local_search.specs.Openings.{IsWithoutStart}
+use Rattle.branch_search.specs.Startless.{empty_certificate}
 use Rattle.branch_search.specs.Splits.{split_count}
-use Rattle.descent_ends.specs.Turns.{AreEnough}
+use Rattle.branch_search.specs.Turns.{AreEnough}
 use Rattle.command_solve.specs.Solved.{IsSolved, IsNothing, IsNone}
 
 -- ---- the files

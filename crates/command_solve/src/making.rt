@@ -3,11 +3,11 @@ ghost use Rattle.std.specs.Prelude.{◌≤◌, IfOk};
 ghost use Rattle.instance_model.specs.Keys.{IsOpening};
 ghost use Rattle.command_solve.specs.Made.{IsMade};
 
-use branch_search::{TreeEnd, search};
+use branch_search::{TreeEnd, given_end, search};
 use certificate_text::texts_are_short;
-use descent_ends::{descend_from, given_end};
 use instance_model::Instance;
 use lagrange_bound::{RiskGoal, worth_bounds_plans};
+use local_search::descend_from;
 use plan_moves::Moves;
 use price_ladder::raise_prices;
 use quantile_index::Row;

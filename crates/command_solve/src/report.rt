@@ -3,11 +3,11 @@ ghost use Rattle.std.specs.Prelude.{◌≡◌, ◌≤◌, ◌<◌, ◌^◌, ◌+
 ghost use Rattle.command_solve.specs.Solving.{counts_text, nothing_report, none_report};
 ghost use Rattle.command_solve.specs.Made.{values_report};
 
+use branch_search::split_count;
 use certificate_read::Certificate;
 use command_frame::{
     Text, push_bound_line, push_gap_line, push_numbered, push_ranges, push_rounded, push_score,
 };
-use descent_ends::split_count;
 use instance_model::Instance;
 use plan_moves::Moves;
 use plan_score::Values;

@@ -3,18 +3,18 @@ ghost use Rattle.std.specs.Prelude.{◌≤◌, ◌^◌, ℕ, IfOk, unsigned_abs}
 ghost use Rattle.certificate_tree.specs.Ranges.{IsBoundInRange};
 ghost use Rattle.branch_search.specs.Best.{IsFeasiblePlan};
 ghost use Rattle.instance_model.specs.Keys.{IsOpening};
-ghost use Rattle.descent_ends.specs.Openings.{IsWithoutStart};
+ghost use Rattle.local_search.specs.Openings.{IsWithoutStart};
 ghost use Rattle.command_solve.specs.Made.{CanReport, ReportsPlan, IsReportOf, IsSolution};
 
 use crate::making::make;
 use crate::report::{found_text, none_text, nothing_text};
-use branch_search::TreeEnd;
+use branch_search::{TreeEnd, empty_certificate};
 use certificate_read::{Bound, Certificate};
 use certificate_text::texts_are_short;
 use command_answers::valid_is_accepted;
 use command_frame::Report;
-use descent_ends::{Opening, empty_certificate, opening_of};
 use instance_model::{Instance, Starts, plan_of};
+use local_search::{Opening, opening_of};
 use plan_moves::Moves;
 use plan_score::{Verdict, judge};
 use quantile_index::Row;

@@ -6,8 +6,8 @@ use Rattle.instance_model.specs.Tables.{Tables}
 use Rattle.instance_model.specs.declared.rule.Rule.{Rule}
 use Rattle.instance_model.specs.Rules.{first_rule, IsFeasible}
 use Rattle.branch_search.specs.Best.{IsFeasiblePlan}
-use Rattle.descent_ends.specs.declared.ending.Descended.{Descended}
-use Rattle.descent_ends.specs.Ends.{IsDescended}
+use Rattle.local_search.specs.declared.ending.Descended.{Descended}
+use Rattle.local_search.specs.Ends.{IsDescended}
 use Rattle.fewest_changes.specs.Incumbents.{IsBackFrom, IsIncumbent}
 use Rattle.fewest_changes.specs.Incumbents.IsIncumbent.{opens, descends, nothing}
 

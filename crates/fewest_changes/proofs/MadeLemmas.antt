@@ -18,8 +18,8 @@ use Rattle.branch_search.specs.declared.tree_end.TreeEnd.{TreeEnd}
 use Rattle.branch_search.specs.Best.{IsFeasiblePlan, IsBestOver, IsNoWorse}
 use Rattle.branch_search.specs.Searched.{IsSearched}
 use Rattle.plan_changes.specs.Changes.{changes_of, change_base, change_value, BoundsCountChanges, OldStartsAreNoChanges}
-use Rattle.descent_ends.specs.Ends.{end_of, IsDescentFrom}
-use Rattle.descent_ends.specs.Turns.{AreEnough}
+use Rattle.local_search.specs.Ends.{end_of, IsDescentFrom}
+use Rattle.branch_search.specs.Turns.{AreEnough}
 use Rattle.fewest_changes.specs.Openings.{IsKeptOpening}
 use Rattle.fewest_changes.specs.Incumbents.{IsBackFrom, IsIncumbent}
 use Rattle.fewest_changes.specs.Incumbents.IsIncumbent.{opens, descends, nothing}

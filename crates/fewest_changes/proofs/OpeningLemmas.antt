@@ -8,7 +8,7 @@ use Rattle.instance_model.specs.Plans.{start_of, AreAllowedStarts}
 use Rattle.instance_model.proofs.EntryLemmas.{is_allowed_facts}
 use Rattle.duration_calendar.specs.Calendar.{IsAllowedIn, IsFirstAllowed}
 use Rattle.certificate_tree.proofs.RootLemmas.{le_or_lt}
-use Rattle.descent_ends.specs.Openings.{IsWithoutStart}
+use Rattle.local_search.specs.Openings.{IsWithoutStart}
 use Rattle.fewest_changes.specs.Openings.{IsAllowedOld, IsOpeningStart, IsKeptOpening}
 
 -- ---- one start

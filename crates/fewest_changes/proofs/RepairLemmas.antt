@@ -19,8 +19,8 @@ use Rattle.branch_search.specs.Best.{IsBestOver, IsNoWorse, bound_of}
 use Rattle.branch_search.specs.Searched.{IsBounding, IsAmong, IsLeastOf, IsUnfinishedLeaf, IsSearched}
 use Rattle.plan_changes.specs.Changes.{changes_of, change_base, change_value, least_changes, BoundsCountChanges}
 use Rattle.branch_search.specs.Splits.{split_count}
-use Rattle.descent_ends.specs.Turns.{AreEnough}
-use Rattle.descent_ends.proofs.SplitLemmas.{splits_are}
+use Rattle.branch_search.specs.Turns.{AreEnough}
+use Rattle.branch_search.proofs.SplitCountLemmas.{splits_are}
 use Rattle.fewest_changes.specs.Incumbents.{IsBackFrom}
 use Rattle.fewest_changes.specs.Repaired.{change_worths, IsRepairTree, IsRepaired}
 

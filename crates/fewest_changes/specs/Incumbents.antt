@@ -6,7 +6,7 @@ use Rattle.plan_moves.specs.declared.change.Change.{Change}
 use Rattle.branch_search.specs.Best.{IsFeasiblePlan}
 use Rattle.plan_changes.specs.Changes.{changes_of}
 use Rattle.plan_changes.specs.Returning.{AreFromEither, NoneCanGoBack}
-use Rattle.descent_ends.specs.Ends.{end_of, IsDescentFrom}
+use Rattle.local_search.specs.Ends.{end_of, IsDescentFrom}
 
 -- a feasible plan that came of another one by starts that went back to old ones until no change could go back alone
 pub record IsBackFrom (inst : Tables) (old : List (Option ℕ)) (starts new : List ℕ) : Type 0 where

@@ -2,9 +2,9 @@
 use Rattle.std.specs.Prelude.{◌≡◌, ℕ, ◌<◌, ◌≤◌, List, length, Option, Some, IsTrue, slice_index}
 use Rattle.instance_model.specs.Tables.{Tables, is_allowed}
 use Rattle.instance_model.specs.Plans.{start_of}
-use Rattle.descent_ends.specs.declared.opening.Opening.{Opening}
-use Rattle.descent_ends.specs.declared.opening.Opening.TheVariants.{From, Without}
-use Rattle.descent_ends.specs.Openings.{IsWithoutStart}
+use Rattle.local_search.specs.declared.opening.Opening.{Opening}
+use Rattle.local_search.specs.declared.opening.Opening.TheVariants.{From, Without}
+use Rattle.local_search.specs.Openings.{IsWithoutStart}
 
 -- s is the old start of intervention i, and it is allowed
 pub record IsAllowedOld (inst : Tables) (old : Option ℕ) (i s : ℕ) : Type 0 where

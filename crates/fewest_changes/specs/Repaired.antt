@@ -18,8 +18,8 @@ use Rattle.branch_search.specs.Best.{IsBestOver, IsNumber}
 use Rattle.branch_search.specs.Searched.{IsSplitBox, IsBounding, IsAmong, IsLeastOf, IsUnfinishedLeaf}
 use Rattle.plan_changes.specs.Changes.{changes_of, change_base, change_value, least_changes}
 use Rattle.plan_changes.specs.Returning.{NoneCanGoBack}
-use Rattle.descent_ends.specs.Ends.{end_of, IsDescentFrom}
-use Rattle.descent_ends.specs.Turns.{AreEnough}
+use Rattle.local_search.specs.Ends.{end_of, IsDescentFrom}
+use Rattle.branch_search.specs.Turns.{AreEnough}
 use Rattle.fewest_changes.specs.declared.repairing.Repair.{Repair}
 use Rattle.fewest_changes.specs.Openings.{IsKeptOpening}
 use Rattle.fewest_changes.specs.Incumbents.{IsBackFrom, IsIncumbent}

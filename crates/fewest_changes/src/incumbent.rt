@@ -3,8 +3,8 @@ ghost use Rattle.std.specs.Prelude.{IfOk};
 ghost use Rattle.instance_model.specs.Plans.{AreAllowedStarts};
 ghost use Rattle.fewest_changes.specs.Incumbents.{IsIncumbent};
 
-use descent_ends::descend_from;
 use instance_model::{Instance, Starts, plan_of};
+use local_search::descend_from;
 use plan_changes::give_back;
 use plan_score::broken_rule;
 use quantile_index::Row;

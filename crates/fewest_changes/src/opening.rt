@@ -3,9 +3,9 @@ ghost use Rattle.std.specs.Prelude.{ℕ, ◌<◌, length, IfOk, IfSome, IfNone, 
 ghost use Rattle.instance_model.specs.Tables.{is_allowed};
 ghost use Rattle.fewest_changes.specs.Openings.{IsAllowedOld, IsOpeningStart, OpensAs};
 
-use descent_ends::Opening;
 use duration_calendar::first_allowed;
 use instance_model::{Instance, Starts};
+use local_search::Opening;
 use plan_changes::old_start;
 use std::alloc::{AllocError, Global};
 

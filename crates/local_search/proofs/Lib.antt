@@ -4,3 +4,5 @@ pub mod LeadsLemmas
 pub mod SweepLemmas
 pub mod BestLemmas
 pub mod DescentLemmas
+pub mod EndLemmas
+pub mod OpeningLemmas

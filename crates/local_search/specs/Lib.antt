@@ -1,3 +1,5 @@
 -- What the contracts cite.
 pub mod Descents
 pub mod Progress
+pub mod Ends
+pub mod Openings

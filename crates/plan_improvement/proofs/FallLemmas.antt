@@ -17,7 +17,7 @@ use Rattle.plan_moves.specs.declared.change.Change.{Change}
 use Rattle.plan_moves.specs.Changing.{after_change}
 use Rattle.plan_moves.specs.KeptPlans.{present}
 use Rattle.local_search.specs.Descents.{AllLower, plans_after, plan_key}
-use Rattle.descent_ends.specs.Ends.{end_of}
+use Rattle.local_search.specs.Ends.{end_of}
 
 -- ---- no violation is below 0
 

@@ -10,8 +10,8 @@ use Rattle.instance_model.specs.Plans.{AreAllowedStarts}
 use Rattle.instance_model.specs.Rules.{IsFeasible}
 use Rattle.instance_model.specs.Values.{score_of}
 use Rattle.plan_score.specs.declared.values.Values.{Values}
-use Rattle.descent_ends.specs.declared.ending.Descended.{Descended}
-use Rattle.descent_ends.specs.Ends.{IsDescended}
+use Rattle.local_search.specs.declared.ending.Descended.{Descended}
+use Rattle.local_search.specs.Ends.{IsDescended}
 use Rattle.fewest_changes.specs.Openings.{IsKeptOpening}
 use Rattle.plan_improvement.specs.declared.judging.Judged.{Judged}
 use Rattle.plan_improvement.specs.Improving.{IsJudged, IsImproved, IsNothing}

@@ -13,10 +13,10 @@ use Rattle.instance_model.specs.Exact.{IsReading, EnclosesReading}
 use Rattle.plan_score.specs.Values.{values_of}
 use Rattle.plan_score.specs.declared.values.Values.{Values}
 use Rattle.plan_moves.specs.declared.change.Change.{Change}
-use Rattle.local_search.specs.Descents.{plans_after}
 use Rattle.branch_search.specs.Best.{IsFeasiblePlan}
-use Rattle.descent_ends.specs.Openings.{IsWithoutStart}
-use Rattle.descent_ends.specs.Ends.{end_of, IsDescentFrom}
+use Rattle.local_search.specs.Descents.{plans_after}
+use Rattle.local_search.specs.Openings.{IsWithoutStart}
+use Rattle.local_search.specs.Ends.{end_of, IsDescentFrom}
 use Rattle.fewest_changes.specs.Openings.{IsKeptOpening}
 use Rattle.plan_improvement.specs.declared.improving.Improvement.{Improvement}
 use Rattle.plan_improvement.specs.declared.improving.Improvement.TheVariants.{Found, Nothing, Without}

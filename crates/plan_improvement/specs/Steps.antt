@@ -5,7 +5,7 @@ use Rattle.instance_model.specs.Rules.{IsFeasible}
 use Rattle.instance_model.specs.Values.{score_of}
 use Rattle.instance_model.specs.Keys.{violation_of}
 use Rattle.plan_moves.specs.declared.change.Change.{Change}
-use Rattle.descent_ends.specs.Ends.{end_of, IsDescentFrom}
+use Rattle.local_search.specs.Ends.{end_of, IsDescentFrom}
 use Rattle.plan_improvement.specs.declared.first.First.{First}
 use Rattle.plan_improvement.specs.declared.first.First.TheVariants.{Kept, Broken}
 use Rattle.plan_improvement.specs.declared.judging.Judged.{Judged}

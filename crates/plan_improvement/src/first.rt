@@ -6,8 +6,8 @@ ghost use Rattle.plan_improvement.specs.Improving.{IsJudged, looking_turns};
 ghost use Rattle.plan_improvement.specs.Steps.{IsFirst, IsLookedFor};
 
 use crate::judging::{Judged, kept_values};
-use descent_ends::descend_from;
 use instance_model::{Instance, Starts};
+use local_search::descend_from;
 use plan_breakout::mended;
 use plan_moves::Kept;
 use quantile_index::Row;

@@ -6,9 +6,9 @@ ghost use Rattle.plan_improvement.specs.Improving.{IsImprovement};
 use crate::first::{First, first_of};
 use crate::judging::Judged;
 use crate::steps::bettered;
-use descent_ends::Opening;
 use fewest_changes::opening_of;
 use instance_model::{Instance, Starts};
+use local_search::Opening;
 use quantile_index::Row;
 use std::alloc::{AllocError, Global};
 

@@ -4,8 +4,8 @@ ghost use Rattle.plan_improvement.specs.Improving.{IsJudged};
 ghost use Rattle.plan_improvement.specs.Steps.{IsNoWorse, IsSettledFrom, IsBetter};
 
 use crate::judging::{Judged, kept_values};
-use descent_ends::descend_from;
 use instance_model::Instance;
+use local_search::descend_from;
 use plan_annealing::anneal;
 use quantile_index::Row;
 use std::alloc::{AllocError, Global};

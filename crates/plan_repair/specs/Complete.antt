@@ -11,7 +11,7 @@ use Rattle.instance_model.specs.Tables.{Tables}
 use Rattle.command_frame.specs.Sources.{Source}
 use Rattle.command_audit.specs.Auditing.{AuditedFiles, TellsAudited}
 use Rattle.command_answers.specs.Audit.{Audits}
-use Rattle.descent_ends.specs.Turns.{AreEnough}
+use Rattle.branch_search.specs.Turns.{AreEnough}
 use Rattle.command_repair.specs.Repairing.{RepairFiles, TellsRepair, Repairs}
 use Rattle.command_frame.specs.Completing.{Completes}
 use Rattle.plan_repair.specs.Words.{audit, repair}

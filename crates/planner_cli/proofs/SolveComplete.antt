@@ -6,7 +6,7 @@ use Rattle.instance_model.specs.Tables.{Tables}
 use Rattle.command_frame.specs.Sources.{Source}
 use Rattle.command_frame.specs.Ending.{Answer, IsOneOf, NoFault}
 use Rattle.command_frame.specs.Files.{by_bytes, TellsInstance}
-use Rattle.descent_ends.specs.Turns.{AreEnough}
+use Rattle.branch_search.specs.Turns.{AreEnough}
 use Rattle.command_solve.specs.Solving.{SolveFiles, Solves, AnswersSolve, RunsSolve}
 use Rattle.command_solve.specs.Solving.Solves.{found, nothing, none, no_start}
 use Rattle.command_frame.specs.Completing.{Completes}

@@ -16,7 +16,7 @@ use Rattle.command_answers.specs.Evaluate.{Judges}
 use Rattle.command_replay.specs.Replaying.{ScriptedPlan, TellsScripted, Replays}
 use Rattle.command_check.specs.Checking.{CheckedPlan, TellsChecked}
 use Rattle.command_answers.specs.Check.{Checks}
-use Rattle.descent_ends.specs.Turns.{AreEnough}
+use Rattle.branch_search.specs.Turns.{AreEnough}
 use Rattle.command_solve.specs.Solving.{SolveFiles, Solves}
 use Rattle.command_table.specs.Tabling.{Tabulates}
 use Rattle.command_rebound.specs.Rebinding.{Rebinds}

@@ -11,7 +11,7 @@ use Rattle.lagrange_bound.specs.Prices.{PriceList}
 use Rattle.certificate_tree.proofs.Refuting.{feasible_allowed}
 use Rattle.price_ladder.specs.Raised.{IsRaised as IsRaisedFor}
 use Rattle.branch_search.specs.Best.{IsFeasiblePlan}
-use Rattle.descent_ends.specs.Openings.{IsWithoutStart}
+use Rattle.local_search.specs.Openings.{IsWithoutStart}
 use Rattle.refined_prices.specs.RefinedLists.{RefinedList, IsRefinedList}
 use Rattle.refined_check.specs.certificate.Orders.{IsInOrder}
 use Rattle.refined_check.specs.Singles.{refined_of}

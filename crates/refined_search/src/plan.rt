@@ -3,8 +3,8 @@ ghost use Rattle.std.specs.Prelude.{IfOk, IfSome, None, option_map};
 ghost use Rattle.branch_search.specs.Best.{IsFeasiblePlan};
 ghost use Rattle.refined_search.specs.Steps.{FindsPlan};
 
-use descent_ends::{Opening, opening_of};
 use instance_model::{Instance, Starts};
+use local_search::{Opening, opening_of};
 use std::alloc::{AllocError, Global};
 
 /// The plan of the least allowed starts, where each intervention has one.

@@ -3,7 +3,7 @@ use Rattle.std.proofs.Common.{◌≡◌, List, ℕ, subst}
 use Rattle.std.specs.Prelude.{option_map}
 use Rattle.certificate_check.specs.declared.verdict.CertVerdict.TheVariants.{Valid, LeafFails}
 use Rattle.command_answers.proofs.BoundLemmas.{bounds_every}
-use Rattle.descent_ends.specs.Ends.{IsGiven}
+use Rattle.branch_search.specs.Given.{IsGiven}
 use Rattle.command_rehearse.proofs.bounding.bound_from.Goals as goal
 
 pub unreachable-requires : goal.unreachable-requires

@@ -1,7 +1,7 @@
 -- Each intervention has an allowed start.
 use Rattle.std.proofs.Common.{◌≡◌, length, IsTrue, sym, ◌∙◌, ap, subst, arith}
 use Rattle.instance_model.specs.Tables.{Tables, is_allowed}
-use Rattle.descent_ends.specs.Openings.{OpensAs}
+use Rattle.local_search.specs.Openings.{OpensAs}
 use Rattle.command_rehearse.proofs.drawn.open_drawn.Goals as goal
 
 pub unreachable-requires : goal.unreachable-requires

@@ -5,9 +5,9 @@ use Rattle.instance_model.specs.Rules.{IsFeasible}
 use Rattle.plan_moves.specs.declared.change.Change.{Change}
 use Rattle.plan_moves.specs.KeptPlans.{KeptPlans, present}
 use Rattle.certificate_tree.specs.declared.node.Node.{Node}
-use Rattle.descent_ends.specs.Ends.{end_of}
 use Rattle.branch_search.specs.Splits.{split_count}
-use Rattle.descent_ends.proofs.EndLemmas.{end_is, instance_is, is_trail, present_feasible}
+use Rattle.local_search.specs.Ends.{end_of}
+use Rattle.local_search.proofs.EndLemmas.{end_is, instance_is, is_trail, present_feasible}
 use Rattle.command_rehearse.specs.Rehearsed.{IsBounded}
 use Rattle.command_rehearse.proofs.RehearsalLemmas.{key_is, all_count, first_left}
 use Rattle.command_rehearse.proofs.rehearsal.rehearse.Goals as goal

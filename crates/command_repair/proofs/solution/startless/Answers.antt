@@ -1,5 +1,5 @@
 use Rattle.std.proofs.Common.{List, Option, ℕ, subst}
-use Rattle.descent_ends.specs.Openings.{empty_certificate}
+use Rattle.branch_search.specs.Startless.{empty_certificate}
 use Rattle.command_answers.specs.Accepting.{ShortValidIsAuditable}
 use Rattle.command_repair.proofs.SolutionLemmas.{empty_is_good, no_start_solution}
 use Rattle.command_repair.proofs.solution.startless.Goals as goal

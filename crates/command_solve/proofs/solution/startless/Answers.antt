@@ -1,6 +1,6 @@
 use Rattle.std.proofs.Common.{◌∙◌}
 use Rattle.instance_model.specs.Limits.{standard_limits}
-use Rattle.descent_ends.specs.Openings.{empty_certificate}
+use Rattle.branch_search.specs.Startless.{empty_certificate}
 use Rattle.command_solve.proofs.SolutionLemmas.{empty_is_good, empty_is_short, no_start_solution}
 use Rattle.command_solve.proofs.solution.startless.Goals as goal
 

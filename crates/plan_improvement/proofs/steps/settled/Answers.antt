@@ -4,7 +4,7 @@ use Rattle.instance_model.specs.Plans.{AreAllowedStarts}
 use Rattle.instance_model.specs.Rules.{IsFeasible}
 use Rattle.plan_score.specs.declared.values.Values.{Values}
 use Rattle.branch_search.proofs.SettleLemmas.{allowed_of_feasible}
-use Rattle.descent_ends.specs.Ends.{IsDescended}
+use Rattle.local_search.specs.Ends.{IsDescended}
 use Rattle.plan_improvement.specs.Improving.{IsJudged}
 use Rattle.plan_improvement.proofs.StepLemmas.{still_feasible, settles}
 use Rattle.plan_improvement.proofs.steps.settled.Goals as goal

@@ -1,5 +1,5 @@
 use Rattle.std.proofs.Common.{subst}
-use Rattle.descent_ends.specs.Openings.{OpensAs}
+use Rattle.local_search.specs.Openings.{OpensAs}
 use Rattle.refined_search.proofs.ListLemmas.{plan_opens, no_plan}
 use Rattle.refined_search.proofs.plan.opening_plan.Goals as goal
 

@@ -1,13 +1,13 @@
 -- The least allowed start of each intervention, one after another.
 use Rattle.std.proofs.Common.{◌≡◌, ℕ, ◌+◌, ◌<◌, ◌≤◌, ◌⊎◌, inl, inr, refl, sym, subst, arith, List, [], ◌∷◌, ◌++◌}
 use Rattle.std.proofs.Common.{length, length-append, get_or, IsTrue}
+use Rattle.std.proofs.lemmas.Bool.{cases_lt}
 use Rattle.std.proofs.lemmas.List.{get_or_append_left, get_or-append-add}
 use Rattle.instance_model.specs.Tables.{Tables, tmax, is_allowed}
 use Rattle.instance_model.specs.Keys.{IsOpening}
 use Rattle.instance_model.proofs.EntryLemmas.{is_allowed_facts}
 use Rattle.duration_calendar.specs.Calendar.{IsAllowedIn, IsFirstAllowed}
-use Rattle.certificate_tree.proofs.RootLemmas.{le_or_lt}
-use Rattle.descent_ends.specs.Openings.{IsWithoutStart}
+use Rattle.local_search.specs.Openings.{IsWithoutStart}
 
 -- these are the least allowed starts of the first i interventions
 pub record AreFirst (inst : Tables) (starts : List ℕ) (i : ℕ) : Type 0 where
@@ -21,19 +21,19 @@ pub first_more : (inst : Tables) (starts : List ℕ) (i s : ℕ) → AreFirst in
     → IsFirstAllowed inst i 1 (tmax inst i) s → AreFirst inst (starts ++ s ∷ []) (i + 1)
 first_more inst starts i s before here = record {
   each = omega (arith, length-append starts (s ∷ []), before.each);
-  at = λ k low. or_last k low (le_or_lt i k);
+  at = λ k low. or_last k low (cases_lt k i);
 }
   where
-    or_last : (k : ℕ) → k < i + 1 → (i ≤ k) ⊎ (k < i)
+    or_last : (k : ℕ) → k < i + 1 → (k < i) ⊎ (i ≤ k)
         → IsFirstAllowed inst k 1 (tmax inst k) (get_or (starts ++ s ∷ []) k 0)
-    or_last k low (inl high) =
+    or_last k low (inr high) =
         let same : k ≡ i = omega (arith, low, high) in
         let last : get_or (starts ++ s ∷ []) i 0 ≡ s =
         subst (λ (m : ℕ). get_or (starts ++ s ∷ []) m 0 ≡ s) (omega (arith, before.each))
         (get_or-append-add starts (s ∷ []) 0 0) in
         subst (λ (m : ℕ). IsFirstAllowed inst m 1 (tmax inst m) (get_or (starts ++ s ∷ []) m 0)) (sym same)
         (subst (IsFirstAllowed inst i 1 (tmax inst i)) (sym last) here)
-    or_last k low (inr below) =
+    or_last k low (inl below) =
         subst (IsFirstAllowed inst k 1 (tmax inst k))
         (sym (get_or_append_left starts (s ∷ []) 0 k (omega (arith, below, before.each)))) (before.at k below)
 
@@ -49,13 +49,13 @@ first_opens inst starts are = record {
     each = are.each;
     allowed = λ i low. (are.at i (omega (arith, low, are.each))).one.allowed;
   };
-  least = λ i s low allowed. not_less i s low allowed (le_or_lt (get_or starts i 0) s);
+  least = λ i s low allowed. not_less i s low allowed (cases_lt s (get_or starts i 0));
 }
   where
     not_less : (i s : ℕ) → i < length inst.names → IsTrue (is_allowed inst i s)
-        → (get_or starts i 0 ≤ s) ⊎ (s < get_or starts i 0) → get_or starts i 0 ≤ s
-    not_less i s low allowed (inl h) = h
-    not_less i s low allowed (inr h) = absurd ((are.at i low).least s h (within inst i s allowed))
+        → (s < get_or starts i 0) ⊎ (get_or starts i 0 ≤ s) → get_or starts i 0 ≤ s
+    not_less i s low allowed (inr h) = h
+    not_less i s low allowed (inl h) = absurd ((are.at i low).least s h (within inst i s allowed))
 
 pub first_without : (inst : Tables) (starts : List ℕ) (i : ℕ) → AreFirst inst starts i → i < length inst.names
     → ((s : ℕ) → IsAllowedIn inst i 1 (tmax inst i) s → ⊥) → IsWithoutStart inst i

@@ -2,7 +2,7 @@ use Rattle.std.proofs.Common.{◌-◌, ◌∷◌, ◌++◌, [], ℕ, List, lengt
 use Rattle.std.proofs.lemmas.List.{take_more, take_all}
 use Rattle.instance_model.specs.Tables.{Tables}
 use Rattle.plan_moves.specs.KeptPlans.{present}
-use Rattle.descent_ends.proofs.ending.present_starts.Goals as goal
+use Rattle.local_search.proofs.ending.present_starts.Goals as goal
 
 pub returns : goal.returns
 returns g c =

@@ -1,23 +1,15 @@
 -- Where a descent sets out: the least allowed starts, or the first intervention that has none.
-use Rattle.std.specs.Prelude.{ℕ, ◌<◌, [], ◌∷◌, length, IsTrue}
+use Rattle.std.specs.Prelude.{ℕ, ◌<◌, length, IsTrue}
 use Rattle.instance_model.specs.Tables.{Tables, is_allowed}
 use Rattle.instance_model.specs.Keys.{IsOpening}
-use Rattle.certificate_lines.specs.declared.line.Bound.TheVariants.{NoPlan}
-use Rattle.certificate_lines.specs.declared.line.Version.TheVariants.{Two}
-use Rattle.certificate_tree.specs.declared.node.Node.TheVariants.{Empty}
-use Rattle.certificate_tree.specs.declared.certificate.Certificate.{Certificate}
-use Rattle.descent_ends.specs.declared.opening.Opening.{Opening}
-use Rattle.descent_ends.specs.declared.opening.Opening.TheVariants.{From, Without}
+use Rattle.local_search.specs.declared.opening.Opening.{Opening}
+use Rattle.local_search.specs.declared.opening.Opening.TheVariants.{From, Without}
 
 -- intervention i is the first without an allowed start
 pub record IsWithoutStart (inst : Tables) (i : ℕ) : Type 0 where
   pub number : i < length inst.names
   pub none : (s : ℕ) → IsTrue (is_allowed inst i s) → ⊥
   pub first : (j : ℕ) → j < i → (s : ℕ) × IsTrue (is_allowed inst j s)
-
--- the certificate of one leaf that says so
-abbrev pub empty_certificate : ℕ → Certificate
-empty_certificate i = record { version = Two; bound = NoPlan; lists = []; nodes = Empty i ∷ [] }
 
 -- the plan from which a descent sets out, or the first intervention without an allowed start
 abbrev pub OpensAs : Tables → Opening → Type 0

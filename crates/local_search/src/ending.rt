@@ -1,13 +1,12 @@
 //! The end of a descent.
-ghost use Rattle.std.specs.Prelude.{◌≡◌, ◌↔◌, map, Some, IsTrue, IfOk, IfSome, option_map};
+ghost use Rattle.std.specs.Prelude.{◌≡◌, ◌↔◌, map, Some, IsTrue, IfOk};
 ghost use Rattle.instance_model.specs.Plans.{AreAllowedStarts};
 ghost use Rattle.instance_model.specs.Rules.{IsFeasible};
 ghost use Rattle.plan_moves.specs.KeptPlans.{present};
-ghost use Rattle.branch_search.specs.Best.{IsFeasiblePlan};
-ghost use Rattle.descent_ends.specs.Ends.{IsGiven, IsDescended};
+ghost use Rattle.local_search.specs.Ends.{IsDescended};
 
+use crate::descent::descend;
 use instance_model::{Instance, Starts};
-use local_search::descend;
 use plan_moves::{Kept, Moves};
 use quantile_index::Row;
 use std::alloc::{AllocError, Global};
@@ -41,17 +40,6 @@ pub fn descend_from<R: Row>(
         starts,
         feasible: is_feasible(inst, &kept),
     })
-}
-
-/// The end of a descent, where it keeps the rules: the plan that a search is given.
-pub fn given_end<'a>(inst: &Instance, end: &'a Starts, feasible: bool) -> Option<&'a [u32]>
-    requires allowed { AreAllowedStarts inst.now end.now }
-    requires feasible { IsTrue feasible ↔ IsFeasible inst.now (map Some end.now) }
-    ensures given { IsGiven inst.now end.now (option_map (λ starts. starts.now) result) }
-    ensures plan { IfSome result (λ starts. IsFeasiblePlan inst.now starts.now) }
-{
-    inst.fits();
-    if feasible { Some(end.as_slice()) } else { None }
 }
 
 /// Whether the present plan keeps the rules.

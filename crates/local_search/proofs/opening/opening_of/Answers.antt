@@ -1,8 +1,8 @@
 use Rattle.std.proofs.Common.{◌≡◌, ℕ, length, sym, subst, arith}
 use Rattle.instance_model.specs.Keys.{IsOpening}
 use Rattle.duration_calendar.specs.Calendar.{IsAllowedIn}
-use Rattle.descent_ends.proofs.OpeningLemmas.{AreFirst, first_opens, first_without}
-use Rattle.descent_ends.proofs.opening.opening_of.Goals as goal
+use Rattle.local_search.proofs.OpeningLemmas.{AreFirst, first_opens, first_without}
+use Rattle.local_search.proofs.opening.opening_of.Goals as goal
 
 pub returns-in-None : goal.returns-in-None
 returns-in-None c =

@@ -9,7 +9,7 @@ use Rattle.instance_model.specs.Keys.{IsOpening, NoViolationMeansFeasible, viola
 use Rattle.plan_moves.specs.declared.change.Change.{Change}
 use Rattle.plan_moves.specs.KeptPlans.{KeptPlans, AreKeptPlans, present, present_key}
 use Rattle.local_search.specs.Descents.{IsDescent, IsLocalOptimum}
-use Rattle.descent_ends.specs.Ends.{end_of, IsDescentFrom, IsTrail}
+use Rattle.local_search.specs.Ends.{end_of, IsDescentFrom, IsTrail}
 
 -- ---- a descent
 

@@ -4,8 +4,8 @@ use Rattle.std.proofs.lemmas.Bool.Decides.{nat_tests}
 use Rattle.std.proofs.lemmas.Int.{to_z-of_z}
 use mir.Syntax.{w128}
 use mir.Val.{SFits, of_z, to_z}
-use Rattle.descent_ends.proofs.EndLemmas.{present_feasible}
-use Rattle.descent_ends.proofs.ending.is_feasible.Goals as goal
+use Rattle.local_search.proofs.EndLemmas.{present_feasible}
+use Rattle.local_search.proofs.ending.is_feasible.Goals as goal
 
 zero_is : (z : ℤ) → SFits w128 z → IsTrue (eqb (of_z w128 z) 0) ↔ (z ≡ pos 0)
 zero_is z fits = (

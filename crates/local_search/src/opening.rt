@@ -1,8 +1,7 @@
 //! Where a descent sets out.
-ghost use Rattle.std.specs.Prelude.{◌≡◌, IfOk};
-ghost use Rattle.descent_ends.specs.Openings.{OpensAs, empty_certificate};
+ghost use Rattle.std.specs.Prelude.{IfOk};
+ghost use Rattle.local_search.specs.Openings.{OpensAs};
 
-use certificate_tree::{Bound, Certificate, Node, Nodes, PriceLists, Version};
 use duration_calendar::first_allowed;
 use instance_model::{Instance, Starts};
 use std::alloc::{AllocError, Global};
@@ -29,18 +28,4 @@ pub fn opening_of(alloc: Global, inst: &Instance) -> Result<Opening, AllocError>
         }
     }
     Ok(Opening::From(Starts::from_vec(starts)))
-}
-
-/// The certificate of one leaf, which says that this intervention has no allowed start.
-pub fn empty_certificate(alloc: Global, i: u32) -> Result<Certificate, AllocError>
-    ensures { IfOk result (λ certificate. certificate ≡ empty_certificate i) }
-{
-    let mut nodes = Vec::new(alloc);
-    nodes.push(Node::Empty { i })?;
-    Ok(Certificate {
-        version: Version::Two,
-        bound: Bound::NoPlan,
-        lists: PriceLists::from_vec(Vec::new(alloc)),
-        nodes: Nodes::from_vec(nodes),
-    })
 }

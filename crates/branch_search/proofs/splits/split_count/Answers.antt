@@ -1,7 +1,7 @@
 use Rattle.std.proofs.Common.{arith}
 use Rattle.certificate_tree.specs.declared.node.Node.TheVariants.{Split}
-use Rattle.descent_ends.proofs.SplitLemmas.{split_more}
-use Rattle.descent_ends.proofs.splits.split_count.Goals as goal
+use Rattle.branch_search.proofs.SplitCountLemmas.{split_more}
+use Rattle.branch_search.proofs.splits.split_count.Goals as goal
 
 pub loop-node-preserved : goal.loop-node-preserved
 loop-node-preserved c =

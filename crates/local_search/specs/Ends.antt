@@ -1,5 +1,5 @@
--- What a descent comes to, and what a search is given of it.
-use Rattle.std.specs.Prelude.{◌≡◌, ◌⊎◌, ℕ, ◌≤◌, List, ◌∷◌, length, map, IsTrue, ◌↔◌, Option, Some, None}
+-- What a descent comes to.
+use Rattle.std.specs.Prelude.{◌≡◌, ◌⊎◌, ℕ, ◌≤◌, List, ◌∷◌, length, map, IsTrue, ◌↔◌, Some}
 use Rattle.instance_model.specs.Tables.{Tables}
 use Rattle.instance_model.specs.Plans.{AreAllowedStarts}
 use Rattle.instance_model.specs.Rules.{IsFeasible}
@@ -7,7 +7,7 @@ use Rattle.instance_model.specs.Keys.{IsOpening}
 use Rattle.plan_moves.specs.declared.change.Change.{Change}
 use Rattle.plan_moves.specs.KeptPlans.{present}
 use Rattle.local_search.specs.Descents.{AllLower, plans_after, IsLocalOptimum}
-use Rattle.descent_ends.specs.declared.ending.Descended.{Descended}
+use Rattle.local_search.specs.declared.ending.Descended.{Descended}
 
 -- the plan at which changes end that are made in order from a plan
 abbrev pub end_of : List ℕ → List Change → List ℕ
@@ -24,11 +24,6 @@ pub record IsDescentFrom (inst : Tables) (turns : ℕ) (opening : List ℕ) (cha
 pub record IsTrail (inst : Tables) (turns : ℕ) (opening : List ℕ) (changes : List Change) : Type 0 where
   pub opens : IsOpening inst opening
   pub descent : IsDescentFrom inst turns opening changes
-
--- the plan that a search is given: the end of a descent, where it is feasible
-abbrev pub IsGiven : Tables → List ℕ → Option (List ℕ) → Type 0
-IsGiven inst end None = IsFeasible inst (map Some end) → ⊥
-IsGiven inst end (Some plan) = (plan ≡ end) × IsFeasible inst (map Some end)
 
 -- what a descent from a plan came to: its changes, its end, and whether that is feasible
 pub record IsDescended (inst : Tables) (turns : ℕ) (opening : List ℕ) (descended : Descended) : Type 0 where

@@ -1,8 +1,8 @@
 use Rattle.std.proofs.Common.{List, ℕ, ◌↔◌, IsTrue, Some, map, sym, ◌∙◌, subst}
 use Rattle.instance_model.specs.Plans.{AreAllowedStarts}
 use Rattle.instance_model.specs.Rules.{IsFeasible}
-use Rattle.descent_ends.proofs.EndLemmas.{end_is, instance_is, is_descent, present_allowed}
-use Rattle.descent_ends.proofs.ending.descend_from.Goals as goal
+use Rattle.local_search.proofs.EndLemmas.{end_is, instance_is, is_descent, present_allowed}
+use Rattle.local_search.proofs.ending.descend_from.Goals as goal
 
 pub present_starts-requires : goal.present_starts-requires
 present_starts-requires g c =

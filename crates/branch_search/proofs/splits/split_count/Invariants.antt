@@ -1,6 +1,6 @@
 use Rattle.std.proofs.Common.{◌≡◌, ◌≤◌, take}
 use Rattle.branch_search.specs.Splits.{split_count}
-use Rattle.descent_ends.proofs.splits.split_count.Given as goal
+use Rattle.branch_search.proofs.splits.split_count.Given as goal
 
 abbrev pub invariant-loop-node : goal.invariant-loop-node
 invariant-loop-node l = record {

@@ -1,4 +1,0 @@
--- Lemmas on descents and trees.
-pub mod SplitLemmas
-pub mod EndLemmas
-pub mod OpeningLemmas

@@ -1,4 +1,0 @@
--- What the contracts cite.
-pub mod Openings
-pub mod Ends
-pub mod Turns
