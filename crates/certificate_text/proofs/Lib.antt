@@ -12,3 +12,13 @@ pub mod LengthLemmas
 pub mod WriteLemmas
 pub mod LedLemmas
 pub mod CountLemmas
+pub mod ReadStepLemmas
+pub mod ReadNodeLemmas
+pub mod ReadFitLemmas
+pub mod ReadEntryLemmas
+pub mod ReadListLemmas
+pub mod ReadWholeLemmas
+pub mod ReadCompleteLemmas
+pub mod ReadTreeLemmas
+pub mod ReadFaultLemmas
+pub mod ReadToldLemmas

@@ -1,7 +1,7 @@
 //! Which certificates `check` and `audit` accept. The functions do nothing: each contract is the law.
 ghost use Rattle.command_answers.specs.Accepting.{ValidWithinIsAcceptableBy, ShortValidIsAuditable};
 
-use certificate_read::{nodes_are_one_tree, texts_tell, valid_bounds_plans};
+use certificate_text::{nodes_are_one_tree, texts_tell, valid_bounds_plans};
 use certificate_tree::proved_bounds_plans;
 use command_frame::FileCertificate;
 use instance_model::Instance;

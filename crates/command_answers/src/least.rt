@@ -3,7 +3,7 @@ ghost use Rattle.std.specs.Prelude.{◌≡◌, ◌++◌, OnOk};
 ghost use Rattle.certificate_tree.specs.Ranges.{IsBoundInRange};
 ghost use Rattle.command_answers.specs.Audit.{least_line};
 
-use certificate_read::Bound;
+use certificate_text::Bound;
 use command_frame::{Text, push_numbered};
 use plan_changes::least_changes;
 use std::alloc::AllocError;

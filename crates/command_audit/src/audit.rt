@@ -14,7 +14,7 @@ ghost use Rattle.command_answers.specs.Audit.{Audits, AnswersAudit};
 
 use crate::report::audited_text;
 use certificate_check::{CertVerdict, check_for};
-use certificate_read::Certificate;
+use certificate_text::Certificate;
 use command_frame::{
     Refusal, Report, Source, certificate_of, instance_of, leaf_text, plan_of, say_report,
 };

@@ -3,7 +3,7 @@ ghost use Rattle.std.specs.Prelude.{◌≡◌, IfOk};
 ghost use Rattle.certificate_tree.specs.Ranges.{IsBoundInRange};
 ghost use Rattle.command_answers.specs.Audit.{audited_report};
 
-use certificate_read::Bound;
+use certificate_text::Bound;
 use command_answers::push_least;
 use command_frame::{Text, push_rounded};
 use instance_model::Instance;

@@ -9,7 +9,7 @@ ghost use Rattle.command_bound.specs.Made.{starts_of, IsMade};
 
 use crate::incumbent::{Incumbent, incumbent_of};
 use branch_search::Part;
-use certificate_read::Bound;
+use certificate_text::Bound;
 use command_answers::valid_is_accepted;
 use command_frame::{Report, Text, push_bound_or_none, push_gap, push_numbered, push_rounded};
 use instance_model::Instance;

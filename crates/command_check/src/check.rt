@@ -15,7 +15,7 @@ ghost use Rattle.command_check.specs.Standing.{StandsAs, ChecksFor};
 
 use crate::verdict::verdict_of;
 use certificate_check::CertVerdict;
-use certificate_read::Certificate;
+use certificate_text::Certificate;
 use command_frame::{
     FileCertificate, Refusal, Report, Source, accepted_text, certificate_of, given_plan_of,
     infeasible_text, instance_of, leaf_text, say_report,

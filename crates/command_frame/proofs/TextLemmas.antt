@@ -7,10 +7,10 @@ use Rattle.certificate_tree.specs.declared.certificate.Certificate.{Certificate}
 use Rattle.certificate_tree.specs.Ranges.{IsInRange}
 use Rattle.certificate_text.specs.Text.{certificate_text}
 use Rattle.certificate_text.specs.Laws.{TextsTell}
-use Rattle.certificate_read.specs.declared.fault.CertFault.{CertFault}
-use Rattle.certificate_read.specs.declared.fault.CertFault.TheVariants.{Cut, BadLine, Bounds, Memory}
-use Rattle.certificate_read.specs.Faults.{HasCertFault}
-use Rattle.certificate_read.proofs.CompleteLemmas.{no_fault}
+use Rattle.certificate_text.specs.declared.read.fault.CertFault.{CertFault}
+use Rattle.certificate_text.specs.declared.read.fault.CertFault.TheVariants.{Cut, BadLine, Bounds, Memory}
+use Rattle.certificate_text.specs.read.Faults.{HasCertFault}
+use Rattle.certificate_text.proofs.ReadCompleteLemmas.{no_fault}
 use Rattle.command_frame.specs.Bytes.{SpellsOne}
 
 module _ (limits : Limits) (inst : Tables) (fit : IsFitting inst) (cert : Certificate) (in_range : IsInRange inst cert)

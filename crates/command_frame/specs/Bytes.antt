@@ -12,8 +12,8 @@ use Rattle.move_script.specs.Spelling.{IsScript}
 use Rattle.move_script.specs.FirstFault.{HasScriptFault}
 use Rattle.move_script.specs.declared.fault.ScriptFault.{ScriptFault}
 use Rattle.certificate_tree.specs.declared.certificate.Certificate.{Certificate}
-use Rattle.certificate_read.specs.declared.fault.CertFault.{CertFault}
-use Rattle.certificate_read.specs.Faults.{IsTextOf, HasCertFault}
+use Rattle.certificate_text.specs.declared.read.fault.CertFault.{CertFault}
+use Rattle.certificate_text.specs.read.Faults.{IsTextOf, HasCertFault}
 use Rattle.command_frame.specs.Ending.{Answer, reply}
 use Rattle.command_frame.specs.Lines.{long_instance_line, instance_fault_line, long_plan_line, plan_fault_line}
 use Rattle.command_frame.specs.Lines.{long_script_line, script_fault_line, long_certificate_line}

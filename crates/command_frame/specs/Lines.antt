@@ -12,8 +12,8 @@ use Rattle.plan_text.specs.declared.fault.PlanFault.{PlanFault}
 use Rattle.plan_text.specs.declared.fault.PlanFault.TheVariants.{BadLine, UnknownName, Twice, Memory}
 use Rattle.move_script.specs.declared.fault.ScriptFault.{ScriptFault}
 use Rattle.move_script.specs.declared.fault.ScriptFault.TheVariants as script
-use Rattle.certificate_read.specs.declared.fault.CertFault.{CertFault}
-use Rattle.certificate_read.specs.declared.fault.CertFault.TheVariants as cert
+use Rattle.certificate_text.specs.declared.read.fault.CertFault.{CertFault}
+use Rattle.certificate_text.specs.declared.read.fault.CertFault.TheVariants as cert
 
 -- the words are not in the grammar
 abbrev pub words_line : List ℕ

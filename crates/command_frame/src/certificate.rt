@@ -4,11 +4,11 @@ ghost use Rattle.plan_desk.specs.Written.{WritesText};
 ghost use Rattle.instance_model.specs.Tables.{Tables};
 ghost use Rattle.certificate_tree.specs.PriceTables.{AreTablesOf};
 ghost use Rattle.certificate_text.specs.Lengths.{counted_length};
-ghost use Rattle.certificate_read.specs.declared.fault.CertFault.{CertFault};
-ghost use Rattle.certificate_read.specs.declared.fault.CertFault.TheVariants.{Memory};
+ghost use Rattle.certificate_text.specs.declared.read.fault.CertFault.{CertFault};
+ghost use Rattle.certificate_text.specs.declared.read.fault.CertFault.TheVariants.{Memory};
 ghost use Rattle.command_frame.specs.Kinds.{CertificateKind, IsLawfulKind};
 
-use certificate_read::{Bound, CertFault, Node, Nodes};
+use certificate_text::{Bound, CertFault, Node, Nodes};
 use instance_model::Instance;
 use lagrange_bound::PriceTable;
 use plan_desk::{Desk, Failed};

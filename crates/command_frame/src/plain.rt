@@ -1,9 +1,9 @@
 //! Certificates of versions 1 and 2, as commands read, check, make and write them.
 use crate::certificate::FileCertificate;
-use certificate_read::{
-    Bound, CertFault, Certificate, Node, Nodes, read_certificate, texts_tell, write_certificate,
+use certificate_text::{
+    Bound, CertFault, Certificate, Node, Nodes, read_certificate, text_length, texts_tell,
+    write_certificate,
 };
-use certificate_text::text_length;
 use certificate_tree::{lists_bound_boxes, tables_of};
 use instance_model::Instance;
 use lagrange_bound::{PriceTable, RiskGoal};

@@ -14,7 +14,7 @@ ghost use Rattle.command_frame.specs.Refusals.{AfterGiven};
 use crate::certificate::FileCertificate;
 use crate::refusal::Refusal;
 use crate::source::Source;
-use certificate_read::CertFault;
+use certificate_text::CertFault;
 use fixed_num::Fixed;
 use instance_model::{Instance, Limits};
 use instance_read::{StreamFault, read_instance_from};

@@ -6,7 +6,7 @@ ghost use Rattle.command_frame.specs.Refusals.{status_of, line_of};
 
 use crate::instance_line::push_instance_fault;
 use crate::text::{Text, push_numbered};
-use certificate_read::CertFault;
+use certificate_text::CertFault;
 use instance_read::InstanceFault;
 use move_script::ScriptFault;
 use plan_text::PlanFault;

@@ -7,7 +7,7 @@ ghost use Rattle.command_frame.specs.Reports.{bound_line, fixed_line, cost_line,
 ghost use Rattle.command_frame.specs.Reports.{bound_or_none_line, gap_line, score_and_gap, gap_text, accepted_text};
 
 use crate::text::Text;
-use certificate_read::Bound;
+use certificate_text::Bound;
 use fixed_num::floor_div;
 use instance_model::Instance;
 use plan_score::{Rule, Values};

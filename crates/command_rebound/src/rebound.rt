@@ -12,7 +12,7 @@ ghost use Rattle.command_rebound.specs.Made.{AreRead, IsMade, TellsNew, TellsReb
 
 use crate::making::{Made, make};
 use band_rebound::ReboundTree;
-use certificate_read::Certificate;
+use certificate_text::Certificate;
 use command_frame::{
     FileCertificate, MEMORY_LINE, Refusal, Source, Text, WRITE_WORDS, certificate_of, instance_of,
     put_certificate, refuse, refuse_long, say, say_numbered,

@@ -3,7 +3,7 @@ ghost use Rattle.std.specs.Prelude.{◌≡◌, ◌++◌, IfOk, OnOk};
 ghost use Rattle.command_rehearse.specs.Rehearsing.{key_line, opening_lines, descent_lines, bound_lines};
 ghost use Rattle.command_rehearse.specs.Rehearsing.{summary_text};
 
-use certificate_read::Bound;
+use certificate_text::Bound;
 use command_frame::{Text, push_bound_or_none, push_numbered, push_rounded};
 use instance_model::Key;
 use std::alloc::{AllocError, Global};

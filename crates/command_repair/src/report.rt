@@ -4,7 +4,7 @@ ghost use Rattle.command_repair.specs.Repairing.{counts_text, nothing_report, no
 ghost use Rattle.command_repair.specs.Made.{repaired_text};
 
 use branch_search::split_count;
-use certificate_read::{Bound, Certificate};
+use certificate_text::{Bound, Certificate};
 use command_answers::push_least;
 use command_frame::{Text, push_numbered, push_rounded};
 use instance_model::Instance;

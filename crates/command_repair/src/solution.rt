@@ -7,8 +7,7 @@ ghost use Rattle.command_repair.specs.Made.{CanReport, IsReportOf, IsSolution};
 
 use crate::report::{none_text, nothing_text, repaired_text};
 use branch_search::empty_certificate;
-use certificate_read::{Bound, Certificate};
-use certificate_text::texts_are_short;
+use certificate_text::{Bound, Certificate, texts_are_short};
 use command_answers::valid_is_audited;
 use command_frame::Report;
 use fewest_changes::{Repair, make_repair, opening_of};

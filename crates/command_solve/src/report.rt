@@ -4,7 +4,7 @@ ghost use Rattle.command_solve.specs.Solving.{counts_text, nothing_report, none_
 ghost use Rattle.command_solve.specs.Made.{values_report};
 
 use branch_search::split_count;
-use certificate_read::Certificate;
+use certificate_text::Certificate;
 use command_frame::{
     Text, push_bound_line, push_gap_line, push_numbered, push_ranges, push_rounded, push_score,
 };

@@ -9,8 +9,7 @@ ghost use Rattle.command_solve.specs.Made.{CanReport, ReportsPlan, IsReportOf, I
 use crate::making::make;
 use crate::report::{found_text, none_text, nothing_text};
 use branch_search::{TreeEnd, empty_certificate};
-use certificate_read::{Bound, Certificate};
-use certificate_text::texts_are_short;
+use certificate_text::{Bound, Certificate, texts_are_short};
 use command_answers::valid_is_accepted;
 use command_frame::Report;
 use instance_model::{Instance, Starts, plan_of};

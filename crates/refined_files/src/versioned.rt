@@ -1,7 +1,7 @@
 //! A certificate of any version, as commands read, check, make and write it.
 ghost use Rattle.std.specs.Prelude.{◌≡◌};
 
-use certificate_read::CertFault;
+use certificate_text::CertFault;
 use certificate_tree::{Bound, Node, Nodes};
 use command_frame::FileCertificate;
 use instance_model::Instance;

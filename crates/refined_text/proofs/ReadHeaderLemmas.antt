@@ -9,11 +9,11 @@ use Rattle.certificate_lines.specs.declared.line.CertificateLine.{CertificateLin
 use Rattle.certificate_lines.specs.declared.line.CertificateLine.TheVariants as line
 use Rattle.certificate_tree.specs.Ranges.{IsBoundInRange}
 use Rattle.certificate_text.specs.Grammar.{bound, count, Stands}
-use Rattle.certificate_read.specs.declared.fault.CertFault.{CertFault}
-use Rattle.certificate_read.specs.declared.refusal.Refusal.{Refusal}
-use Rattle.certificate_read.specs.declared.refusal.Refusal.TheVariants.{Misplaced}
-use Rattle.certificate_read.specs.Lines.{Left}
-use Rattle.certificate_read.specs.Reading.{fault_at, Refuses}
+use Rattle.certificate_text.specs.declared.read.fault.CertFault.{CertFault}
+use Rattle.certificate_text.specs.declared.read.refusal.Refusal.{Refusal}
+use Rattle.certificate_text.specs.declared.read.refusal.Refusal.TheVariants.{Misplaced}
+use Rattle.certificate_text.specs.read.Lines.{Left}
+use Rattle.certificate_text.specs.read.Reading.{fault_at, Refuses}
 use Rattle.refined_text.specs.declared.lines.line.RefinedLine.{RefinedLine}
 use Rattle.refined_text.specs.declared.lines.line.RefinedLine.TheVariants.{Title, Plain}
 use Rattle.refined_text.specs.lines.Spelling.{IsPlain}

@@ -26,7 +26,7 @@ use Rattle.certificate_text.specs.Entries.{IsUpTo}
 use Rattle.certificate_text.proofs.ExLemmas.{all_before}
 use Rattle.certificate_text.proofs.GrowLemmas.{some_each, ex_above}
 use Rattle.certificate_text.proofs.LedLemmas.{one_back, tree_led}
-use Rattle.certificate_read.proofs.CompleteLemmas.{ended}
+use Rattle.certificate_text.proofs.ReadCompleteLemmas.{ended}
 use Rattle.refined_prices.specs.RefinedLists.{RefinedList, IsRefinedList}
 use Rattle.refined_check.specs.declared.certificate.certificate.RefinedCertificate.{RefinedCertificate}
 use Rattle.refined_check.specs.certificate.Orders.{IsInOrder}

@@ -8,10 +8,10 @@ use Rattle.instance_model.specs.Tables.{Tables}
 use Rattle.certificate_lines.specs.declared.line.Version.TheVariants.{Two}
 use Rattle.certificate_lines.specs.declared.line.CertificateLine.TheVariants as line
 use Rattle.certificate_text.specs.Grammar.{lists}
-use Rattle.certificate_read.specs.declared.fault.CertFault.{CertFault}
-use Rattle.certificate_read.specs.declared.refusal.Refusal.TheVariants.{Misplaced}
-use Rattle.certificate_read.specs.Lines.{Left}
-use Rattle.certificate_read.specs.Reading.{fault_at}
+use Rattle.certificate_text.specs.declared.read.fault.CertFault.{CertFault}
+use Rattle.certificate_text.specs.declared.read.refusal.Refusal.TheVariants.{Misplaced}
+use Rattle.certificate_text.specs.read.Lines.{Left}
+use Rattle.certificate_text.specs.read.Reading.{fault_at}
 use Rattle.refined_prices.specs.RefinedLists.{RefinedList, IsRefinedList}
 use Rattle.refined_check.specs.certificate.Orders.{IsInOrder}
 use Rattle.refined_text.specs.declared.lines.line.RefinedLine.{RefinedLine}

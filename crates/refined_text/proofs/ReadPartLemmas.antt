@@ -10,11 +10,11 @@ use Rattle.certificate_lines.specs.declared.line.CertificateLine.{CertificateLin
 use Rattle.certificate_lines.specs.declared.line.CertificateLine.TheVariants as line
 use Rattle.certificate_text.specs.Grammar.{before_entries}
 use Rattle.certificate_text.proofs.GrowLemmas.{zero_has_none, zero_up_to}
-use Rattle.certificate_read.specs.declared.fault.CertFault.{CertFault}
-use Rattle.certificate_read.specs.declared.refusal.Refusal.{Refusal}
-use Rattle.certificate_read.specs.declared.refusal.Refusal.TheVariants.{Misplaced, OutOfRange}
-use Rattle.certificate_read.specs.Lines.{Left}
-use Rattle.certificate_read.specs.Reading.{fault_at}
+use Rattle.certificate_text.specs.declared.read.fault.CertFault.{CertFault}
+use Rattle.certificate_text.specs.declared.read.refusal.Refusal.{Refusal}
+use Rattle.certificate_text.specs.declared.read.refusal.Refusal.TheVariants.{Misplaced, OutOfRange}
+use Rattle.certificate_text.specs.read.Lines.{Left}
+use Rattle.certificate_text.specs.read.Reading.{fault_at}
 use Rattle.refined_prices.specs.declared.group_tail.GroupTail.{GroupTail}
 use Rattle.refined_text.specs.declared.lines.line.RefinedLine.{RefinedLine}
 use Rattle.refined_text.specs.declared.lines.line.RefinedLine.TheVariants.{Plain}

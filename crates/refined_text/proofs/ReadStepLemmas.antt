@@ -3,12 +3,12 @@ use Rattle.std.proofs.Common.{◌≡◌, ℕ, ◌+◌, ◌<◌, inl, inr, refl, 
 use Rattle.std.proofs.Common.{append_assoc, length-append}
 use Rattle.std.proofs.lemmas.List.Elements.{All-append, All-nil, All-cons}
 use Rattle.instance_model.specs.Tables.{Tables}
-use Rattle.certificate_read.specs.declared.fault.CertFault.{CertFault}
-use Rattle.certificate_read.specs.declared.fault.CertFault.TheVariants.{Cut, BadLine, Bounds, Memory}
-use Rattle.certificate_read.specs.declared.refusal.Refusal.{Refusal}
-use Rattle.certificate_read.specs.declared.refusal.Refusal.TheVariants.{Misplaced, OutOfRange}
-use Rattle.certificate_read.specs.Lines.{Left}
-use Rattle.certificate_read.specs.Reading.{fault_at}
+use Rattle.certificate_text.specs.declared.read.fault.CertFault.{CertFault}
+use Rattle.certificate_text.specs.declared.read.fault.CertFault.TheVariants.{Cut, BadLine, Bounds, Memory}
+use Rattle.certificate_text.specs.declared.read.refusal.Refusal.{Refusal}
+use Rattle.certificate_text.specs.declared.read.refusal.Refusal.TheVariants.{Misplaced, OutOfRange}
+use Rattle.certificate_text.specs.read.Lines.{Left}
+use Rattle.certificate_text.specs.read.Reading.{fault_at}
 use Rattle.refined_text.specs.declared.lines.line.RefinedLine.{RefinedLine}
 use Rattle.refined_text.specs.lines.Spelling.{refined_spelling, IsRefinedLine}
 use Rattle.refined_text.proofs.LinesLawLemmas.{one_refined, no_feed}

@@ -12,11 +12,11 @@ use Rattle.certificate_lines.specs.declared.line.CertificateLine.TheVariants as 
 use Rattle.certificate_text.specs.Text.{entry_lines}
 use Rattle.certificate_text.specs.Grammar.{EntryKey}
 use Rattle.certificate_text.specs.Laws.{Grows}
-use Rattle.certificate_read.specs.declared.refusal.Refusal.{Refusal}
-use Rattle.certificate_read.specs.declared.refusal.Refusal.TheVariants.{Misplaced}
-use Rattle.certificate_read.specs.Reading.{IsMark, IsEntry, SetsEntry}
-use Rattle.certificate_read.proofs.EntryLemmas.{stands_entry, after_entry, fits_entry, no_entry}
-use Rattle.certificate_read.proofs.EntryLemmas.{set_grows}
+use Rattle.certificate_text.specs.declared.read.refusal.Refusal.{Refusal}
+use Rattle.certificate_text.specs.declared.read.refusal.Refusal.TheVariants.{Misplaced}
+use Rattle.certificate_text.specs.read.Reading.{IsMark, IsEntry, SetsEntry}
+use Rattle.certificate_text.proofs.ReadEntryLemmas.{stands_entry, after_entry, fits_entry, no_entry}
+use Rattle.certificate_text.proofs.ReadEntryLemmas.{set_grows}
 use Rattle.refined_text.specs.declared.lines.members.LineMember.{LineMember}
 use Rattle.refined_text.specs.declared.lines.line.RefinedLine.{RefinedLine}
 use Rattle.refined_text.specs.declared.lines.line.RefinedLine.TheVariants.{Plain, Cap, Group}

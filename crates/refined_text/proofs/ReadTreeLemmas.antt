@@ -13,15 +13,15 @@ use Rattle.certificate_tree.specs.declared.node.Node.TheVariants as node
 use Rattle.certificate_tree.specs.Trees.{below, above, root_box}
 use Rattle.certificate_text.specs.Text.{node_line, text_of_lines, line_text}
 use Rattle.certificate_text.specs.Grammar.{Place, nodes, Stands, Leads}
-use Rattle.certificate_read.specs.declared.fault.CertFault.{CertFault}
-use Rattle.certificate_read.specs.declared.fault.CertFault.TheVariants.{Cut, BadLine, Bounds, Memory}
-use Rattle.certificate_read.specs.declared.refusal.Refusal.{Refusal}
-use Rattle.certificate_read.specs.declared.refusal.Refusal.TheVariants.{Misplaced, OutOfRange}
-use Rattle.certificate_read.specs.Faults.{IsBadLine, IsPastEnd, HasLineFault}
-use Rattle.certificate_read.specs.Lines.{Left}
-use Rattle.certificate_read.specs.Reading.{Passes, Fails, Refuses, IsMore}
-use Rattle.certificate_read.proofs.CompleteLemmas.{ended}
-use Rattle.certificate_read.proofs.TreeLemmas.{tree_of}
+use Rattle.certificate_text.specs.declared.read.fault.CertFault.{CertFault}
+use Rattle.certificate_text.specs.declared.read.fault.CertFault.TheVariants.{Cut, BadLine, Bounds, Memory}
+use Rattle.certificate_text.specs.declared.read.refusal.Refusal.{Refusal}
+use Rattle.certificate_text.specs.declared.read.refusal.Refusal.TheVariants.{Misplaced, OutOfRange}
+use Rattle.certificate_text.specs.read.Faults.{IsBadLine, IsPastEnd, HasLineFault}
+use Rattle.certificate_text.specs.read.Lines.{Left}
+use Rattle.certificate_text.specs.read.Reading.{Passes, Fails, Refuses, IsMore}
+use Rattle.certificate_text.proofs.ReadCompleteLemmas.{ended}
+use Rattle.certificate_text.proofs.ReadTreeLemmas.{tree_of}
 use Rattle.refined_text.specs.declared.lines.line.RefinedLine.{RefinedLine}
 use Rattle.refined_text.specs.declared.lines.line.RefinedLine.TheVariants.{Title, Plain, Cap, Group, Offset, Clique}
 use Rattle.refined_text.specs.lines.Spelling.{refined_spelling, IsPlain, IsRefinedLine}

@@ -12,8 +12,8 @@ use Rattle.certificate_tree.specs.Trees.{root_box}
 use Rattle.certificate_tree.specs.Ranges.{IsBoundInRange}
 use Rattle.certificate_text.specs.Text.{node_line}
 use Rattle.certificate_text.specs.Grammar.{bound, count, nodes}
-use Rattle.certificate_read.specs.declared.fault.CertFault.{CertFault}
-use Rattle.certificate_read.specs.Lines.{Left}
+use Rattle.certificate_text.specs.declared.read.fault.CertFault.{CertFault}
+use Rattle.certificate_text.specs.read.Lines.{Left}
 use Rattle.refined_prices.specs.RefinedLists.{RefinedList}
 use Rattle.refined_check.specs.declared.certificate.certificate.RefinedCertificate.{RefinedCertificate}
 use Rattle.refined_text.specs.declared.lines.line.RefinedLine.{RefinedLine}

@@ -9,11 +9,11 @@ use Rattle.certificate_lines.specs.declared.line.CertificateLine.TheVariants.{Ti
 use Rattle.certificate_tree.specs.declared.certificate.Certificate.{Certificate}
 use Rattle.certificate_text.specs.Text.{line_text, certificate_text}
 use Rattle.certificate_text.specs.Laws.{TextsTell}
-use Rattle.certificate_read.specs.declared.fault.CertFault.{CertFault}
-use Rattle.certificate_read.specs.declared.fault.CertFault.TheVariants.{Cut, BadLine, Bounds, Memory}
-use Rattle.certificate_read.specs.Faults.{HasCertFault, IsTextOf}
-use Rattle.certificate_read.specs.Laws.{TextsAreTold}
-use Rattle.certificate_read.proofs.CompleteLemmas.{no_fault}
+use Rattle.certificate_text.specs.declared.read.fault.CertFault.{CertFault}
+use Rattle.certificate_text.specs.declared.read.fault.CertFault.TheVariants.{Cut, BadLine, Bounds, Memory}
+use Rattle.certificate_text.specs.read.Faults.{HasCertFault, IsTextOf}
+use Rattle.certificate_text.specs.read.Laws.{TextsAreTold}
+use Rattle.certificate_text.proofs.ReadCompleteLemmas.{no_fault}
 use Rattle.refined_check.specs.declared.certificate.certificate.RefinedCertificate.{RefinedCertificate}
 use Rattle.refined_check.specs.certificate.Ranges.{IsRefinedInRange}
 use Rattle.refined_text.specs.text.Text.{refined_text}

@@ -12,7 +12,7 @@ mod read;
 mod text;
 mod versions;
 
-pub use certificate_read::CertFault;
+pub use certificate_text::CertFault;
 pub use grammar::{refined_entries_grow, refined_texts_lead, refined_texts_tell};
 pub use lines::{
     LineMember, Members, RefinedLine, refined_line_of, refined_lines_are_spelled_one_way,

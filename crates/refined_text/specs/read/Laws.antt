@@ -1,7 +1,7 @@
 -- Laws of texts.
 use Rattle.std.specs.Prelude.{ℕ, List}
 use Rattle.instance_model.specs.Tables.{Tables}
-use Rattle.certificate_read.specs.declared.fault.CertFault.{CertFault}
+use Rattle.certificate_text.specs.declared.read.fault.CertFault.{CertFault}
 use Rattle.refined_check.specs.declared.certificate.certificate.RefinedCertificate.{RefinedCertificate}
 use Rattle.refined_text.specs.read.Faults.{HasRefinedCertFault, IsRefinedTextOf}
 

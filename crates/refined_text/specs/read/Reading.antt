@@ -10,9 +10,9 @@ use Rattle.certificate_tree.specs.Trees.{Tree, root_box}
 use Rattle.certificate_tree.specs.Ranges.{AreNodesOf}
 use Rattle.certificate_text.specs.Text.{node_line}
 use Rattle.certificate_text.specs.Grammar.{lists, nodes}
-use Rattle.certificate_read.specs.declared.fault.CertFault.{CertFault}
-use Rattle.certificate_read.specs.declared.fault.CertFault.TheVariants.{Cut, BadLine, Bounds, Memory}
-use Rattle.certificate_read.specs.Lines.{Left}
+use Rattle.certificate_text.specs.declared.read.fault.CertFault.{CertFault}
+use Rattle.certificate_text.specs.declared.read.fault.CertFault.TheVariants.{Cut, BadLine, Bounds, Memory}
+use Rattle.certificate_text.specs.read.Lines.{Left}
 use Rattle.refined_prices.specs.RefinedLists.{RefinedList, IsRefinedList}
 use Rattle.refined_check.specs.declared.certificate.certificate.RefinedCertificate.{RefinedCertificate}
 use Rattle.refined_check.specs.certificate.Orders.{IsInOrder}

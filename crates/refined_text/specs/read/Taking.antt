@@ -8,9 +8,9 @@ use Rattle.certificate_lines.specs.declared.line.Version.TheVariants.{Two}
 use Rattle.certificate_lines.specs.declared.line.CertificateLine.{CertificateLine}
 use Rattle.certificate_text.specs.Grammar.{KeyBelow}
 use Rattle.certificate_text.specs.Grammar as place
-use Rattle.certificate_read.specs.declared.refusal.Refusal.{Refusal}
-use Rattle.certificate_read.specs.declared.refusal.Refusal.TheVariants.{Misplaced, OutOfRange}
-use Rattle.certificate_read.specs.Reading.{IsMark, IsEntry, EntryFits, SetsEntry}
+use Rattle.certificate_text.specs.declared.read.refusal.Refusal.{Refusal}
+use Rattle.certificate_text.specs.declared.read.refusal.Refusal.TheVariants.{Misplaced, OutOfRange}
+use Rattle.certificate_text.specs.read.Reading.{IsMark, IsEntry, EntryFits, SetsEntry}
 use Rattle.refined_prices.specs.declared.member.Member.{Member}
 use Rattle.refined_prices.specs.declared.group_tail.GroupTail.{GroupTail}
 use Rattle.refined_prices.specs.Groups.{IsGroup, AreDisjoint}

@@ -4,8 +4,8 @@ use Rattle.std.specs.Prelude.{◌≡◌, ℕ, Bool, ◌==◌, List, MatchBool, c
 use Rattle.std.specs.List.{starts_with}
 use Rattle.instance_model.specs.Tables.{Tables}
 use Rattle.certificate_tree.specs.declared.certificate.Certificate.{Certificate}
-use Rattle.certificate_read.specs.declared.fault.CertFault.{CertFault}
-use Rattle.certificate_read.specs.Faults.{HasCertFault, IsTextOf}
+use Rattle.certificate_text.specs.declared.read.fault.CertFault.{CertFault}
+use Rattle.certificate_text.specs.read.Faults.{HasCertFault, IsTextOf}
 use Rattle.refined_check.specs.declared.certificate.certificate.RefinedCertificate.{RefinedCertificate}
 use Rattle.refined_text.specs.read.Faults.{HasRefinedCertFault, IsRefinedTextOf}
 use Rattle.refined_text.specs.versions.Versions.{refined_certificate_of}

@@ -6,8 +6,8 @@ use Rattle.lagrange_bound.specs.Goals.{risk_base, risk_value}
 use Rattle.certificate_tree.specs.declared.certificate.Certificate.{Certificate}
 use Rattle.certificate_tree.specs.Ranges.{IsInRange}
 use Rattle.certificate_tree.specs.Validity.{IsValid, IsFirstFailing}
-use Rattle.certificate_read.specs.declared.fault.CertFault.{CertFault}
-use Rattle.certificate_read.specs.Faults.{IsTextOf}
+use Rattle.certificate_text.specs.declared.read.fault.CertFault.{CertFault}
+use Rattle.certificate_text.specs.read.Faults.{IsTextOf}
 use Rattle.refined_check.specs.declared.certificate.certificate.RefinedCertificate.{RefinedCertificate}
 use Rattle.refined_check.specs.certificate.Ranges.{IsRefinedInRange}
 use Rattle.refined_check.specs.Validity.{IsRefinedValid, IsRefinedFirstFailing}

@@ -6,7 +6,7 @@ ghost use Rattle.refined_prices.specs.Cliques.{CliqueBefore};
 ghost use Rattle.refined_text.specs.grammar.Further.{clique_of_line, CliqueBelow};
 ghost use Rattle.refined_text.specs.read.Taking.{AreNamed, IsSomeClique};
 
-use certificate_read::counts_to;
+use certificate_text::counts_to;
 use instance_model::Instance;
 use lagrange_bound::Places;
 use refined_prices::{Clique, is_priced_clique};

@@ -14,7 +14,7 @@ ghost use Rattle.refined_text.specs.read.Reading.{RefinedPasses, RefinedFails, l
 use crate::lines::RefinedLine;
 use crate::read::lines::LinesLeft;
 use certificate_lines::{Bound, Version};
-use certificate_read::{CertFault, Refusal, bound_of, count_of};
+use certificate_text::{CertFault, Refusal, bound_of, count_of};
 use std::alloc::Global;
 
 /// Reads the title.

@@ -1,10 +1,10 @@
 //! The lines of a text, one after another.
 ghost use Rattle.std.specs.Prelude.{◌≡◌, IfOk, IfErr};
-ghost use Rattle.certificate_read.specs.Reading.{fault_at};
+ghost use Rattle.certificate_text.specs.read.Reading.{fault_at};
 ghost use Rattle.refined_text.specs.read.Reading.{ReadsRefined, IsNoRefined};
 
 use crate::lines::{RefinedLine, refined_line_of};
-use certificate_read::{CertFault, Lines, Refusal};
+use certificate_text::{CertFault, Lines, Refusal};
 use std::alloc::Global;
 use std::marker::Model;
 use text_lines::split_feed;
@@ -18,7 +18,7 @@ pub struct LinesLeft<'a> {
 
 impl<'a> Model for LinesLeft<'a> {
     ghost use Rattle.std.specs.Prelude.{◌+◌, ◌<◌, ◌^◌, length};
-    ghost use Rattle.certificate_read.specs.Lines.{Left};
+    ghost use Rattle.certificate_text.specs.read.Lines.{Left};
 
     ghost Value = { Left };
 

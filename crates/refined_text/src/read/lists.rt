@@ -9,7 +9,7 @@ use crate::lines::RefinedLine;
 use crate::read::lines::LinesLeft;
 use crate::read::marks::{is_mark, is_mark_for};
 use crate::read::part::PartList;
-use certificate_read::{CertFault, Refusal};
+use certificate_text::{CertFault, Refusal};
 use instance_model::Instance;
 use refined_check::RefinedLists;
 use refined_prices::RefinedPrices;

@@ -3,7 +3,7 @@ ghost use Rattle.std.specs.Prelude.{◌≡◌, ℕ, ◌-◌, ◌≤◌, ◌↔�
 ghost use Rattle.refined_prices.specs.Offsets.{group_tail_at, group_count, IsOffset, OffsetBefore};
 ghost use Rattle.refined_text.specs.grammar.Further.{offset_of_line, OffsetBelow};
 
-use certificate_read::counts_to;
+use certificate_text::counts_to;
 use instance_model::Instance;
 use refined_prices::{GroupTail, Offset, groups_at};
 

@@ -2,7 +2,7 @@
 ghost use Rattle.std.specs.Prelude.{◌≡◌, ◌↔◌, ℕ, ◌<◌, ◌≤◌, ⊤, length, IsTrue, IfOk, IfSome, IfNone, OnOk};
 ghost use Rattle.std.specs.Prelude.{AllPairs, option_map, replicate, None};
 ghost use Rattle.certificate_text.specs.Grammar.{KeyBelow};
-ghost use Rattle.certificate_read.specs.Reading.{IsMark, key_view};
+ghost use Rattle.certificate_text.specs.read.Reading.{IsMark, key_view};
 ghost use Rattle.refined_prices.specs.Offsets.{group_tail_at, OffsetBefore};
 ghost use Rattle.refined_text.specs.lines.Spelling.{IsPlain, IsRefinedLine};
 ghost use Rattle.refined_text.specs.declared.lines.line.RefinedLine.TheVariants as refined;
@@ -21,7 +21,7 @@ use crate::read::groups::{fits_beside, follows_groups, grown_tail, members_in};
 use crate::read::kind::EntryKind;
 use crate::read::offsets::{follows_offsets, offset_in};
 use certificate_lines::{CertificateLine, Version};
-use certificate_read::{EntryKey, Refusal, counts_to, key_of, set_entry};
+use certificate_text::{EntryKey, Refusal, counts_to, key_of, set_entry};
 use instance_model::Instance;
 use lagrange_bound::Prices;
 use refined_prices::{Clique, Group, GroupTail, Offset, RefinedPrices};
@@ -47,7 +47,7 @@ pub struct PartList {
 }
 
 impl Model for PartList {
-    ghost use Rattle.certificate_read.specs.Reading.{key_view};
+    ghost use Rattle.certificate_text.specs.read.Reading.{key_view};
     ghost use Rattle.refined_text.specs.read.Parts.{Part, kind_number};
 
     ghost Value = { Part };

@@ -1,7 +1,7 @@
 //! A certificate by refined price lists is read from its text.
 ghost use Rattle.std.specs.Prelude.{◌≡◌, ◌≢◌, ◌⊎◌, Ok, Err, IfOk, IfErr};
-ghost use Rattle.certificate_read.specs.declared.fault.CertFault.{CertFault};
-ghost use Rattle.certificate_read.specs.declared.fault.CertFault.TheVariants.{Memory};
+ghost use Rattle.certificate_text.specs.declared.read.fault.CertFault.{CertFault};
+ghost use Rattle.certificate_text.specs.declared.read.fault.CertFault.TheVariants.{Memory};
 ghost use Rattle.refined_check.specs.declared.certificate.certificate.RefinedCertificate.{RefinedCertificate};
 ghost use Rattle.refined_text.specs.grammar.Grammar.{start};
 ghost use Rattle.refined_text.specs.read.Faults.{HasRefinedFault, HasRefinedCertFault, IsRefinedTextOf};
@@ -12,7 +12,7 @@ use crate::read::header::{read_bound, read_count, read_title};
 use crate::read::lines::LinesLeft;
 use crate::read::lists::read_lists;
 use crate::read::tree::read_tree;
-use certificate_read::CertFault;
+use certificate_text::CertFault;
 use instance_model::Instance;
 use refined_check::RefinedCertificate;
 use std::alloc::Global;

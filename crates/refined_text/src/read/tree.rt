@@ -7,7 +7,7 @@ ghost use Rattle.refined_text.specs.grammar.Grammar.{within};
 ghost use Rattle.refined_text.specs.read.Reading.{RefinedFails, ReadsTree};
 
 use crate::read::lines::LinesLeft;
-use certificate_read::{CertFault, read_nodes};
+use certificate_text::{CertFault, read_nodes};
 use certificate_tree::Nodes;
 use instance_model::Instance;
 use std::alloc::Global;

@@ -5,7 +5,7 @@ ghost use Rattle.refined_text.specs.versions.Laws.{AnyTextsAreTold};
 
 use crate::grammar::refined_texts_tell;
 use crate::read::refined_texts_are_told;
-use certificate_read::{texts_are_told, texts_tell};
+use certificate_text::{texts_are_told, texts_tell};
 use certificate_tree::same_worths_prove_the_same;
 use refined_check::price_lists_are_refined;
 

@@ -1,8 +1,8 @@
 //! A certificate of any version is read from its text, as one by refined price lists.
 ghost use Rattle.std.specs.Prelude.{◌≡◌, ◌≢◌, ◌⊎◌, Ok, Err, IfOk};
-ghost use Rattle.certificate_read.specs.declared.fault.CertFault.{CertFault};
-ghost use Rattle.certificate_read.specs.declared.fault.CertFault.TheVariants.{Memory};
-ghost use Rattle.certificate_read.specs.Faults.{HasCertFault};
+ghost use Rattle.certificate_text.specs.declared.read.fault.CertFault.{CertFault};
+ghost use Rattle.certificate_text.specs.declared.read.fault.CertFault.TheVariants.{Memory};
+ghost use Rattle.certificate_text.specs.read.Faults.{HasCertFault};
 ghost use Rattle.refined_check.specs.declared.certificate.certificate.RefinedCertificate.{RefinedCertificate};
 ghost use Rattle.refined_check.specs.certificate.Ranges.{IsRefinedInRange};
 ghost use Rattle.refined_text.specs.versions.AnyTexts.{begins_refined, IsOlderText, IsAnyText, HasAnyFault};
@@ -10,7 +10,7 @@ ghost use Rattle.refined_text.specs.versions.AnyTexts.{begins_refined, IsOlderTe
 use crate::read::read_refined_certificate;
 use crate::versions::certificate::refined_certificate;
 use crate::versions::laws::any_texts_tell;
-use certificate_read::{CertFault, read_certificate};
+use certificate_text::{CertFault, read_certificate};
 use instance_model::Instance;
 use refined_check::RefinedCertificate;
 use std::alloc::Global;

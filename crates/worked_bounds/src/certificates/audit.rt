@@ -4,14 +4,14 @@ ghost use Rattle.std.specs.Prelude.{◌≡◌, ◌⊎◌, ℕ, Ok, Err, IfOk};
 ghost use Rattle.lagrange_bound.specs.Goals.{risk_base, risk_value};
 ghost use Rattle.certificate_tree.specs.declared.certificate.Certificate.{Certificate};
 ghost use Rattle.certificate_tree.specs.Validity.{IsValid, IsFirstFailing};
-ghost use Rattle.certificate_read.specs.declared.fault.CertFault.{CertFault};
-ghost use Rattle.certificate_read.specs.declared.fault.CertFault.TheVariants.{Memory};
-ghost use Rattle.certificate_read.specs.Faults.{HasCertFault, IsTextOf};
+ghost use Rattle.certificate_text.specs.declared.read.fault.CertFault.{CertFault};
+ghost use Rattle.certificate_text.specs.declared.read.fault.CertFault.TheVariants.{Memory};
+ghost use Rattle.certificate_text.specs.read.Faults.{HasCertFault, IsTextOf};
 ghost use Rattle.worked_bounds.specs.declared.certificates.audit.Audit.TheVariants.{Proved, LeafFails};
 ghost use Rattle.worked_bounds.specs.Audited.{BoundsKeptPlans, IfProved};
 
 use certificate_check::{CertVerdict, check};
-use certificate_read::{Bound, CertFault, read_certificate};
+use certificate_text::{Bound, CertFault, read_certificate};
 use instance_model::Instance;
 use std::alloc::Global;
 

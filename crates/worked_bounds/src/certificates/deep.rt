@@ -3,7 +3,7 @@
 
 use crate::Audit;
 use crate::certificates::given::audited;
-use certificate_read::Bound;
+use certificate_text::Bound;
 use std::alloc::{AllocError, Global};
 use std::process::Abort;
 use std::test::Fail;

@@ -7,7 +7,7 @@ use crate::certificates::deep::{STARTS, audit_bound, certificate_text, due, is_d
 use crate::certificates::given::{fails_at, is_proved};
 use crate::certificates::written::is_rewritten;
 use crate::{Audit, audit_text};
-use certificate_read::Bound;
+use certificate_text::Bound;
 use duration_calendar::{in_run, run};
 use fixed_num::Steps;
 use instance_gen::{drawn_instance, generate};

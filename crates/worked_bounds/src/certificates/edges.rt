@@ -6,7 +6,7 @@
 use crate::Audit;
 use crate::certificates::given::{apart, audited, fails_at, is_proved};
 use crate::samples::{floor, skewed};
-use certificate_read::Bound;
+use certificate_text::Bound;
 use std::alloc::{AllocError, Global};
 use std::process::Abort;
 use std::test::Fail;

@@ -2,7 +2,7 @@
 
 use crate::samples::instance;
 use crate::{Audit, audit_text};
-use certificate_read::{Bound, CertFault};
+use certificate_text::{Bound, CertFault};
 use instance_read::InstanceFault;
 use std::alloc::Global;
 use std::process::Abort;

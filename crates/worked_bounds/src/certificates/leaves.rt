@@ -4,7 +4,7 @@ use crate::Audit;
 use crate::certificates::edges::audit_bound;
 use crate::certificates::given::{apart, audited, fails_at, is_proved};
 use crate::samples::floor;
-use certificate_read::Bound;
+use certificate_text::Bound;
 use std::alloc::Global;
 use std::process::Abort;
 use std::test::Fail;

@@ -2,7 +2,7 @@
 
 use crate::Audit;
 use crate::certificates::given::{apart, audited, fails_at, is_proved};
-use certificate_read::{Bound, CertFault};
+use certificate_text::{Bound, CertFault};
 use std::alloc::{AllocError, Global};
 use std::process::Abort;
 use std::test::Fail;

@@ -5,7 +5,7 @@ ghost use Rattle.certificate_tree.specs.Ranges.{IsInRange};
 use crate::certificates::given::apart;
 use crate::certificates::texts::whole;
 use crate::samples::instance;
-use certificate_read::{Certificate, read_certificate, write_certificate};
+use certificate_text::{Certificate, read_certificate, write_certificate};
 use instance_model::Instance;
 use plan_desk::{Desk, DeskCall, Failed, MemDesk};
 use std::alloc::Global;

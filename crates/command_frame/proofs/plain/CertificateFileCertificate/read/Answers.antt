@@ -1,6 +1,6 @@
 use Rattle.std.proofs.lemmas.Result.{IfOk-weaker}
 use Rattle.certificate_tree.specs.Ranges.{IsInRange}
-use Rattle.certificate_read.specs.Faults.{IsTextOf}
+use Rattle.certificate_text.specs.read.Faults.{IsTextOf}
 use Rattle.command_frame.proofs.plain.CertificateFileCertificate.read.Goals as goal
 
 pub returns-clause-in_range : goal.returns-clause-in_range

@@ -1,6 +1,6 @@
 use Rattle.std.proofs.Common.{◌≡◌}
 use Rattle.std.proofs.lemmas.Result.{err_from_is_err_and}
-use Rattle.certificate_read.proofs.EntryLemmas.{not_told, below_told}
+use Rattle.certificate_text.proofs.ReadEntryLemmas.{not_told, below_told}
 use Rattle.refined_text.specs.declared.lines.line.RefinedLine.TheVariants as refined
 use Rattle.refined_text.specs.grammar.Grammar.{start}
 use Rattle.refined_text.proofs.ReadStepLemmas.{fails_no_line}

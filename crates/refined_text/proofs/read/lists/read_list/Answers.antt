@@ -1,5 +1,5 @@
 use Rattle.std.proofs.Common.{◌≡◌}
-use Rattle.certificate_read.proofs.EntryLemmas.{not_told, below_told}
+use Rattle.certificate_text.proofs.ReadEntryLemmas.{not_told, below_told}
 use Rattle.refined_text.specs.grammar.Further.{HasEnough}
 use Rattle.refined_text.specs.read.Reading.{mark_line}
 use Rattle.refined_text.proofs.ReadPartLemmas.{rest_read, rest_misplaced, rest_unfit}

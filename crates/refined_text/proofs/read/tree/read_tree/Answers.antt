@@ -2,7 +2,7 @@ use Rattle.std.proofs.Common.{[], ◌∷◌, subst}
 use Rattle.std.proofs.lemmas.Result.{err_from_is_err_and}
 use Rattle.certificate_tree.specs.Trees.{root_box}
 use Rattle.certificate_text.specs.Grammar as place
-use Rattle.certificate_read.specs.Lines.{Left}
+use Rattle.certificate_text.specs.read.Lines.{Left}
 use Rattle.refined_text.specs.grammar.Further.{no_further}
 use Rattle.refined_text.specs.grammar.Grammar.{within}
 use Rattle.refined_text.specs.read.Reading.{RefinedFails}

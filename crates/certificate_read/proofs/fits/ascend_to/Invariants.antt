@@ -1,5 +1,0 @@
-use Rattle.certificate_read.proofs.FitLemmas.{AscendSoFar}
-use Rattle.certificate_read.proofs.fits.ascend_to.Given as goal
-
-abbrev pub invariant-loop-place : goal.invariant-loop-place
-invariant-loop-place l = AscendSoFar l.most l.places l.place-index l.last

@@ -1,7 +1,0 @@
-use Rattle.certificate_text.specs.Grammar as place
-use Rattle.certificate_read.proofs.StepLemmas.{fails_told}
-use Rattle.certificate_read.proofs.header.read_count.Goals as goal
-
-pub returns-clause-err : goal.returns-clause-err
-returns-clause-err c = λ inst. fails_told inst (place.count c.args.version) c.args.lines.now _ c.in_ok-line.line
-    c.in-Err.refusal _ c.fault.ensures (λ z. z) c.in_ok-line.ensures.ok (c.in-Err.ensures.err inst)
