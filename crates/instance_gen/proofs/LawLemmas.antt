@@ -17,10 +17,10 @@ use Rattle.instance_model.specs.Tables.{Tables, is_allowed, in_run, is_cell_of}
 use Rattle.instance_model.specs.Fitting.{IsFitting}
 use Rattle.instance_model.proofs.EntryLemmas.{IsRunning-from}
 use Rattle.instance_shape.specs.Defined.{Defines}
-use Rattle.instance_text.specs.Conditions.{HasSpellableNames, IsUnrounded, IsWithin, SpellsCount, SpellsNumbers}
-use Rattle.instance_text.specs.Conditions.{widened}
-use Rattle.instance_text.specs.Styles.{Style}
-use Rattle.instance_text.specs.Written.{instance_text}
+use Rattle.instance_writer.specs.text.Conditions.{HasSpellableNames, IsUnrounded, IsWithin, SpellsCount, SpellsNumbers}
+use Rattle.instance_writer.specs.text.Conditions.{widened}
+use Rattle.instance_writer.specs.text.Styles.{Style}
+use Rattle.instance_writer.specs.text.Written.{instance_text}
 use Rattle.instance_writer.specs.Views.{HasEachCell}
 use Rattle.instance_gen.specs.Drawing.{interventions_of, with_starts, Runs}
 use Rattle.instance_gen.specs.Drawn.{drawn_tables, level_limits, numbered_names}

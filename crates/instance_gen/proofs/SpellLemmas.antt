@@ -11,8 +11,8 @@ use Rattle.decimal_numbers.specs.Decimal.{number, numerator, denominator, signed
 use Rattle.decimal_numbers.specs.Exact.{nearest, fixed, fixed_parts, fixed_size, millionths, exactly}
 use Rattle.decimal_numbers.proofs.ExactLaws.{nearest_is}
 use Rattle.decimal_numbers.proofs.Tallying.{exact_rounds}
-use Rattle.instance_text.specs.Conditions.{SpellsCount, SpellsPart}
-use Rattle.instance_text.proofs.Tokens.{decimal_is}
+use Rattle.instance_writer.specs.text.Conditions.{SpellsCount, SpellsPart}
+use Rattle.instance_writer.proofs.TextTokens.{decimal_is}
 use Rattle.instance_gen.specs.Drawing.{whole}
 use Rattle.instance_gen.specs.Texts.{plain_numbers, whole_text}
 use Rattle.instance_gen.proofs.RunLemmas.{IsSmallWhole}

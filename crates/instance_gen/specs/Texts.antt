@@ -1,7 +1,7 @@
 -- Defines the text of a drawn instance, and how its numbers are spelled.
 use Rattle.std.specs.Prelude.{ℕ, ◌/◌, ◌%◌, ◌^◌, ◌==◌, ℤ, List, ◌++◌, codes, cond, decimal, unsigned_abs}
-use Rattle.instance_text.specs.Styles.{Style}
-use Rattle.instance_text.specs.Written.{instance_text}
+use Rattle.instance_writer.specs.text.Styles.{Style}
+use Rattle.instance_writer.specs.text.Written.{instance_text}
 use Rattle.instance_gen.specs.Drawn.{drawn_tables}
 
 -- a count that is a whole number of units: this number

@@ -7,7 +7,7 @@ ghost use Rattle.instance_shape.specs.Defined.{Defines};
 ghost use Rattle.instance_gen.specs.Drawn.{drawn_tables};
 ghost use Rattle.instance_gen.specs.Texts.{drawn_text};
 
-use instance_text::texts_are_read;
+use instance_writer::texts_are_read;
 
 /// The text of a drawn instance is read, without slack and within the standard limits, as this instance.
 pub fn drawn_texts_are_read()

@@ -2,8 +2,8 @@
 use Rattle.std.specs.Prelude.{ℕ, ◌+◌, ℤ, pos, List, [], ◌∷◌, Option, cond, decimal, map, slice_index_or}
 use Rattle.json_laws.specs.Value.{Value, Field}
 use Rattle.instance_model.specs.Tables.{Tables, upper_of, lower_of, in_season_of, delta_of, scenarios_of}
-use Rattle.instance_text.specs.Styles.{Style}
-use Rattle.instance_text.specs.Written.{whole_number, count_number, optional}
+use Rattle.instance_writer.specs.text.Styles.{Style}
+use Rattle.instance_writer.specs.text.Written.{whole_number, count_number, optional}
 
 -- the field under the k-th name, or under the number k + 1, where there is one
 abbrev pub named_item : List (List ℕ) → (ℕ → Option Value) → ℕ → List Field

@@ -1,3 +1,24 @@
+pub mod TextListed
+pub mod TextCells
+pub mod TextTokens
+pub mod TextDigits
+pub mod TextPlacing
+pub mod TextFine
+pub mod TextKeys
+pub mod TextLeaves
+pub mod TextParts
+pub mod TextWhole
+pub mod TextTabled
+pub mod TextRead
+pub mod TextRows
+pub mod TextLooked
+pub mod TextFields
+pub mod TextCrossing
+pub mod TextNumbers
+pub mod TextCounted
+pub mod TextLaw
+pub mod TextNameTexts
+mod TextExamples
 pub mod TextLemmas
 pub mod LoopLemmas
 pub mod Items

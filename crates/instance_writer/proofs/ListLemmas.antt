@@ -9,8 +9,8 @@ use Rattle.fixed_num.proofs.SumLemmas.{list_of_more}
 use Rattle.json_laws.specs.Value.{Value}
 use Rattle.instance_model.specs.Tables.{Tables, tmax, durations, delta_of, scenarios_of}
 use Rattle.instance_shape.specs.FileTables.{lists_below}
-use Rattle.instance_text.specs.Styles.{Style}
-use Rattle.instance_text.specs.Written.{whole_number, count_number}
+use Rattle.instance_writer.specs.text.Styles.{Style}
+use Rattle.instance_writer.specs.text.Written.{whole_number, count_number}
 use Rattle.instance_writer.proofs.Items.{count_item}
 
 pub lists_same : {A : Type 0} (n : ℕ) (f h : ℕ → List A) → ((k : ℕ) → k < n → f k ≡ h k)

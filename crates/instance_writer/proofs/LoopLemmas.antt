@@ -5,7 +5,7 @@ use Rattle.std.proofs.Common.{add-one}
 use Rattle.json_laws.specs.Value.{Value, values_of, Field, field}
 use Rattle.json_laws.specs.Spelling.{quoted, spell, spell_values, spell_fields}
 use Rattle.instance_shape.specs.FileTables.{lists_below}
-use Rattle.instance_text.specs.Written.{object_of, optional}
+use Rattle.instance_writer.specs.text.Written.{object_of, optional}
 use Rattle.instance_writer.specs.Steps.{separator, values_text, fields_text, is_first_after}
 use Rattle.instance_writer.proofs.TextLemmas.{values_text-append, spell-list, fields_text-append, fields_text-one}
 use Rattle.instance_writer.proofs.TextLemmas.{spell-object, fields_text-none, first_after_both}

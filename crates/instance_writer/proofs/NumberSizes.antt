@@ -6,7 +6,7 @@ use Rattle.std.proofs.lemmas.List.{length-replicate}
 use Rattle.std.proofs.lemmas.Fmt.{length-decimal-le_wide}
 use Rattle.fixed_num.specs.Texts.{fixed_text, sign_of, padded}
 use Rattle.fixed_num.proofs.TextLemmas.{length-padded}
-use Rattle.instance_text.specs.Styles.{part_text}
+use Rattle.instance_writer.specs.text.Styles.{part_text}
 
 pub length-whole : (n : ℕ) → n < 10 ^ 9 → length (decimal n) ≤ 9
 length-whole n small = length-decimal-le_wide 9 n (omega arith) small (omega (arith, small))

@@ -8,9 +8,9 @@ use Rattle.fixed_num.proofs.SumLemmas.{length-list_of}
 use Rattle.json_laws.specs.Value.{Value}
 use Rattle.json_laws.specs.Spelling.{spell}
 use Rattle.instance_model.specs.Fitting.{IsName}
-use Rattle.instance_text.specs.Styles.{decimals}
-use Rattle.instance_text.specs.Written.{count_number, count_list, whole_number, whole_list}
-use Rattle.instance_text.specs.Written.{numbered, named}
+use Rattle.instance_writer.specs.text.Styles.{decimals}
+use Rattle.instance_writer.specs.text.Written.{count_number, count_list, whole_number, whole_list}
+use Rattle.instance_writer.specs.text.Written.{numbered, named}
 use Rattle.instance_writer.specs.Steps.{fields_text}
 use Rattle.instance_writer.proofs.Items.{named_item, numbered_item}
 use Rattle.instance_writer.proofs.SizeLemmas.{IsWithin, length-values, length-list, length-optional}

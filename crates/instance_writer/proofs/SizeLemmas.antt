@@ -7,7 +7,7 @@ use Rattle.json_laws.specs.Value.{Value, values_of, Field, field}
 use Rattle.json_laws.specs.Spelling.{escaped, needs_escape, quoted, spell, spell_values, spell_more_values}
 use Rattle.json_laws.specs.Spelling.{spell_fields, spell_more_fields}
 use Rattle.instance_shape.specs.FileTables.{lists_below}
-use Rattle.instance_text.specs.Written.{object_of, optional, filled}
+use Rattle.instance_writer.specs.text.Written.{object_of, optional, filled}
 use Rattle.instance_writer.specs.Steps.{values_text, fields_text, is_first_after}
 use Rattle.instance_writer.proofs.TextLemmas.{fields_text-append, fields_text-one, spell-list, spell-object}
 

@@ -8,8 +8,8 @@ use Rattle.std.proofs.lemmas.List.{append-nil, take_more, take-replicate}
 use Rattle.json_laws.specs.Value.{Value, values_of, Field, field, fields_of}
 use Rattle.json_laws.specs.Spelling.{escaped, needs_escape, quoted, spell, spell_values, spell_more_values}
 use Rattle.json_laws.specs.Spelling.{spell_fields, spell_more_fields}
-use Rattle.instance_text.specs.Styles.{part_text}
-use Rattle.instance_text.specs.Written.{object_of}
+use Rattle.instance_writer.specs.text.Styles.{part_text}
+use Rattle.instance_writer.specs.text.Written.{object_of}
 use Rattle.instance_writer.specs.Steps.{separator, values_text, fields_text, is_first_after}
 
 pub escaped-append : (a b : List ℕ) → escaped (a ++ b) ≡ escaped a ++ escaped b

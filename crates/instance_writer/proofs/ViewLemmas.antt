@@ -10,10 +10,10 @@ use Rattle.instance_model.specs.declared.parts.LoadCell.{LoadCell}
 use Rattle.instance_model.specs.Tables.{Tables, tmax, delta_of, is_allowed, allowed_of, in_run, scenarios_of, risk_of}
 use Rattle.instance_model.specs.Tables.{is_cell_of, load_of}
 use Rattle.instance_model.specs.Fitting.{AreCells, IsFitting}
-use Rattle.instance_text.specs.Styles.{Style}
-use Rattle.instance_text.specs.Written.{count_number, count_list, risks_of}
 use Rattle.fixed_num.specs.Sums.{list_of}
 use Rattle.fixed_num.proofs.SumLemmas.{list_of_same}
+use Rattle.instance_writer.specs.text.Styles.{Style}
+use Rattle.instance_writer.specs.text.Written.{count_number, count_list, risks_of}
 use Rattle.instance_writer.specs.Views.{IsViewOf, cell_load}
 use Rattle.instance_writer.specs.Steps.{start_load}
 

@@ -19,11 +19,13 @@ use Rattle.instance_model.proofs.FitLemmas.{tmax_small, scenarios_of_small, risk
 use Rattle.instance_model.proofs.FitLemmas.{lower_of_small}
 use Rattle.instance_shape.specs.declared.fault.Known.TheVariants as known
 use Rattle.instance_shape.specs.FileTables.{lists_below}
-use Rattle.instance_text.specs.Styles.{decimals, part_text}
-use Rattle.instance_text.specs.Written.{count_number, count_list, whole_number, whole_list, object_of, numbered}
-use Rattle.instance_text.specs.Written.{named, under, resource_value, season_periods, season_value, exclusion_words}
-use Rattle.instance_text.specs.Written.{exclusion_value, load_value, workload_of, workload_value, risks_of, risk_value}
-use Rattle.instance_text.specs.Written.{intervention_value, instance_text}
+use Rattle.instance_writer.specs.text.Styles.{decimals, part_text}
+use Rattle.instance_writer.specs.text.Written.{count_number, count_list, whole_number, whole_list, object_of, numbered}
+use Rattle.instance_writer.specs.text.Written.{named, under, resource_value, season_periods, season_value}
+use Rattle.instance_writer.specs.text.Written.{exclusion_words}
+use Rattle.instance_writer.specs.text.Written.{exclusion_value, load_value, workload_of, workload_value, risks_of}
+use Rattle.instance_writer.specs.text.Written.{risk_value}
+use Rattle.instance_writer.specs.text.Written.{intervention_value, instance_text}
 use Rattle.instance_writer.specs.Steps.{fields_text, start_load, period_loads, period_risks, number_fields}
 use Rattle.instance_writer.proofs.RootLemmas.{resources, seasons, exclusions}
 use Rattle.instance_writer.proofs.SizeLemmas.{IsWithin, length-quoted, length-values, length-list, length-object}

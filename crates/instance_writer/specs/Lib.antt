@@ -1,4 +1,5 @@
 -- What the contracts cite.
+pub mod text
 pub mod Sinks
 pub mod SinkLaws
 pub mod Views

@@ -4,8 +4,8 @@ use Rattle.json_laws.specs.Value.{Value, values_of, Field, fields_of}
 use Rattle.json_laws.specs.Spelling.{spell_values, spell_more_values, spell_fields, spell_more_fields}
 use Rattle.instance_model.specs.Tables.{Tables, tmax}
 use Rattle.instance_shape.specs.declared.fault.Known.TheVariants as known
-use Rattle.instance_text.specs.Styles.{Style}
-use Rattle.instance_text.specs.Written.{whole_number, whole_list, under, filled, numbered, load_value, risks_of}
+use Rattle.instance_writer.specs.text.Styles.{Style}
+use Rattle.instance_writer.specs.text.Written.{whole_number, whole_list, under, filled, numbered, load_value, risks_of}
 
 -- the comma before an element or a field, unless it is the first
 abbrev pub separator : Bool → List ℕ

@@ -2,7 +2,7 @@
 ghost use Rattle.std.specs.Prelude.{◌<◌, [], ◌∷◌, length, Some, slice_index_or};
 ghost use Rattle.json_laws.specs.Value.{field};
 ghost use Rattle.json_laws.specs.Spelling.{spell};
-ghost use Rattle.instance_text.specs.Written.{object_of, named, exclusion_value};
+ghost use Rattle.instance_writer.specs.text.Written.{object_of, named, exclusion_value};
 ghost use Rattle.instance_writer.specs.Steps.{fields_text};
 
 use crate::marks::{put_key, put_text};

@@ -3,7 +3,7 @@ ghost use Rattle.std.specs.Prelude.{◌<◌, [], ◌∷◌, length, Some, slice_
 ghost use Rattle.json_laws.specs.Value.{field};
 ghost use Rattle.json_laws.specs.Spelling.{spell};
 ghost use Rattle.instance_model.specs.Tables.{durations};
-ghost use Rattle.instance_text.specs.Written.{whole_list, object_of, named, intervention_value};
+ghost use Rattle.instance_writer.specs.text.Written.{whole_list, object_of, named, intervention_value};
 ghost use Rattle.instance_writer.specs.Views.{IsViewOf};
 ghost use Rattle.instance_writer.specs.Steps.{fields_text};
 

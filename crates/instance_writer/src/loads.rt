@@ -2,8 +2,8 @@
 ghost use Rattle.std.specs.Prelude.{◌≡◌, ◌+◌, ◌&&◌, ◌<◌, ◌≤◌, [], decimal, length, is_some, slice_index_or};
 ghost use Rattle.json_laws.specs.Spelling.{spell};
 ghost use Rattle.instance_model.specs.Tables.{tmax, is_allowed, in_run};
-ghost use Rattle.instance_text.specs.Styles.{Style};
-ghost use Rattle.instance_text.specs.Written.{object_of, optional, numbered, workload_of, workload_value};
+ghost use Rattle.instance_writer.specs.text.Styles.{Style};
+ghost use Rattle.instance_writer.specs.text.Written.{object_of, optional, numbered, workload_of, workload_value};
 ghost use Rattle.instance_writer.specs.Views.{IsViewOf, cell_load};
 ghost use Rattle.instance_writer.specs.Steps.{fields_text, is_first_after, period_loads, start_load};
 

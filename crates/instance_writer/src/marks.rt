@@ -2,7 +2,7 @@
 ghost use Rattle.std.specs.Prelude.{[], ◌∷◌, ◌++◌, decimal};
 ghost use Rattle.json_laws.specs.Value.{Value};
 ghost use Rattle.json_laws.specs.Spelling.{escaped, quoted};
-ghost use Rattle.instance_text.specs.Written.{whole_number, count_number};
+ghost use Rattle.instance_writer.specs.text.Written.{whole_number, count_number};
 ghost use Rattle.instance_writer.specs.Steps.{separator, values_text};
 
 use crate::numerals::Numerals;

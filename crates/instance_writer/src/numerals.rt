@@ -1,5 +1,5 @@
 //! How the numbers of an instance are spelled.
-ghost use Rattle.instance_text.specs.Styles.{Style};
+ghost use Rattle.instance_writer.specs.text.Styles.{Style};
 
 use crate::sink::Sink;
 use fixed_num::Line;
@@ -26,7 +26,7 @@ pub trait Numerals {
 pub struct Decimals;
 
 impl Numerals for Decimals {
-    ghost use Rattle.instance_text.specs.Styles.{decimals};
+    ghost use Rattle.instance_writer.specs.text.Styles.{decimals};
 
     ghost style = { decimals };
 

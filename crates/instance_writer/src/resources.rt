@@ -4,7 +4,7 @@ ghost use Rattle.fixed_num.specs.Sums.{list_of};
 ghost use Rattle.json_laws.specs.Value.{field};
 ghost use Rattle.json_laws.specs.Spelling.{spell};
 ghost use Rattle.instance_model.specs.Tables.{upper_of, lower_of};
-ghost use Rattle.instance_text.specs.Written.{count_list, object_of, named, resource_value};
+ghost use Rattle.instance_writer.specs.text.Written.{count_list, object_of, named, resource_value};
 ghost use Rattle.instance_writer.specs.Steps.{fields_text};
 
 use crate::marks::{put_count, put_key};

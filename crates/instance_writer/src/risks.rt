@@ -8,8 +8,8 @@ ghost use Rattle.fixed_num.specs.Sums.{list_of};
 ghost use Rattle.json_laws.specs.Spelling.{spell};
 ghost use Rattle.instance_model.specs.RiskNumbers.{numbers_of};
 ghost use Rattle.instance_model.specs.Tables.{tmax, is_allowed, in_run, scenarios_of, risk_of};
-ghost use Rattle.instance_text.specs.Styles.{Style};
-ghost use Rattle.instance_text.specs.Written.{count_list, object_of, optional, numbered, risks_of, risk_value};
+ghost use Rattle.instance_writer.specs.text.Styles.{Style};
+ghost use Rattle.instance_writer.specs.text.Written.{count_list, object_of, optional, numbered, risks_of, risk_value};
 ghost use Rattle.instance_writer.specs.Views.{IsViewOf};
 ghost use Rattle.instance_writer.specs.Steps.{fields_text, is_first_after, period_risks};
 

@@ -3,7 +3,7 @@ ghost use Rattle.std.specs.Prelude.{◌≡◌, ◌+◌, ◌<◌, ◌≤◌, [], 
 ghost use Rattle.json_laws.specs.Value.{field};
 ghost use Rattle.json_laws.specs.Spelling.{spell};
 ghost use Rattle.instance_model.specs.Tables.{in_season_of};
-ghost use Rattle.instance_text.specs.Written.{whole_number, object_of, named, season_value};
+ghost use Rattle.instance_writer.specs.text.Written.{whole_number, object_of, named, season_value};
 ghost use Rattle.instance_writer.specs.Steps.{fields_text, values_text, is_first_after};
 
 use crate::marks::{put_key, put_whole};

@@ -2,8 +2,8 @@
 ghost use Rattle.std.specs.Prelude.{◌≡◌, false, length, IfOk, IsTrue};
 ghost use Rattle.plan_desk.specs.Written.{WritesText};
 ghost use Rattle.json_laws.specs.Spelling.{spell};
-ghost use Rattle.instance_text.specs.Styles.{decimals};
-ghost use Rattle.instance_text.specs.Written.{whole_list, instance_text};
+ghost use Rattle.instance_writer.specs.text.Styles.{decimals};
+ghost use Rattle.instance_writer.specs.text.Written.{whole_list, instance_text};
 ghost use Rattle.instance_writer.specs.Steps.{fields_text, number_fields};
 ghost use Rattle.instance_writer.specs.Views.{IsViewOf};
 

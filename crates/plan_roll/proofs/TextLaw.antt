@@ -16,9 +16,9 @@ use Rattle.instance_shape.specs.FileTables.{tables, all_below}
 use Rattle.instance_shape.specs.LookUp.{Entry, elements, entries, known, count_at}
 use Rattle.instance_shape.proofs.Fits.{defined_fits, no_slack}
 use Rattle.instance_shape.proofs.OneAnswer.{same_root}
-use Rattle.instance_text.specs.Conditions.{HasSpellableNames, IsUnrounded, IsWithin, SpellsNumbers, widened}
-use Rattle.instance_text.specs.Styles.{Style, decimals}
-use Rattle.instance_text.specs.Written.{instance_text}
+use Rattle.instance_writer.specs.text.Conditions.{HasSpellableNames, IsUnrounded, IsWithin, SpellsNumbers, widened}
+use Rattle.instance_writer.specs.text.Styles.{Style, decimals}
+use Rattle.instance_writer.specs.text.Written.{instance_text}
 use Rattle.plan_roll.specs.Rolled.{rolled_delta, rolled_durations, is_left, rolled_cells, start_risks, rolled_risks}
 use Rattle.plan_roll.specs.Rolled.{rolled}
 use Rattle.plan_roll.specs.Texts.{rolled_text, HasSmallBands, TextIsRead, TextIsReadAgain}

@@ -21,7 +21,7 @@ use Rattle.instance_shape.proofs.FewEntries.{all_risks, all_cells}
 use Rattle.instance_shape.proofs.ListsBelow.{all_over}
 use Rattle.instance_shape.proofs.NamesFit.{names_fit}
 use Rattle.instance_shape.proofs.RootNumbers.{Between, periods_range, scenarios_range}
-use Rattle.instance_text.specs.Conditions.{HasSpellableNames, IsUnrounded, IsWithin}
+use Rattle.instance_writer.specs.text.Conditions.{HasSpellableNames, IsUnrounded, IsWithin}
 use Rattle.json_laws.proofs.Laws.{text_sound}
 use Rattle.plan_roll.specs.Rolled.{with_rolled_durations, rolled}
 use Rattle.plan_roll.specs.Texts.{HasSmallBands}

@@ -5,9 +5,9 @@ use Rattle.instance_model.specs.declared.limits.Limits.{Limits}
 use Rattle.instance_model.specs.Tables.{Tables}
 use Rattle.instance_shape.specs.Defined.{Defines}
 use Rattle.instance_shape.specs.Ranges.{AreStandard}
-use Rattle.instance_text.specs.Conditions.{IsWithin, widened}
-use Rattle.instance_text.specs.Styles.{decimals}
-use Rattle.instance_text.specs.Written.{instance_text}
+use Rattle.instance_writer.specs.text.Conditions.{IsWithin, widened}
+use Rattle.instance_writer.specs.text.Styles.{decimals}
+use Rattle.instance_writer.specs.text.Written.{instance_text}
 use Rattle.plan_roll.specs.Rolled.{rolled}
 
 -- the text: counts with 12 decimals, Quantile and Alpha with 6

@@ -2,7 +2,7 @@
 ghost use Rattle.plan_roll.specs.Laws.{RolledTablesFit, PlansRoll};
 ghost use Rattle.plan_roll.specs.Texts.{RolledTextIsRead};
 
-use instance_text::{decimals_spell_numbers, texts_are_read};
+use instance_writer::{decimals_spell_numbers, texts_are_read};
 
 /// The rolled tables are those of an instance.
 pub fn rolled_tables_fit()

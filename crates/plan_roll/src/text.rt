@@ -7,8 +7,9 @@ ghost use Rattle.plan_roll.specs.Texts.{rolled_text, HasSmallBands, TextIsRead, 
 use crate::laws::{plans_roll, rolled_text_is_read};
 use crate::view::Rolled;
 use instance_model::Instance;
-use instance_text::{decimals_spell_numbers, names_are_spellable, texts_are_read};
-use instance_writer::{instance_length, write_instance};
+use instance_writer::{
+    decimals_spell_numbers, instance_length, names_are_spellable, texts_are_read, write_instance,
+};
 use plan_desk::{Desk, Failed};
 
 /// How many bytes the text of the rolled instance has. Takes no memory.

@@ -1,6 +1,6 @@
 use Rattle.std.proofs.Common.{◌∙◌, ap, subst, sym}
 use Rattle.instance_model.specs.Tables.{Tables}
-use Rattle.instance_text.specs.Written.{instance_text}
+use Rattle.instance_writer.specs.text.Written.{instance_text}
 use Rattle.instance_writer.specs.Views.{HasEachCell}
 use Rattle.instance_gen.specs.Texts.{plain_numbers}
 use Rattle.std.specs.Str.{IsUtf8}

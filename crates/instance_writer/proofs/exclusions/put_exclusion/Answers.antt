@@ -1,7 +1,7 @@
 use Rattle.std.proofs.Common.{[], ◌∙◌, sym}
 use Rattle.std.specs.Prelude.{slice_index_or}
 use Rattle.std.proofs.lemmas.Option.{get_or_from_slice_get}
-use Rattle.instance_text.specs.Written.{exclusion_value}
+use Rattle.instance_writer.specs.text.Written.{exclusion_value}
 use Rattle.instance_writer.proofs.LoopLemmas.{put_field}
 use Rattle.instance_writer.proofs.exclusions.put_exclusion.Goals as goal
 

@@ -4,7 +4,7 @@ use Rattle.std.proofs.lemmas.Option.{get_or_from_slice_get}
 use Rattle.json_laws.specs.Value.{Value, values_of}
 use Rattle.json_laws.specs.Spelling.{spell}
 use Rattle.instance_model.specs.declared.parts.Exclusion.{Exclusion}
-use Rattle.instance_text.specs.Written.{exclusion_words}
+use Rattle.instance_writer.specs.text.Written.{exclusion_words}
 use Rattle.instance_writer.specs.Steps.{values_text}
 use Rattle.instance_writer.proofs.LoopLemmas.{respelled, join_values, whole_list}
 use Rattle.instance_writer.proofs.exclusions.put_exclusion_words.Goals as goal

@@ -2,7 +2,7 @@ use Rattle.std.proofs.Common.{[], List, ℕ, ◌∙◌, sym, ap}
 use Rattle.std.specs.Prelude.{slice_index_or}
 use Rattle.std.proofs.lemmas.Option.{get_or_from_slice_get}
 use Rattle.instance_model.specs.Tables.{Tables}
-use Rattle.instance_text.specs.Written.{intervention_value}
+use Rattle.instance_writer.specs.text.Written.{intervention_value}
 use Rattle.instance_writer.proofs.ViewLemmas.{same_names}
 use Rattle.instance_writer.proofs.LoopLemmas.{put_field}
 use Rattle.instance_writer.proofs.interventions.put_intervention.Goals as goal

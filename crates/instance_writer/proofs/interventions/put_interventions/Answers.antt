@@ -1,6 +1,6 @@
 use Rattle.std.proofs.Common.{List, ℕ, length, Some, refl, ap, arith}
 use Rattle.instance_model.specs.Tables.{Tables}
-use Rattle.instance_text.specs.Written.{intervention_value}
+use Rattle.instance_writer.specs.text.Written.{intervention_value}
 use Rattle.instance_writer.proofs.ViewLemmas.{same_names}
 use Rattle.instance_writer.proofs.LoopLemmas.{begin_fields, next_fields, end_fields}
 use Rattle.instance_writer.proofs.Items.{named_item}

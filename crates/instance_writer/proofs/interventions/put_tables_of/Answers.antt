@@ -4,7 +4,7 @@ use Rattle.json_laws.specs.Value.{Field}
 use Rattle.json_laws.specs.Spelling.{spell}
 use Rattle.instance_model.specs.Tables.{Tables, tmax, durations}
 use Rattle.instance_shape.specs.declared.fault.Known.TheVariants as known
-use Rattle.instance_text.specs.Written.{whole_number, whole_list, workload_value, risk_value, under}
+use Rattle.instance_writer.specs.text.Written.{whole_number, whole_list, workload_value, risk_value, under}
 use Rattle.instance_writer.specs.Steps.{values_text}
 use Rattle.instance_writer.proofs.LoopLemmas.{respelled, put_field, join_fields, whole_object}
 use Rattle.instance_writer.proofs.interventions.put_tables_of.Goals as goal

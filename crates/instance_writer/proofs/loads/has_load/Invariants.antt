@@ -1,6 +1,6 @@
 use Rattle.std.proofs.Common.{[], ◌≡◌}
-use Rattle.instance_text.specs.Styles.{Style}
-use Rattle.instance_text.specs.Written.{numbered}
+use Rattle.instance_writer.specs.text.Styles.{Style}
+use Rattle.instance_writer.specs.text.Written.{numbered}
 use Rattle.instance_writer.specs.Steps.{period_loads}
 use Rattle.instance_writer.proofs.loads.has_load.Given as goal
 

@@ -2,7 +2,7 @@ use Rattle.std.proofs.Common.{◌≡◌, Some, refl, ◌∙◌, sym, ap, arith, 
 use Rattle.std.specs.Prelude.{option_map}
 use Rattle.fixed_num.proofs.SignedLemmas.{back_from_abs}
 use Rattle.json_laws.specs.Spelling.{spell}
-use Rattle.instance_text.specs.Written.{count_number}
+use Rattle.instance_writer.specs.text.Written.{count_number}
 use Rattle.instance_writer.specs.Steps.{start_load}
 use Rattle.instance_writer.proofs.ViewLemmas.{start_load_is}
 use Rattle.instance_writer.proofs.LoopLemmas.{respelled, put_some, put_none}

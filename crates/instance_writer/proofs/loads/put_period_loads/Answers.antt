@@ -1,6 +1,6 @@
 use Rattle.std.proofs.Common.{refl, ◌∙◌, sym, decimal}
 use Rattle.instance_model.specs.Tables.{tmax}
-use Rattle.instance_text.specs.Written.{object_of, numbered}
+use Rattle.instance_writer.specs.text.Written.{object_of, numbered}
 use Rattle.instance_writer.specs.Steps.{start_load, period_loads}
 use Rattle.instance_writer.proofs.FilledLemmas.{filled_is, is_none_of}
 use Rattle.instance_writer.proofs.LoopLemmas.{put_some, put_none, first_some, first_none}

@@ -2,7 +2,7 @@ use Rattle.std.proofs.Common.{[], List, ℕ, ◌∙◌, sym, ap}
 use Rattle.std.specs.Prelude.{slice_index_or}
 use Rattle.std.proofs.lemmas.Option.{get_or_from_slice_get}
 use Rattle.instance_model.specs.Tables.{Tables}
-use Rattle.instance_text.specs.Written.{object_of, numbered, workload_of}
+use Rattle.instance_writer.specs.text.Written.{object_of, numbered, workload_of}
 use Rattle.instance_writer.specs.Steps.{period_loads}
 use Rattle.instance_writer.proofs.FilledLemmas.{filled_is, is_none_of}
 use Rattle.instance_writer.proofs.ViewLemmas.{same_resources}

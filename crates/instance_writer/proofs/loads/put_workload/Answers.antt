@@ -1,7 +1,7 @@
 use Rattle.std.proofs.Common.{length, ap, arith}
 use Rattle.instance_model.specs.Tables.{Tables}
 use Rattle.std.specs.Prelude.{List, ℕ}
-use Rattle.instance_text.specs.Written.{workload_of}
+use Rattle.instance_writer.specs.text.Written.{workload_of}
 use Rattle.instance_writer.proofs.ViewLemmas.{same_resources}
 use Rattle.instance_writer.proofs.LoopLemmas.{begin_fields, next_fields, end_fields}
 use Rattle.instance_writer.proofs.Items.{named_item}

@@ -1,4 +1,4 @@
-use Rattle.instance_text.specs.Written.{workload_of}
+use Rattle.instance_writer.specs.text.Written.{workload_of}
 use Rattle.instance_writer.proofs.LoopLemmas.{HasFields}
 use Rattle.instance_writer.proofs.Items.{named_item}
 use Rattle.instance_writer.proofs.loads.put_workload.Given as goal

@@ -2,7 +2,7 @@ use Rattle.std.proofs.Common.{[], ◌∷◌, ◌+◌, true, false, refl, codes}
 use Rattle.fixed_num.specs.Sums.{list_of}
 use Rattle.instance_model.specs.Tables.{upper_of, lower_of}
 use Rattle.instance_shape.specs.declared.fault.Known.TheVariants as known
-use Rattle.instance_text.specs.Written.{count_list, under}
+use Rattle.instance_writer.specs.text.Written.{count_list, under}
 use Rattle.instance_writer.proofs.LoopLemmas.{put_field, join_fields, whole_object}
 use Rattle.instance_writer.proofs.resources.put_bands.Goals as goal
 

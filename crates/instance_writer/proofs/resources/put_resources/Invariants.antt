@@ -1,5 +1,5 @@
 use Rattle.std.proofs.Common.{Some}
-use Rattle.instance_text.specs.Written.{resource_value}
+use Rattle.instance_writer.specs.text.Written.{resource_value}
 use Rattle.instance_writer.proofs.LoopLemmas.{HasFields}
 use Rattle.instance_writer.proofs.Items.{named_item}
 use Rattle.instance_writer.proofs.resources.put_resources.Given as goal

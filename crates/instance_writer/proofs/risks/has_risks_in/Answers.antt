@@ -1,6 +1,6 @@
 use Rattle.std.proofs.Common.{◌+◌, ◌∙◌, sym, ap, arith}
 use Rattle.instance_model.specs.Tables.{Tables, tmax}
-use Rattle.instance_text.specs.Written.{risks_of}
+use Rattle.instance_writer.specs.text.Written.{risks_of}
 use Rattle.instance_writer.proofs.FilledLemmas.{some_at, none_more, none_below}
 use Rattle.instance_writer.proofs.ViewLemmas.{risks_some}
 use Rattle.instance_writer.proofs.risks.has_risks_in.Goals as goal

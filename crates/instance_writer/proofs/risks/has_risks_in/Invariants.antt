@@ -1,6 +1,6 @@
 use Rattle.std.proofs.Common.{[], ◌≡◌}
-use Rattle.instance_text.specs.Styles.{Style}
-use Rattle.instance_text.specs.Written.{numbered, risks_of}
+use Rattle.instance_writer.specs.text.Styles.{Style}
+use Rattle.instance_writer.specs.text.Written.{numbered, risks_of}
 use Rattle.instance_writer.proofs.risks.has_risks_in.Given as goal
 
 abbrev pub invariant-loop-k : goal.invariant-loop-k

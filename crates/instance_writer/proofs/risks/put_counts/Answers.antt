@@ -2,7 +2,7 @@ use Rattle.std.proofs.Common.{[], ◌∷◌, length, refl, sym, ◌∙◌, ap, a
 use Rattle.std.specs.Prelude.{ℤ}
 use Rattle.fixed_num.proofs.SignedLemmas.{back_from_abs}
 use Rattle.instance_model.specs.RiskNumbers.{numbers_of}
-use Rattle.instance_text.specs.Written.{count_number}
+use Rattle.instance_writer.specs.text.Written.{count_number}
 use Rattle.instance_writer.specs.Steps.{values_text}
 use Rattle.instance_writer.proofs.ListLemmas.{map-counts}
 use Rattle.instance_writer.proofs.LoopLemmas.{respelled, begin_values, next_values, end_values}

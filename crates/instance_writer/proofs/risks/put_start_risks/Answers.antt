@@ -3,7 +3,7 @@ use Rattle.std.specs.Prelude.{ℤ, List}
 use Rattle.fixed_num.specs.Sums.{list_of}
 use Rattle.json_laws.specs.Spelling.{spell}
 use Rattle.instance_model.specs.Tables.{scenarios_of, risk_of}
-use Rattle.instance_text.specs.Written.{count_list, risks_of}
+use Rattle.instance_writer.specs.text.Written.{count_list, risks_of}
 use Rattle.instance_writer.proofs.LoopLemmas.{respelled, put_some, put_none, first_some, first_none}
 use Rattle.instance_writer.proofs.FilledLemmas.{is_none_of}
 use Rattle.instance_writer.proofs.ViewLemmas.{risks_some, risks_running}

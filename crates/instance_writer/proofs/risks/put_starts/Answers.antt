@@ -1,6 +1,6 @@
 use Rattle.std.proofs.Common.{ap, arith}
 use Rattle.instance_model.specs.Tables.{Tables, tmax}
-use Rattle.instance_text.specs.Written.{risks_of}
+use Rattle.instance_writer.specs.text.Written.{risks_of}
 use Rattle.instance_writer.proofs.LoopLemmas.{begin_fields, next_fields, end_fields}
 use Rattle.instance_writer.proofs.Items.{numbered_item}
 use Rattle.instance_writer.proofs.risks.put_starts.Goals as goal

@@ -1,4 +1,4 @@
-use Rattle.instance_text.specs.Written.{risks_of}
+use Rattle.instance_writer.specs.text.Written.{risks_of}
 use Rattle.instance_writer.proofs.LoopLemmas.{HasFields}
 use Rattle.instance_writer.proofs.Items.{numbered_item}
 use Rattle.instance_writer.proofs.risks.put_starts.Given as goal

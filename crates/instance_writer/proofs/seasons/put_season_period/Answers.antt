@@ -1,6 +1,6 @@
 use Rattle.std.proofs.Common.{[], ◌∷◌, ◌≡◌, Bool, false, cond, map, sym, ◌∙◌, ap}
 use Rattle.instance_model.specs.Tables.{in_season_of}
-use Rattle.instance_text.specs.Written.{whole_number}
+use Rattle.instance_writer.specs.text.Written.{whole_number}
 use Rattle.instance_writer.specs.Steps.{values_text}
 use Rattle.instance_writer.proofs.TextLemmas.{values_text-none}
 use Rattle.instance_writer.proofs.LoopLemmas.{respelled}

@@ -1,6 +1,6 @@
 use Rattle.std.proofs.Common.{[], ◌∷◌, ◌+◌, sym, ◌∙◌, arith, cond}
 use Rattle.instance_model.specs.Tables.{in_season_of}
-use Rattle.instance_text.specs.Written.{whole_number}
+use Rattle.instance_writer.specs.text.Written.{whole_number}
 use Rattle.instance_writer.proofs.ListLemmas.{map-lists_below}
 use Rattle.instance_writer.proofs.TextLemmas.{first_after-map}
 use Rattle.instance_writer.proofs.LoopLemmas.{begin_values, next_values, end_values}

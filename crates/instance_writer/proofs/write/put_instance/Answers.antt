@@ -3,7 +3,7 @@ use Rattle.json_laws.specs.Value.{Field}
 use Rattle.json_laws.specs.Spelling.{spell}
 use Rattle.instance_model.specs.Tables.{Tables}
 use Rattle.instance_shape.specs.declared.fault.Known.TheVariants as known
-use Rattle.instance_text.specs.Written.{object_of, named, under, intervention_value}
+use Rattle.instance_writer.specs.text.Written.{object_of, named, under, intervention_value}
 use Rattle.instance_writer.specs.Steps.{fields_text, number_fields}
 use Rattle.instance_writer.proofs.LoopLemmas.{respelled, put_field, join_fields, whole_object}
 use Rattle.instance_writer.proofs.RootLemmas.{resources, seasons, exclusions, same_resource_values, same_season_values}

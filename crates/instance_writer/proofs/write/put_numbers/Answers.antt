@@ -3,7 +3,7 @@ use Rattle.std.proofs.lemmas.List.{append-nil}
 use Rattle.json_laws.specs.Value.{Value}
 use Rattle.json_laws.specs.Spelling.{spell}
 use Rattle.instance_shape.specs.declared.fault.Known.TheVariants as known
-use Rattle.instance_text.specs.Written.{whole_number, whole_list, under}
+use Rattle.instance_writer.specs.text.Written.{whole_number, whole_list, under}
 use Rattle.instance_writer.specs.Steps.{values_text}
 use Rattle.instance_writer.proofs.LoopLemmas.{respelled, put_field, join_fields}
 use Rattle.instance_writer.proofs.write.put_numbers.Goals as goal

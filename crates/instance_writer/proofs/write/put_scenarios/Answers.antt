@@ -1,5 +1,5 @@
 use Rattle.std.proofs.Common.{[], ◌∷◌, length, refl, sym, ap, arith}
-use Rattle.instance_text.specs.Written.{whole_number}
+use Rattle.instance_writer.specs.text.Written.{whole_number}
 use Rattle.instance_writer.specs.Steps.{values_text}
 use Rattle.instance_writer.proofs.ListLemmas.{map-scenarios}
 use Rattle.instance_writer.proofs.LoopLemmas.{respelled, begin_values, next_values, end_values}

@@ -1,8 +1,8 @@
 use Rattle.std.proofs.Common.{rules}
 use Rattle.plan_desk.specs.Written.{PutsText}
 use Rattle.plan_desk.specs.Written.Way.{writing}
-use Rattle.instance_text.specs.Styles.{decimals}
-use Rattle.instance_text.specs.Written.{instance_text}
+use Rattle.instance_writer.specs.text.Styles.{decimals}
+use Rattle.instance_writer.specs.text.Written.{instance_text}
 use Rattle.instance_writer.specs.Sinks.{Progress}
 use Rattle.instance_writer.proofs.FileLemmas.{whole_written, seen_as}
 use Rattle.instance_writer.proofs.write.write_instance.Goals as goal

@@ -1,6 +1,0 @@
-use Rattle.instance_text.proofs.Law.{defined}
-use Rattle.instance_text.proofs.laws.texts_are_read.Goals as goal
-
-pub returns : goal.returns
-returns c = λ style limits slack inst.
-    defined style limits slack inst c.spelled_is_read.ensures.text c.spelled_is_read.ensures.shallow

@@ -1,6 +1,0 @@
-use Rattle.std.proofs.Common.{All, take}
-use Rattle.std.specs.Str.{IsUtf8}
-use Rattle.instance_text.proofs.names.interventions_are_text.Given as goal
-
-abbrev pub invariant-loop-i : goal.invariant-loop-i
-invariant-loop-i l = All IsUtf8 (take l.i l.inst.names)

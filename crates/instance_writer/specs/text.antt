@@ -1,0 +1,4 @@
+-- What the contracts cite.
+pub mod Conditions
+pub mod Styles
+pub mod Written
