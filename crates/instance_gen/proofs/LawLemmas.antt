@@ -9,7 +9,7 @@ use Rattle.std.proofs.lemmas.List.{get_or_past}
 use Rattle.std.proofs.lemmas.List.Elements.{All-append, All-replicate, All-weaker}
 use Rattle.std.proofs.lemmas.Int.{ints}
 use Rattle.std.proofs.lemmas.Str.{IsUtf8-from_ascii}
-use Rattle.json_laws.specs.Spellable.{IsSpellableText}
+use Rattle.json_grammar.specs.laws.Spellable.{IsSpellableText}
 use Rattle.instance_model.specs.Limits.{standard_limits}
 use Rattle.instance_model.specs.declared.limits.Limits.{Limits}
 use Rattle.instance_model.specs.declared.parts.LoadCell.{LoadCell}

@@ -7,8 +7,7 @@ use crate::laws::drawn_texts_are_read;
 use crate::numerals::PlainNumbers;
 use crate::parts::drawn_instance;
 use instance_writer::{FullInstance, instance_bytes};
-use json_grammar::Text;
-use json_laws::text_is_utf8;
+use json_grammar::{Text, text_is_utf8};
 use std::alloc::{AllocError, Global};
 
 /// The text of the instance of `n` interventions, from 1 to 200, that is drawn from `seed`. Fails only where memory is

@@ -1,12 +1,12 @@
 -- What is known of a reader with one piece more.
 use Rattle.std.proofs.Common.{◌≡◌, ℕ, false, true, List, ◌++◌, length, Option, Some, None, is_some, subst, append_assoc}
 use Rattle.std.proofs.Common.{length-append, arith}
-use Rattle.json_grammar.specs.Grammar.{IsText}
 use Rattle.json_events.specs.PullViews.{PullView}
 use Rattle.json_events.specs.Pulls.{Stands}
+use Rattle.json_grammar.specs.Grammar.{IsText}
 use Rattle.json_grammar.specs.declared.fault.TextFault.{TextFault}
 use Rattle.json_grammar.specs.declared.fault.TextFault.TheVariants.{Syntax, TooDeep, Memory}
-use Rattle.json_laws.proofs.Stays.{syntax_stays, shallow_stays, depth_stays}
+use Rattle.json_grammar.proofs.LawsStays.{syntax_stays, shallow_stays, depth_stays}
 use Rattle.instance_model.specs.declared.limits.Limits.{Limits}
 use Rattle.shape_walk.specs.Standing.{Walk}
 use Rattle.instance_read.specs.Readers.{Follows, HaveFault, IsFollowing}

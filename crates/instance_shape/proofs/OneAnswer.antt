@@ -1,9 +1,9 @@
 -- Bytes have one answer: an instance, or a fault.
 use Rattle.std.proofs.Common.{◌≡◌, ℕ, ℤ, ◌⊎◌, inl, inr, List, [], Some, None, sym, ◌∙◌, ap, subst, arith}
 use Rattle.json_grammar.specs.Tree.{Tree}
-use Rattle.json_laws.proofs.Laws.{one_tree}
-use Rattle.json_laws.proofs.Loop.{no_syntax_fault, no_depth_fault}
-use Rattle.json_laws.proofs.OnePlace.{one_syntax, one_depth, syntax_or_depth}
+use Rattle.json_grammar.proofs.LawsOfTexts.{one_tree}
+use Rattle.json_grammar.proofs.LawsLoop.{no_syntax_fault, no_depth_fault}
+use Rattle.json_grammar.proofs.LawsOnePlace.{one_syntax, one_depth, syntax_or_depth}
 use Rattle.instance_model.specs.Tables.{Tables}
 use Rattle.instance_model.specs.declared.limits.Limits.{Limits}
 use Rattle.instance_shape.specs.declared.fault.Fault.{Fault}

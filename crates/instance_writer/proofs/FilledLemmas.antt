@@ -3,7 +3,7 @@ use Rattle.std.proofs.Common.{◌≡◌, ◌⊎◌, ℕ, zero, suc, ◌+◌, ◌
 use Rattle.std.proofs.Common.{ap, subst, arith}
 use Rattle.std.proofs.Common.{Option, Some, None, inl, inr, is_some, true≢false, decimal}
 use Rattle.std.proofs.lemmas.Bool.{cases_lt}
-use Rattle.json_laws.specs.Value.{Value, Field}
+use Rattle.json_grammar.specs.laws.Value.{Value, Field}
 use Rattle.instance_shape.specs.FileTables.{lists_below}
 use Rattle.instance_writer.specs.text.Written.{object_of, optional, filled, numbered}
 use Rattle.instance_writer.proofs.LoopLemmas.{lists_more}

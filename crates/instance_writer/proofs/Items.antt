@@ -1,6 +1,6 @@
 -- The elements and fields that the loops put out, by place.
 use Rattle.std.specs.Prelude.{ℕ, ◌+◌, ℤ, pos, List, [], ◌∷◌, Option, cond, decimal, map, slice_index_or}
-use Rattle.json_laws.specs.Value.{Value, Field}
+use Rattle.json_grammar.specs.laws.Value.{Value, Field}
 use Rattle.instance_model.specs.Tables.{Tables, upper_of, lower_of, in_season_of, delta_of, scenarios_of}
 use Rattle.instance_writer.specs.text.Styles.{Style}
 use Rattle.instance_writer.specs.text.Written.{whole_number, count_number, optional}

@@ -6,7 +6,7 @@ use Rattle.std.proofs.lemmas.List.{map-append, take_more, take_all}
 use Rattle.std.specs.Prelude.{ℤ, pos}
 use Rattle.fixed_num.specs.Sums.{list_of}
 use Rattle.fixed_num.proofs.SumLemmas.{list_of_more}
-use Rattle.json_laws.specs.Value.{Value}
+use Rattle.json_grammar.specs.laws.Value.{Value}
 use Rattle.instance_model.specs.Tables.{Tables, tmax, durations, delta_of, scenarios_of}
 use Rattle.instance_shape.specs.FileTables.{lists_below}
 use Rattle.instance_writer.specs.text.Styles.{Style}

@@ -2,8 +2,8 @@
 use Rattle.std.proofs.Common.{◌≡◌, ℕ, ◌+◌, Bool, true, false, List, [], ◌∷◌, ◌++◌, refl, sym, ◌∙◌, ap, subst, Option}
 use Rattle.std.proofs.Common.{Some, None}
 use Rattle.std.proofs.Common.{add-one}
-use Rattle.json_laws.specs.Value.{Value, values_of, Field, field}
-use Rattle.json_laws.specs.Spelling.{quoted, spell, spell_values, spell_fields}
+use Rattle.json_grammar.specs.laws.Value.{Value, values_of, Field, field}
+use Rattle.json_grammar.specs.laws.Spelling.{quoted, spell, spell_values, spell_fields}
 use Rattle.instance_shape.specs.FileTables.{lists_below}
 use Rattle.instance_writer.specs.text.Written.{object_of, optional}
 use Rattle.instance_writer.specs.Steps.{separator, values_text, fields_text, is_first_after}

@@ -5,8 +5,8 @@ use Rattle.std.specs.Prelude.{ℤ, All, unsigned_abs, slice_index_or}
 use Rattle.std.proofs.lemmas.List.Elements.{All-map, All-weaker}
 use Rattle.fixed_num.specs.Sums.{list_of}
 use Rattle.fixed_num.proofs.SumLemmas.{length-list_of}
-use Rattle.json_laws.specs.Value.{Value}
-use Rattle.json_laws.specs.Spelling.{spell}
+use Rattle.json_grammar.specs.laws.Value.{Value}
+use Rattle.json_grammar.specs.laws.Spelling.{spell}
 use Rattle.instance_model.specs.Fitting.{IsName}
 use Rattle.instance_writer.specs.text.Styles.{decimals}
 use Rattle.instance_writer.specs.text.Written.{count_number, count_list, whole_number, whole_list}

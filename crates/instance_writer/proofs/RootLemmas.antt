@@ -1,6 +1,6 @@
 -- The parts of an instance that each view of it has.
 use Rattle.std.proofs.Common.{◌≡◌, Some, sym, ap}
-use Rattle.json_laws.specs.Value.{Value}
+use Rattle.json_grammar.specs.laws.Value.{Value}
 use Rattle.instance_model.specs.Tables.{Tables, upper_of, lower_of, in_season_of, exclusion_of}
 use Rattle.instance_writer.specs.text.Styles.{Style}
 use Rattle.instance_writer.specs.text.Written.{object_of, named, resource_value, season_value, exclusion_value}

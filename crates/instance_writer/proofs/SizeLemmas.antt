@@ -3,9 +3,9 @@ use Rattle.std.proofs.Common.{◌≡◌, ℕ, zero, suc, ◌+◌, ◌*◌, ◌<�
 use Rattle.std.proofs.Common.{length, refl, ◌∙◌, ap, arith, length-append, map, Option, Some, None}
 use Rattle.std.specs.Prelude.{IfSome, All}
 use Rattle.std.proofs.lemmas.List.Elements.{All-head, All-tail}
-use Rattle.json_laws.specs.Value.{Value, values_of, Field, field}
-use Rattle.json_laws.specs.Spelling.{escaped, needs_escape, quoted, spell, spell_values, spell_more_values}
-use Rattle.json_laws.specs.Spelling.{spell_fields, spell_more_fields}
+use Rattle.json_grammar.specs.laws.Value.{Value, values_of, Field, field}
+use Rattle.json_grammar.specs.laws.Spelling.{escaped, needs_escape, quoted, spell, spell_values, spell_more_values}
+use Rattle.json_grammar.specs.laws.Spelling.{spell_fields, spell_more_fields}
 use Rattle.instance_shape.specs.FileTables.{lists_below}
 use Rattle.instance_writer.specs.text.Written.{object_of, optional, filled}
 use Rattle.instance_writer.specs.Steps.{values_text, fields_text, is_first_after}

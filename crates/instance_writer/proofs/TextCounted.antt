@@ -6,7 +6,7 @@ use Rattle.std.specs.Prelude.{slice_index_or, ◌==◌, ◌⊎◌, nat_le, nat_l
 use Rattle.std.specs.List.{filter}
 use Rattle.std.proofs.lemmas.Bool.{and_from, le-leb, lt-leb, lt-ltb, le-ltb}
 use Rattle.std.proofs.lemmas.List.Elements.{All-weaker}
-use Rattle.json_laws.specs.Value.{Value}
+use Rattle.json_grammar.specs.laws.Value.{Value}
 use Rattle.fixed_num.specs.Sums.{list_of}
 use Rattle.fixed_num.proofs.SumLemmas.{length-list_of}
 use Rattle.instance_model.specs.declared.parts.LoadCell.{LoadCell}

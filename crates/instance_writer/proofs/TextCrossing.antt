@@ -8,7 +8,7 @@ use Rattle.std.proofs.lemmas.Bool.{eq-eqb, le-leb, and_from}
 use Rattle.std.proofs.lemmas.List.{length-map}
 use Rattle.std.proofs.lemmas.List.Elements.{All-head, All-tail, All-map, All-from_get_or}
 use Rattle.json_grammar.specs.Tree.{Tree, tree, Node}
-use Rattle.json_laws.specs.Value.{Value, values_of, Field, field}
+use Rattle.json_grammar.specs.laws.Value.{Value, values_of, Field, field}
 use Rattle.fixed_num.specs.Sums.{list_of}
 use Rattle.fixed_num.proofs.SumLemmas.{length-list_of}
 use Rattle.instance_model.specs.declared.limits.Limits.{Limits}

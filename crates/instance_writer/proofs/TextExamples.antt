@@ -2,7 +2,7 @@
 use Rattle.std.proofs.Common.{◌≡◌, [], ◌∷◌, ◌++◌, refl, pos, true, false}
 use Rattle.std.specs.Prelude.{codes, neg_ℤ}
 use Rattle.std.specs.Fmt.{digits}
-use Rattle.json_laws.specs.Spelling.{spell, quoted, escaped}
+use Rattle.json_grammar.specs.laws.Spelling.{spell, quoted, escaped}
 use Rattle.instance_model.specs.Naturals.{count_sum}
 use Rattle.instance_model.specs.Tables.{Tables, upper_of, lower_of, in_season_of, exclusion_of, durations, tmax}
 use Rattle.instance_model.specs.Tables.{delta_of}

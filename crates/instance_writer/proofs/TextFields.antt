@@ -6,7 +6,7 @@ use Rattle.std.specs.Prelude.{All, slice_index_or, ◌==◌}
 use Rattle.std.specs.List.{AllZip}
 use Rattle.std.proofs.lemmas.List.{get_or-map}
 use Rattle.json_grammar.specs.Tree.{Tree, tree, Node}
-use Rattle.json_laws.specs.Value.{Value, values_of, Field, field}
+use Rattle.json_grammar.specs.laws.Value.{Value, values_of, Field, field}
 use Rattle.fixed_num.specs.Sums.{list_of}
 use Rattle.instance_model.specs.declared.limits.Limits.{Limits}
 use Rattle.instance_model.specs.declared.parts.Exclusion.{Exclusion}

@@ -7,13 +7,13 @@ use Rattle.std.specs.Prelude.{All, AllPairs}
 use Rattle.std.proofs.lemmas.List.Elements.{All-head, All-tail, All-weaker}
 use Rattle.json_grammar.specs.Grammar.{IsNumber}
 use Rattle.json_grammar.specs.Tree.{Tree, tree, Node, Members}
-use Rattle.json_laws.specs.Value.{Value, values_of, Field, fields_of, depth}
-use Rattle.json_laws.specs.Spellable.{IsSpellableText, IsSound}
-use Rattle.json_laws.proofs.SpelledParts.{AreSound-values_of, IsSoundField, AreSoundFields-fields_of}
-use Rattle.json_laws.proofs.SpelledParts.{values_depth-values_of}
-use Rattle.json_laws.proofs.SpelledParts.{fields_depth-fields_of}
-use Rattle.json_laws.specs.Spelling.{spell, quoted}
-use Rattle.json_laws.specs.Placed.{placed_at, placed_values, placed_fields}
+use Rattle.json_grammar.specs.laws.Value.{Value, values_of, Field, fields_of, depth}
+use Rattle.json_grammar.specs.laws.Spellable.{IsSpellableText, IsSound}
+use Rattle.json_grammar.proofs.LawsSpelledParts.{AreSound-values_of, IsSoundField, AreSoundFields-fields_of}
+use Rattle.json_grammar.proofs.LawsSpelledParts.{values_depth-values_of}
+use Rattle.json_grammar.proofs.LawsSpelledParts.{fields_depth-fields_of}
+use Rattle.json_grammar.specs.laws.Spelling.{spell, quoted}
+use Rattle.json_grammar.specs.laws.Placed.{placed_at, placed_values, placed_fields}
 use Rattle.instance_model.specs.declared.limits.Limits.{Limits}
 use Rattle.instance_shape.specs.declared.fault.Flaw.{Flaw}
 use Rattle.instance_shape.specs.declared.fault.Flaw.TheVariants as flaw

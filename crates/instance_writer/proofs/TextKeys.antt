@@ -11,9 +11,9 @@ use Rattle.std.proofs.lemmas.Str.{IsUtf8-from_ascii}
 use Rattle.std.proofs.lemmas.List.Elements.{All-nil, All-cons, All-head, All-tail, All-get_or}
 use Rattle.json_grammar.specs.Grammar.{AreDigits}
 use Rattle.json_grammar.specs.Tree.{Node, Members}
-use Rattle.json_laws.specs.Value.{Value, Field, field, fields_of}
-use Rattle.json_laws.specs.Spellable.{IsSpellableText}
-use Rattle.json_laws.specs.Placed.{placed_fields}
+use Rattle.json_grammar.specs.laws.Value.{Value, Field, field, fields_of}
+use Rattle.json_grammar.specs.laws.Spellable.{IsSpellableText}
+use Rattle.json_grammar.specs.laws.Placed.{placed_fields}
 use Rattle.instance_model.specs.declared.limits.Limits.{Limits}
 use Rattle.instance_model.specs.Fitting.{IsName, AreNames}
 use Rattle.instance_shape.specs.declared.spot.Spot.{Spot}

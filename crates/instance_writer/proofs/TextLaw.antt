@@ -4,10 +4,10 @@ use Rattle.std.proofs.Common.{arith, ℤ}
 use Rattle.std.specs.Prelude.{slice_get}
 use Rattle.json_grammar.specs.Grammar.{IsText}
 use Rattle.json_grammar.specs.Prefix.{first_past}
-use Rattle.json_laws.specs.Value.{Value}
-use Rattle.json_laws.specs.Spelling.{spell}
-use Rattle.json_laws.specs.Spellable.{IsSpellable}
-use Rattle.json_laws.specs.Placed.{placed_at}
+use Rattle.json_grammar.specs.laws.Value.{Value}
+use Rattle.json_grammar.specs.laws.Spelling.{spell}
+use Rattle.json_grammar.specs.laws.Spellable.{IsSpellable}
+use Rattle.json_grammar.specs.laws.Placed.{placed_at}
 use Rattle.instance_model.specs.declared.limits.Limits.{Limits}
 use Rattle.instance_model.specs.Fitting.{IsFitting}
 use Rattle.instance_model.specs.Tables.{Tables}

@@ -5,8 +5,8 @@ use Rattle.std.specs.Prelude.{All, is_none, nat_le}
 use Rattle.std.proofs.lemmas.Bool.{le-leb}
 use Rattle.std.proofs.lemmas.List.Elements.{All-map, All-weaker}
 use Rattle.json_grammar.specs.Tree.{tree, Node, Trees}
-use Rattle.json_laws.specs.Value.{Value}
-use Rattle.json_laws.specs.Spellable.{IsSpellableText}
+use Rattle.json_grammar.specs.laws.Value.{Value}
+use Rattle.json_grammar.specs.laws.Spellable.{IsSpellableText}
 use Rattle.decimal_numbers.specs.Exact.{fixed, whole, millionths}
 use Rattle.instance_model.specs.declared.limits.Limits.{Limits}
 use Rattle.instance_model.specs.Fitting.{IsName}

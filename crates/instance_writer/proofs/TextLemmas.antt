@@ -5,9 +5,9 @@ use Rattle.std.proofs.Common.{cond, inl, inr, arith, length, take, get_or, decim
 use Rattle.std.specs.Prelude.{replicate}
 use Rattle.std.proofs.lemmas.Bool.Decides.{nat_tests}
 use Rattle.std.proofs.lemmas.List.{append-nil, take_more, take-replicate}
-use Rattle.json_laws.specs.Value.{Value, values_of, Field, field, fields_of}
-use Rattle.json_laws.specs.Spelling.{escaped, needs_escape, quoted, spell, spell_values, spell_more_values}
-use Rattle.json_laws.specs.Spelling.{spell_fields, spell_more_fields}
+use Rattle.json_grammar.specs.laws.Value.{Value, values_of, Field, field, fields_of}
+use Rattle.json_grammar.specs.laws.Spelling.{escaped, needs_escape, quoted, spell, spell_values, spell_more_values}
+use Rattle.json_grammar.specs.laws.Spelling.{spell_fields, spell_more_fields}
 use Rattle.instance_writer.specs.text.Styles.{part_text}
 use Rattle.instance_writer.specs.text.Written.{object_of}
 use Rattle.instance_writer.specs.Steps.{separator, values_text, fields_text, is_first_after}

@@ -5,7 +5,7 @@ use Rattle.std.specs.Prelude.{All, slice_index_or, option_map}
 use Rattle.std.proofs.lemmas.Bool.{and_from, cond-true}
 use Rattle.std.proofs.lemmas.List.{take_all, length-map}
 use Rattle.json_grammar.specs.Tree.{Tree}
-use Rattle.json_laws.specs.Value.{Value, Field}
+use Rattle.json_grammar.specs.laws.Value.{Value, Field}
 use Rattle.fixed_num.specs.Sums.{list_of}
 use Rattle.instance_model.specs.declared.limits.Limits.{Limits}
 use Rattle.instance_model.specs.declared.parts.LoadCell.{LoadCell}

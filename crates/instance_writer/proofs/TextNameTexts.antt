@@ -5,7 +5,7 @@ use Rattle.std.specs.Prelude.{slice_get}
 use Rattle.std.specs.Str.{IsUtf8}
 use Rattle.std.proofs.lemmas.List.{take_all}
 use Rattle.std.proofs.lemmas.List.Elements.{All-more, All-weaker}
-use Rattle.json_laws.specs.Spellable.{IsSpellableText}
+use Rattle.json_grammar.specs.laws.Spellable.{IsSpellableText}
 use Rattle.instance_model.specs.Fitting.{AreNames}
 
 got : (names : List (List ℕ)) (i : ℕ) (x : List ℕ) → slice_get names i ≡ Some x

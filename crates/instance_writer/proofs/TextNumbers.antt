@@ -1,10 +1,10 @@
 -- How many numbers at some spots a value has in it, wherever its text begins.
 use Rattle.std.proofs.Common.{◌≡◌, ℕ, zero, suc, ◌+◌, Bool, true, false, cond, List, [], ◌∷◌, ◌++◌, map}
 use Rattle.std.proofs.Common.{length, Option, Some, None, refl, ◌∙◌, ap, arith, bytes_eq, codes}
-use Rattle.json_laws.specs.Value.{Value, Values, no_values, and_value, values_of, Field, Fields, no_fields}
-use Rattle.json_laws.specs.Value.{and_field, fields_of}
-use Rattle.json_laws.specs.Spelling.{spell, quoted}
-use Rattle.json_laws.specs.Placed.{placed_at, placed_values, placed_fields}
+use Rattle.json_grammar.specs.laws.Value.{Value, Values, no_values, and_value, values_of, Field, Fields, no_fields}
+use Rattle.json_grammar.specs.laws.Value.{and_field, fields_of}
+use Rattle.json_grammar.specs.laws.Spelling.{spell, quoted}
+use Rattle.json_grammar.specs.laws.Placed.{placed_at, placed_values, placed_fields}
 use Rattle.instance_model.specs.Naturals.{count_sum}
 use Rattle.instance_shape.specs.declared.spot.Spot.{Spot}
 use Rattle.instance_shape.specs.declared.spot.Spot.TheVariants as spot

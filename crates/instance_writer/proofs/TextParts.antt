@@ -3,9 +3,9 @@ use Rattle.std.proofs.Common.{◌≡◌, ℕ, suc, ◌<◌, ◌≤◌, true, Lis
 use Rattle.std.proofs.Common.{Some, refl, arith}
 use Rattle.std.proofs.lemmas.Bool.{ne_eqb}
 use Rattle.std.proofs.lemmas.List.Elements.{All-from_recursion}
-use Rattle.json_laws.specs.Value.{Value, Field}
-use Rattle.json_laws.specs.Spellable.{IsSpellableText}
-use Rattle.json_laws.proofs.SpelledParts.{are_printable, IsSpellableText-from_ascii}
+use Rattle.json_grammar.specs.laws.Value.{Value, Field}
+use Rattle.json_grammar.specs.laws.Spellable.{IsSpellableText}
+use Rattle.json_grammar.proofs.LawsSpelledParts.{are_printable, IsSpellableText-from_ascii}
 use Rattle.instance_model.specs.declared.limits.Limits.{Limits}
 use Rattle.instance_shape.specs.declared.fault.Known.{Known}
 use Rattle.instance_shape.specs.declared.fault.Known.TheVariants as known

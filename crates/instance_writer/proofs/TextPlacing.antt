@@ -9,9 +9,9 @@ use Rattle.std.proofs.lemmas.Bool.{cases_lt, cases_order, eq-eqb, ne_eqb}
 use Rattle.std.proofs.lemmas.Bool.{false_from_ne_true}
 use Rattle.std.proofs.lemmas.Slice.Eq.{bytes_eq-Decides}
 use Rattle.json_grammar.specs.Tree.{Tree, tree, Node}
-use Rattle.json_laws.specs.Value.{Value, values_of, Field, fields_of}
-use Rattle.json_laws.specs.Spelling.{spell, quoted}
-use Rattle.json_laws.specs.Placed.{placed_at, placed_values, placed_fields}
+use Rattle.json_grammar.specs.laws.Value.{Value, values_of, Field, fields_of}
+use Rattle.json_grammar.specs.laws.Spelling.{spell, quoted}
+use Rattle.json_grammar.specs.laws.Placed.{placed_at, placed_values, placed_fields}
 use Rattle.instance_shape.specs.declared.fault.Known.{Known}
 use Rattle.instance_shape.specs.Keys.{text_of, is_digits, number_of}
 use Rattle.instance_shape.specs.LookUp.{Entry, tree_list, elements, entry_list, entries, keys, first_value, at_key}

@@ -6,7 +6,7 @@ use Rattle.std.specs.List.{AllZip}
 use Rattle.std.proofs.lemmas.List.{append_assoc, map-append}
 use Rattle.std.proofs.lemmas.List.Elements.{All-head, All-tail}
 use Rattle.json_grammar.specs.Tree.{Tree, tree, Node}
-use Rattle.json_laws.specs.Value.{Value, Field, field}
+use Rattle.json_grammar.specs.laws.Value.{Value, Field, field}
 use Rattle.instance_shape.specs.LookUp.{Entry, elements, whole_at, text_at, count_at, differs_at, part_at}
 use Rattle.instance_shape.specs.FileTables.{lists_below, all_below, some_differs}
 use Rattle.instance_writer.specs.text.Conditions.{SpellsCount, SpellsPart}

@@ -10,7 +10,7 @@ use Rattle.std.proofs.lemmas.List.{take_all}
 use Rattle.std.proofs.lemmas.List.Sums.{position_or_len_is}
 use Rattle.std.proofs.lemmas.Slice.Eq.{bytes_eq-Decides}
 use Rattle.std.proofs.Math.Nat.{mul-le-mul_right}
-use Rattle.json_laws.specs.Value.{Value, Field, field}
+use Rattle.json_grammar.specs.laws.Value.{Value, Field, field}
 use Rattle.fixed_num.specs.Sums.{list_of}
 use Rattle.instance_model.specs.Naturals.{count_sum}
 use Rattle.instance_shape.specs.FileTables.{lists_below, number_among}

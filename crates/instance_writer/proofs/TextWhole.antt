@@ -6,8 +6,8 @@ use Rattle.std.proofs.lemmas.Bool.{lt-ltb, and_parts, cond-true}
 use Rattle.std.proofs.lemmas.List.Elements.{All-nil, All-cons, All-head, All-tail, All-get_or}
 use Rattle.std.proofs.lemmas.List.Elements.{All-from_get_or, All-from_recursion}
 use Rattle.std.proofs.Math.Nat.{mul-le-mul_right}
-use Rattle.json_laws.specs.Value.{Value, values_of}
-use Rattle.json_laws.specs.Spellable.{IsSpellableText}
+use Rattle.json_grammar.specs.laws.Value.{Value, values_of}
+use Rattle.json_grammar.specs.laws.Spellable.{IsSpellableText}
 use Rattle.fixed_num.specs.Sums.{list_of}
 use Rattle.fixed_num.proofs.SumLemmas.{get_or-list_of, length-list_of}
 use Rattle.instance_model.specs.declared.limits.Limits.{Limits}

@@ -8,8 +8,8 @@ use Rattle.std.proofs.lemmas.List.{get_or_past}
 use Rattle.std.proofs.lemmas.Bool.{cases_lt}
 use Rattle.instance_shape.proofs.ListsBelow.{all_lists, all_cond}
 use Rattle.fixed_num.specs.Sums.{list_of}
-use Rattle.json_laws.specs.Value.{Value, Field}
-use Rattle.json_laws.specs.Spelling.{spell}
+use Rattle.json_grammar.specs.laws.Value.{Value, Field}
+use Rattle.json_grammar.specs.laws.Spelling.{spell}
 use Rattle.instance_model.specs.declared.parts.LoadCell.{LoadCell}
 use Rattle.instance_model.specs.declared.parts.Exclusion.{Exclusion}
 use Rattle.instance_model.specs.Tables.{Tables, scenarios_of, durations, tmax, is_allowed, in_run, risk_of, is_cell_of}

@@ -1,7 +1,7 @@
 -- What the steps of writing an instance say. Cited by private functions only: no part of any promise.
 use Rattle.std.specs.Prelude.{ℕ, Bool, true, false, List, [], ◌∷◌, Option, slice_index_or}
-use Rattle.json_laws.specs.Value.{Value, values_of, Field, fields_of}
-use Rattle.json_laws.specs.Spelling.{spell_values, spell_more_values, spell_fields, spell_more_fields}
+use Rattle.json_grammar.specs.laws.Value.{Value, values_of, Field, fields_of}
+use Rattle.json_grammar.specs.laws.Spelling.{spell_values, spell_more_values, spell_fields, spell_more_fields}
 use Rattle.instance_model.specs.Tables.{Tables, tmax}
 use Rattle.instance_shape.specs.declared.fault.Known.TheVariants as known
 use Rattle.instance_writer.specs.text.Styles.{Style}

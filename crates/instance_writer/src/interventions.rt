@@ -1,7 +1,7 @@
 //! Interventions are put out.
 ghost use Rattle.std.specs.Prelude.{◌<◌, [], ◌∷◌, length, Some, slice_index_or};
-ghost use Rattle.json_laws.specs.Value.{field};
-ghost use Rattle.json_laws.specs.Spelling.{spell};
+ghost use Rattle.json_grammar.specs.laws.Value.{field};
+ghost use Rattle.json_grammar.specs.laws.Spelling.{spell};
 ghost use Rattle.instance_model.specs.Tables.{durations};
 ghost use Rattle.instance_writer.specs.text.Written.{whole_list, object_of, named, intervention_value};
 ghost use Rattle.instance_writer.specs.Views.{IsViewOf};

@@ -1,6 +1,6 @@
 //! Workloads are put out.
 ghost use Rattle.std.specs.Prelude.{◌≡◌, ◌+◌, ◌&&◌, ◌<◌, ◌≤◌, [], decimal, length, is_some, slice_index_or};
-ghost use Rattle.json_laws.specs.Spelling.{spell};
+ghost use Rattle.json_grammar.specs.laws.Spelling.{spell};
 ghost use Rattle.instance_model.specs.Tables.{tmax, is_allowed, in_run};
 ghost use Rattle.instance_writer.specs.text.Styles.{Style};
 ghost use Rattle.instance_writer.specs.text.Written.{object_of, optional, numbered, workload_of, workload_value};

@@ -1,7 +1,7 @@
 //! Commas, keys, names and numbers are put out.
 ghost use Rattle.std.specs.Prelude.{[], ◌∷◌, ◌++◌, decimal};
-ghost use Rattle.json_laws.specs.Value.{Value};
-ghost use Rattle.json_laws.specs.Spelling.{escaped, quoted};
+ghost use Rattle.json_grammar.specs.laws.Value.{Value};
+ghost use Rattle.json_grammar.specs.laws.Spelling.{escaped, quoted};
 ghost use Rattle.instance_writer.specs.text.Written.{whole_number, count_number};
 ghost use Rattle.instance_writer.specs.Steps.{separator, values_text};
 

@@ -1,8 +1,8 @@
 //! Resources are put out.
 ghost use Rattle.std.specs.Prelude.{◌+◌, ◌<◌, [], ◌∷◌, length, Some, slice_index_or};
 ghost use Rattle.fixed_num.specs.Sums.{list_of};
-ghost use Rattle.json_laws.specs.Value.{field};
-ghost use Rattle.json_laws.specs.Spelling.{spell};
+ghost use Rattle.json_grammar.specs.laws.Value.{field};
+ghost use Rattle.json_grammar.specs.laws.Spelling.{spell};
 ghost use Rattle.instance_model.specs.Tables.{upper_of, lower_of};
 ghost use Rattle.instance_writer.specs.text.Written.{count_list, object_of, named, resource_value};
 ghost use Rattle.instance_writer.specs.Steps.{fields_text};

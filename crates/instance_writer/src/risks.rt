@@ -5,7 +5,7 @@
 //! follows.
 ghost use Rattle.std.specs.Prelude.{◌≡◌, ◌+◌, ◌<◌, ◌≤◌, decimal, length, is_some, IsTrue};
 ghost use Rattle.fixed_num.specs.Sums.{list_of};
-ghost use Rattle.json_laws.specs.Spelling.{spell};
+ghost use Rattle.json_grammar.specs.laws.Spelling.{spell};
 ghost use Rattle.instance_model.specs.RiskNumbers.{numbers_of};
 ghost use Rattle.instance_model.specs.Tables.{tmax, is_allowed, in_run, scenarios_of, risk_of};
 ghost use Rattle.instance_writer.specs.text.Styles.{Style};

@@ -1,7 +1,7 @@
 //! Seasons are put out.
 ghost use Rattle.std.specs.Prelude.{◌≡◌, ◌+◌, ◌<◌, ◌≤◌, [], ◌∷◌, cond, length, map, Some, slice_index_or};
-ghost use Rattle.json_laws.specs.Value.{field};
-ghost use Rattle.json_laws.specs.Spelling.{spell};
+ghost use Rattle.json_grammar.specs.laws.Value.{field};
+ghost use Rattle.json_grammar.specs.laws.Spelling.{spell};
 ghost use Rattle.instance_model.specs.Tables.{in_season_of};
 ghost use Rattle.instance_writer.specs.text.Written.{whole_number, object_of, named, season_value};
 ghost use Rattle.instance_writer.specs.Steps.{fields_text, values_text, is_first_after};

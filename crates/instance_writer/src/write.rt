@@ -1,7 +1,7 @@
 //! An instance is written, and the length of its text.
 ghost use Rattle.std.specs.Prelude.{◌≡◌, false, length, IfOk, IsTrue};
 ghost use Rattle.plan_desk.specs.Written.{WritesText};
-ghost use Rattle.json_laws.specs.Spelling.{spell};
+ghost use Rattle.json_grammar.specs.laws.Spelling.{spell};
 ghost use Rattle.instance_writer.specs.text.Styles.{decimals};
 ghost use Rattle.instance_writer.specs.text.Written.{whole_list, instance_text};
 ghost use Rattle.instance_writer.specs.Steps.{fields_text, number_fields};

@@ -7,26 +7,26 @@ use Rattle.std.proofs.Common.{inr, refl, sym, ◌∙◌, ap, subst, arith}
 use Rattle.std.proofs.lemmas.List.{drop-drop}
 use Rattle.std.proofs.lemmas.List.Sums.{prefix_len-le-length}
 use Rattle.json_events.specs.Counts.{IsNextCount}
-use Rattle.json_grammar.specs.Stream.{IsNextDue, IsNextOfEach}
-use Rattle.json_grammar.specs.Events.{event_view}
 use Rattle.decimal_numbers.specs.Exact.{fixed}
-use Rattle.json_laws.specs.Machine as machine
-use Rattle.json_laws.specs.Machine.{State, st, want, first, is_blank, run}
-use Rattle.json_laws.specs.Reads.{HasRead}
 use Rattle.json_machine.specs.Machines.{state_of, levels_of, mode_of, IsSound}
 use Rattle.json_machine.specs.NumberRuns.{TakesWithEnd}
 use Rattle.json_events.specs.PullViews.{PullView}
 use Rattle.json_events.specs.Pulls.{Stands, StandsForSome, MachineHolds, view_of}
 use Rattle.json_events.specs.CountedNumbers.{TellsCount, IsCounted}
 use Rattle.json_events.specs.Steps.{IsNext, IsIdle}
-use Rattle.json_grammar.specs.Tree.{Event}
-use Rattle.json_grammar.specs.declared.event.Event as json
 use Rattle.json_events.specs.Unreads.{unread_of}
 use Rattle.json_machine.specs.declared.machine.Machine.{Machine}
 use Rattle.json_machine.specs.declared.machine.Mode.TheVariants.{Want, First}
 use Rattle.json_events.specs.declared.pull.Pull.TheInside.{Inside}
 use Rattle.json_events.specs.declared.unread.Unread.{Unread}
-use Rattle.json_laws.proofs.Forward.{Waits, in_want, in_first}
+use Rattle.json_grammar.specs.Stream.{IsNextDue, IsNextOfEach}
+use Rattle.json_grammar.specs.Events.{event_view}
+use Rattle.json_grammar.specs.laws.Machine as machine
+use Rattle.json_grammar.specs.laws.Machine.{State, st, want, first, is_blank, run}
+use Rattle.json_grammar.specs.laws.Reads.{HasRead}
+use Rattle.json_grammar.specs.Tree.{Event}
+use Rattle.json_grammar.specs.declared.event.Event as json
+use Rattle.json_grammar.proofs.LawsForward.{Waits, in_want, in_first}
 use Rattle.json_events.proofs.ReadingLemmas.{quiet_read, ended_read, rest_behind}
 use Rattle.json_machine.proofs.PlainNumbers.{value_mode}
 use Rattle.json_machine.proofs.Runs.{blanks_taken}

@@ -6,22 +6,22 @@ use Rattle.std.proofs.Common.{inl, inr, length-append, length-drop, add-one, ari
 use Rattle.std.proofs.Math.Seq.{take-add, drop-cons}
 use Rattle.std.proofs.lemmas.List.{get_or-drop, drop-drop, length-take-le}
 use Rattle.std.proofs.lemmas.Bool.Decides.{nat_tests}
-use Rattle.json_grammar.specs.Grammar.{AreDigits, IsInt, IsFrac, IsExp, parts, HasParts}
-use Rattle.json_grammar.specs.Bytes.{is_digit}
 use Rattle.decimal_numbers.specs.Decimal.{number, number_from}
 use Rattle.decimal_numbers.specs.Exact.{fixed, fixed_parts}
-use Rattle.json_laws.specs.Machine.{Phase}
 use Rattle.json_machine.specs.NumberRuns.{BeginsNumber}
 use Rattle.decimal_numbers.specs.Scaling.{FitsOneWord}
 use Rattle.json_events.specs.CountedNumbers.{WritesDigits, IsWhole, IsEndedRun, IsCountedRun}
-use Rattle.json_grammar.specs.Token.{digit_count}
 use Rattle.decimal_numbers.proofs.Capped.{joined}
 use Rattle.decimal_numbers.proofs.ExactLaws.{counted_is}
-use Rattle.json_laws.proofs.Forward.{AfterWhole}
-use Rattle.json_grammar.proofs.Digits.{digit}
 use Rattle.decimal_numbers.proofs.OneWord.{short_rounds, fraction_room, size_small}
 use Rattle.json_machine.proofs.PlainNumbers.{whole_begins, zero_begins, fraction_ends, number_then}
 use Rattle.decimal_numbers.proofs.Rounding.{below, from_append}
+use Rattle.json_grammar.specs.Grammar.{AreDigits, IsInt, IsFrac, IsExp, parts, HasParts}
+use Rattle.json_grammar.specs.Bytes.{is_digit}
+use Rattle.json_grammar.specs.laws.Machine.{Phase}
+use Rattle.json_grammar.specs.Token.{digit_count}
+use Rattle.json_grammar.proofs.LawsForward.{AfterWhole}
+use Rattle.json_grammar.proofs.Digits.{digit}
 use Rattle.json_grammar.proofs.Tokens.{parts_found}
 
 -- the first digits are digits

@@ -4,8 +4,8 @@ use Rattle.std.proofs.Common.{◌≡◌, ℕ, ◌+◌, ◌≤◌, ◌<◌, List,
 use Rattle.std.proofs.Common.{subst, append-nil, append_assoc, length-drop, arith}
 use Rattle.std.proofs.lemmas.List.{drop-drop}
 use Rattle.json_grammar.specs.Tree.{Event}
-use Rattle.json_laws.specs.Machine.{Mode, st, want, first, go, after_step}
-use Rattle.json_laws.specs.Reads.{HasRead}
+use Rattle.json_grammar.specs.laws.Machine.{Mode, st, want, first, go, after_step}
+use Rattle.json_grammar.specs.laws.Reads.{HasRead}
 use Rattle.json_machine.specs.Machines.{state_of, levels_of, mode_of, IsSound}
 use Rattle.json_machine.specs.NumberRuns.{TakesWithEnd, AwaitsItem}
 use Rattle.json_machine.proofs.PlainNumbers.{number_ended, value_mode}

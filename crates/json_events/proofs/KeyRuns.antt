@@ -8,7 +8,7 @@ use Rattle.std.proofs.lemmas.Bool.Decides.{nat_tests}
 use Rattle.std.proofs.lemmas.List.{get_or-drop, length-take-le}
 use Rattle.json_grammar.specs.Bytes.{is_digit}
 use Rattle.json_grammar.specs.Token.{digit_count}
-use Rattle.json_laws.specs.Machine.{is_plain}
+use Rattle.json_grammar.specs.laws.Machine.{is_plain}
 use Rattle.json_events.specs.CountedNumbers.{WritesDigits}
 use Rattle.json_events.specs.NumberKeys.{IsKeyRun}
 use Rattle.json_events.proofs.CountedNumbers.{whole_below}

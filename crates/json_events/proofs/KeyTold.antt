@@ -4,10 +4,10 @@ use Rattle.std.specs.List.{prefix_len}
 use Rattle.std.proofs.Common.{◌≡◌, ℕ, ◌+◌, List, [], ◌∷◌, ◌++◌, take, drop, None, false, inl, inr}
 use Rattle.std.proofs.Common.{sym, subst, arith}
 use Rattle.json_grammar.specs.Tree.{key}
-use Rattle.json_laws.specs.Machine as machine
-use Rattle.json_laws.specs.Machine.{first_key, next_key, is_blank}
-use Rattle.json_laws.specs.Reads.{HasRead}
-use Rattle.json_laws.proofs.Forward.{Waits, in_first_key, in_next_key}
+use Rattle.json_grammar.specs.laws.Machine as machine
+use Rattle.json_grammar.specs.laws.Machine.{first_key, next_key, is_blank}
+use Rattle.json_grammar.specs.laws.Reads.{HasRead}
+use Rattle.json_grammar.proofs.LawsForward.{Waits, in_first_key, in_next_key}
 use Rattle.json_machine.specs.Machines.{state_of, levels_of, mode_of, IsSound}
 use Rattle.json_machine.specs.NumberRuns.{TakesNumber}
 use Rattle.json_machine.specs.declared.machine.Machine.{Machine}

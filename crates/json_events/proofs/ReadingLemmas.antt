@@ -1,23 +1,24 @@
 -- What each way to read on comes to.
 use Rattle.std.specs.Prelude.{slice_get}
-use Rattle.std.proofs.Common.{◌≡◌, ℕ, ◌+◌, ◌≤◌, ◌<◌, List, [], ◌∷◌, ◌++◌, length, take, drop, get_or, Bool, Option, Some}
+use Rattle.std.proofs.Common.{◌≡◌, ℕ, ◌+◌, ◌≤◌, ◌<◌, List, [], ◌∷◌, ◌++◌, length, take, drop, get_or, Bool, Option}
+use Rattle.std.proofs.Common.{Some}
 use Rattle.std.proofs.Common.{None, Ok, refl, sym, ◌∙◌, ap, subst, length-drop, arith}
 use Rattle.std.proofs.lemmas.Option.{get_or_from_slice_get, slice_get_within}
 use Rattle.std.proofs.lemmas.List.{get_or-drop, drop-drop}
-use Rattle.json_grammar.specs.Tree.{Event}
-use Rattle.json_grammar.specs.Prefix.{IsSyntaxFault, IsDepthFault, IsShallow}
-use Rattle.json_laws.specs.Machine.{State, step, run}
 use Rattle.json_machine.specs.Machines.{state_of, levels_of, IsSound}
 use Rattle.json_machine.specs.NumberRuns.{TakesNumber, TakesWithEnd}
 use Rattle.json_events.specs.Unreads.{unread_of}
-use Rattle.json_laws.specs.Reads.{HasRead}
 use Rattle.json_events.specs.Readings.{HasTold, HasStopped, ReadsOn, IsTelling, told_events}
 use Rattle.json_machine.specs.declared.machine.Machine.{Machine}
 use Rattle.json_events.specs.declared.unread.Unread.{Unread}
 use Rattle.json_events.specs.declared.up_to_event.Reading.{Reading}
 use Rattle.json_events.specs.declared.up_to_event.Reading.TheVariants.{Quiet, Used, One, Two, Refused, TooDeep}
 use Rattle.json_machine.proofs.PlainNumbers.{with_end}
-use Rattle.json_laws.proofs.Reach.{read_levels, read_next, read_run, read_refused, read_deep}
+use Rattle.json_grammar.specs.Tree.{Event}
+use Rattle.json_grammar.specs.Prefix.{IsSyntaxFault, IsDepthFault, IsShallow}
+use Rattle.json_grammar.specs.laws.Machine.{State, step, run}
+use Rattle.json_grammar.specs.laws.Reads.{HasRead}
+use Rattle.json_grammar.proofs.LawsReach.{read_levels, read_next, read_run, read_refused, read_deep}
 
 -- the first byte of the rest
 record First (stream : List ℕ) (at b : ℕ) : Type 0 where

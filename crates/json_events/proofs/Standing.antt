@@ -8,25 +8,13 @@ use Rattle.std.proofs.lemmas.List.{drop-append-le, drop-drop, length-take-le, ta
 use Rattle.std.proofs.Math.Nat.{eq-or-lt_of_le}
 use Rattle.std.proofs.Math.Seq.{drop-append_seam}
 use Rattle.std.specs.declared.alloc.AllocError.{AllocError}
-use Rattle.json_grammar.specs.Tree as json
-use Rattle.json_grammar.specs.Tree.{Tree, events_of}
-use Rattle.json_grammar.specs.Grammar.{IsText}
-use Rattle.json_grammar.specs.Events.{event_view}
-use Rattle.json_grammar.specs.Prefix.{IsSyntaxFault, IsShallow}
-use Rattle.json_grammar.specs.Stream.{IsShallowPrefix, IsDueCount, IsGivenText}
-use Rattle.json_laws.specs.Machine.{State, want, st, run, ending}
 use Rattle.json_machine.specs.Machines.{state_of, event_of, IsSound}
-use Rattle.json_laws.specs.Sound.{AreSound}
 use Rattle.json_events.specs.Unreads.{unread_of}
-use Rattle.json_laws.specs.Reads.{HasRead}
 use Rattle.json_events.specs.Readings.{HasTold, HasStopped, ReadsOn}
 use Rattle.json_events.specs.PullViews.{PullView}
 use Rattle.json_events.specs.Pulls.{Stands, StandsIn, IsReading, IsFaulty, IsOver, HasFault, MachineHolds}
 use Rattle.json_events.specs.Pulls.{StandsForSome, view_of}
 use Rattle.json_events.specs.Steps.{IsNext, IsFault, IsIdle, IsUsedUp, IsLast, Steps, Concludes}
-use Rattle.json_grammar.specs.declared.event.Event.{Event}
-use Rattle.json_grammar.specs.declared.fault.TextFault.{TextFault}
-use Rattle.json_grammar.specs.declared.fault.TextFault.TheVariants.{Syntax, TooDeep, Memory}
 use Rattle.json_machine.specs.declared.raw_event.RawEvent as raw
 use Rattle.json_machine.specs.declared.machine.Machine.{Machine}
 use Rattle.json_events.specs.declared.unread.Unread.{Unread}
@@ -38,11 +26,24 @@ use Rattle.json_events.specs.declared.pull.Step.{Step}
 use Rattle.json_events.specs.declared.pull.Pull.TheInside.{Inside}
 use Rattle.json_events.specs.declared.up_to_event.Reading as reading
 use Rattle.json_events.specs.declared.up_to_event.Reading.TheVariants as reads
-use Rattle.json_laws.proofs.Laws.{last_sound, text_sound, one_tree}
-use Rattle.json_laws.proofs.Stays.{syntax_stays, shallow_stays, depth_stays}
-use Rattle.json_laws.proofs.Reach.{IsWhole, read_none, read_pushed, read_short, read_whole, told_sound}
-use Rattle.json_laws.proofs.Dues.{next_due, next_of_each, due_told, due_whole, sound_syntax, sound_depth, sound_end}
-use Rattle.json_laws.proofs.Dues.{no_text_at_syntax, no_text_at_depth}
+use Rattle.json_grammar.specs.Tree as json
+use Rattle.json_grammar.specs.Tree.{Tree, events_of}
+use Rattle.json_grammar.specs.Grammar.{IsText}
+use Rattle.json_grammar.specs.Events.{event_view}
+use Rattle.json_grammar.specs.Prefix.{IsSyntaxFault, IsShallow}
+use Rattle.json_grammar.specs.Stream.{IsShallowPrefix, IsDueCount, IsGivenText}
+use Rattle.json_grammar.specs.laws.Machine.{State, want, st, run, ending}
+use Rattle.json_grammar.specs.laws.Sound.{AreSound}
+use Rattle.json_grammar.specs.laws.Reads.{HasRead}
+use Rattle.json_grammar.specs.declared.event.Event.{Event}
+use Rattle.json_grammar.specs.declared.fault.TextFault.{TextFault}
+use Rattle.json_grammar.specs.declared.fault.TextFault.TheVariants.{Syntax, TooDeep, Memory}
+use Rattle.json_grammar.proofs.LawsOfTexts.{last_sound, text_sound, one_tree}
+use Rattle.json_grammar.proofs.LawsStays.{syntax_stays, shallow_stays, depth_stays}
+use Rattle.json_grammar.proofs.LawsReach.{IsWhole, read_none, read_pushed, read_short, read_whole, told_sound}
+use Rattle.json_grammar.proofs.LawsDues.{next_due, next_of_each, due_told, due_whole, sound_syntax, sound_depth}
+use Rattle.json_grammar.proofs.LawsDues.{sound_end}
+use Rattle.json_grammar.proofs.LawsDues.{no_text_at_syntax, no_text_at_depth}
 
 -- in each stage
 pub stands_reading : (v : PullView) (stream : List ℕ) (given : ℕ) (finished : Bool) → v.finished ≡ finished

@@ -3,12 +3,12 @@ use Rattle.std.specs.Prelude.{◌≡◌, ℕ, ◌+◌, ◌≤◌, ◌<◌, ◌�
 use Rattle.std.specs.Prelude.{map, not, true, false, Some}
 use Rattle.std.specs.List.{prefix_len}
 use Rattle.std.specs.Simd.Lanes.{mask_l}
-use Rattle.json_grammar.specs.Tree as json
 use Rattle.decimal_numbers.specs.Decimal.{number_from}
 use Rattle.decimal_numbers.specs.Exact.{fixed}
-use Rattle.json_laws.specs.Machine.{Phase, is_blank}
 use Rattle.json_machine.specs.NumberRuns.{BeginsNumber}
 use Rattle.json_events.specs.Readings.{HasTold}
+use Rattle.json_grammar.specs.Tree as json
+use Rattle.json_grammar.specs.laws.Machine.{Phase, is_blank}
 use Rattle.json_grammar.specs.Token.{digit_count}
 use Rattle.json_grammar.specs.Bytes.{is_digit}
 use Rattle.json_machine.specs.declared.machine.Machine.{Machine}

@@ -2,15 +2,15 @@
 -- over the machine, is no part of any promise.
 use Rattle.std.specs.Prelude.{◌≡◌, ℕ, ◌+◌, ◌≤◌, ◌<◌, ◌⊎◌, List, length, drop, Bool, true, false, None, Result, Ok, Err}
 use Rattle.std.specs.Option.{option_map, option_to_list}
+use Rattle.json_events.specs.PullViews.{PullView}
+use Rattle.json_machine.specs.Machines.{state_of, IsSound}
+use Rattle.json_events.specs.Unreads.{unread_of}
 use Rattle.json_grammar.specs.Tree as json
 use Rattle.json_grammar.specs.Grammar.{IsText}
 use Rattle.json_grammar.specs.Events.{event_view}
 use Rattle.json_grammar.specs.Prefix.{IsSyntaxFault, IsShallow, IsDepthFault, first_past}
-use Rattle.json_laws.specs.Machine.{State}
-use Rattle.json_events.specs.PullViews.{PullView}
-use Rattle.json_machine.specs.Machines.{state_of, IsSound}
-use Rattle.json_laws.specs.Reads.{HasRead}
-use Rattle.json_events.specs.Unreads.{unread_of}
+use Rattle.json_grammar.specs.laws.Machine.{State}
+use Rattle.json_grammar.specs.laws.Reads.{HasRead}
 use Rattle.json_grammar.specs.declared.fault.TextFault.{TextFault}
 use Rattle.json_grammar.specs.declared.fault.TextFault.TheVariants.{Syntax, TooDeep, Memory}
 use Rattle.json_machine.specs.declared.machine.Machine.{Machine}

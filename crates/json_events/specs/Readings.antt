@@ -3,8 +3,8 @@ use Rattle.std.specs.Prelude.{◌≡◌, ℕ, ◌<◌, List, [], ◌∷◌, ◌+
 use Rattle.std.specs.declared.alloc.AllocError.{AllocError}
 use Rattle.json_grammar.specs.Tree as json
 use Rattle.json_grammar.specs.Prefix.{IsSyntaxFault, IsShallow, IsDepthFault}
-use Rattle.json_laws.specs.Machine.{State}
-use Rattle.json_laws.specs.Reads.{HasRead}
+use Rattle.json_grammar.specs.laws.Machine.{State}
+use Rattle.json_grammar.specs.laws.Reads.{HasRead}
 use Rattle.json_machine.specs.Machines.{state_of, event_of, IsSound}
 use Rattle.json_events.specs.Unreads.{unread_of}
 use Rattle.json_machine.specs.declared.machine.Machine.{Machine}

@@ -1,14 +1,14 @@
 -- What the private functions of a `Pull` answer. Not part of any promise: only they cite it.
 use Rattle.std.specs.Prelude.{◌≡◌, ℕ, ◌+◌, ◌<◌, ◌⊎◌, List, length, slice_get, Bool, true, Some, None, Result, Ok, Err}
 use Rattle.std.specs.declared.alloc.AllocError.{AllocError}
+use Rattle.json_events.specs.PullViews.{PullView}
+use Rattle.json_events.specs.Pulls.{Stands, HasFault}
 use Rattle.json_grammar.specs.Tree as json
 use Rattle.json_grammar.specs.Grammar.{IsText}
 use Rattle.json_grammar.specs.Events.{event_view}
 use Rattle.json_grammar.specs.Prefix.{IsSyntaxFault, IsShallow}
 use Rattle.json_grammar.specs.Stream.{IsNextDue, IsDueCount, IsNextOfEach, IsGivenText}
-use Rattle.json_laws.specs.Reads.{HasRead}
-use Rattle.json_events.specs.PullViews.{PullView}
-use Rattle.json_events.specs.Pulls.{Stands, HasFault}
+use Rattle.json_grammar.specs.laws.Reads.{HasRead}
 use Rattle.json_grammar.specs.declared.fault.TextFault.{TextFault}
 use Rattle.json_grammar.specs.declared.fault.TextFault.TheVariants.{Syntax, TooDeep, Memory}
 use Rattle.json_events.specs.declared.pull.Pulled.{Pulled}

@@ -2,7 +2,7 @@
 
 ghost use Rattle.std.specs.Prelude.{◌≡◌, ◌≤◌, [], length, IfSome, pos};
 ghost use Rattle.std.specs.List.{prefix_len};
-ghost use Rattle.json_laws.specs.Machine.{is_blank};
+ghost use Rattle.json_grammar.specs.laws.Machine.{is_blank};
 ghost use Rattle.json_events.specs.CountedNumbers.{IsCountedItem, IsCountedRun, AreCountedRuns};
 
 use crate::counted_number::{CountedRun, counted_number};

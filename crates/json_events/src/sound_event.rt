@@ -1,9 +1,9 @@
 //! Events of the machine, with their texts and numbers.
 
 ghost use Rattle.std.specs.Prelude.{◌≡◌};
-ghost use Rattle.json_grammar.specs.Events.{event_view};
 ghost use Rattle.json_machine.specs.Machines.{event_of};
-ghost use Rattle.json_laws.specs.Sound.{IsSoundEvent};
+ghost use Rattle.json_grammar.specs.Events.{event_view};
+ghost use Rattle.json_grammar.specs.laws.Sound.{IsSoundEvent};
 
 use json_grammar::{Event, NumText, Text};
 use json_machine::RawEvent;

@@ -5,7 +5,7 @@ ghost use Rattle.std.specs.Prelude.{false, length, take, drop, pos, [], ◌∷�
 ghost use Rattle.std.specs.Option.{option_map, option_to_list};
 ghost use Rattle.json_grammar.specs.Tree as json;
 ghost use Rattle.json_grammar.specs.Events.{event_view};
-ghost use Rattle.json_laws.specs.Machine.{State};
+ghost use Rattle.json_grammar.specs.laws.Machine.{State};
 ghost use Rattle.json_machine.specs.Machines.{IsSound, state_of, answer_of};
 ghost use Rattle.json_machine.specs.NumberRuns.{TakesNumber, TakesWithEnd};
 ghost use Rattle.json_events.specs.NumberKeys.{IsKeyRun, TellsKey};

@@ -1,3 +1,4 @@
+-- What the contracts cite.
 pub mod Tree
 pub mod Grammar
 pub mod Prefix
@@ -7,3 +8,4 @@ pub mod Split
 pub mod Trees
 pub mod Events
 pub mod Stream
+pub mod laws

@@ -6,21 +6,22 @@ use Rattle.std.proofs.Common.{append-nil, arith, length-drop}
 use Rattle.std.proofs.Math.Seq.{take-add}
 use Rattle.std.proofs.lemmas.List.{take_all}
 use Rattle.std.proofs.lemmas.Bool.Decides.{nat_tests}
-use Rattle.json_grammar.specs.Tree.{Event}
-use Rattle.json_grammar.specs.Grammar.{IsDigit}
-use Rattle.json_grammar.specs.Token.{digit_count}
-use Rattle.json_laws.specs.Machine.{State, st, Move, close, Phase, Mode, next_key, want, first, after, number, go}
-use Rattle.json_laws.specs.Machine.{may_end, step, value_step}
-use Rattle.json_laws.specs.Machine.{after_step, phase_step, is_within_digits, is_digit, run, run_then}
 use Rattle.json_machine.specs.Machines.{mode_of}
 use Rattle.json_machine.specs.declared.machine.Mode as modes
 use Rattle.json_machine.specs.declared.machine.Mode.TheVariants.{Want, First}
 use Rattle.json_machine.specs.NumberRuns.{GoesOn, EndsNumber, BeginsNumber, TakesNumber, TakesWithEnd}
-use Rattle.json_laws.proofs.Forward.{number_goes, AfterWhole, minus_digit, minus_zero, may_fraction, point_digit}
-use Rattle.json_laws.proofs.Forward.{number_stops}
-use Rattle.json_grammar.proofs.Digits.{digit as digit_of}
 use Rattle.json_machine.proofs.Runs.{digits_taken}
-use Rattle.json_laws.proofs.Reach.{run_append}
+use Rattle.json_grammar.specs.Tree.{Event}
+use Rattle.json_grammar.specs.Grammar.{IsDigit}
+use Rattle.json_grammar.specs.Token.{digit_count}
+use Rattle.json_grammar.specs.laws.Machine.{State, st, Move, close, Phase, Mode, next_key, want, first, after, number}
+use Rattle.json_grammar.specs.laws.Machine.{go}
+use Rattle.json_grammar.specs.laws.Machine.{may_end, step, value_step}
+use Rattle.json_grammar.specs.laws.Machine.{after_step, phase_step, is_within_digits, is_digit, run, run_then}
+use Rattle.json_grammar.proofs.LawsForward.{number_goes, AfterWhole, minus_digit, minus_zero, may_fraction, point_digit}
+use Rattle.json_grammar.proofs.LawsForward.{number_stops}
+use Rattle.json_grammar.proofs.Digits.{digit as digit_of}
+use Rattle.json_grammar.proofs.LawsReach.{run_append}
 
 -- what follows the first bytes, as a slice has it
 pub behind : (n : ℕ) (bs : List ℕ) → take (length bs - n) (drop n bs) ≡ drop n bs

@@ -6,7 +6,6 @@ use Rattle.std.proofs.Common.{Result, Ok, Err, IfOk, OnOk, refl, sym, ◌∙◌,
 use Rattle.std.proofs.lemmas.List.{length-take-le}
 use Rattle.std.specs.declared.alloc.AllocError.{AllocError}
 use Rattle.std.proofs.lemmas.Bool.Decides.{nat_tests}
-use Rattle.json_grammar.specs.Token.{digit_count}
 use Rattle.json_machine.specs.Views.{phase_of, within_of}
 use Rattle.json_machine.specs.Machines.{levels_of, mode_of, state_of, ModeHolds, HasEmptyToken, IsNear}
 use Rattle.json_machine.specs.declared.phase.Phase as rust
@@ -16,10 +15,13 @@ use Rattle.json_machine.specs.declared.machine.Mode as modes
 use Rattle.json_machine.specs.declared.machine.Mode.TheVariants.{Want, First, FirstKey, NextKey, Colon, After, Literal}
 use Rattle.json_machine.specs.declared.machine.Mode.TheVariants.{Number, Str}
 use Rattle.json_machine.specs.declared.machine.Machine.{Machine}
-use Rattle.json_laws.specs.Machine as machine
-use Rattle.json_laws.proofs.Forward.{Waits, in_want, in_first, in_first_key, in_next_key, in_colon, in_after, waits}
-use Rattle.json_laws.specs.Machine.{may_close, is_blank, st, Mode, Phase, number, string, plain, step, inside_step, go}
-use Rattle.json_laws.specs.Machine.{run, phase_step, is_within_digits, is_digit, is_plain}
+use Rattle.json_grammar.specs.Token.{digit_count}
+use Rattle.json_grammar.specs.laws.Machine as machine
+use Rattle.json_grammar.proofs.LawsForward.{Waits, in_want, in_first, in_first_key, in_next_key, in_colon, in_after}
+use Rattle.json_grammar.proofs.LawsForward.{waits}
+use Rattle.json_grammar.specs.laws.Machine.{may_close, is_blank, st, Mode, Phase, number, string, plain, step}
+use Rattle.json_grammar.specs.laws.Machine.{inside_step, go}
+use Rattle.json_grammar.specs.laws.Machine.{run, phase_step, is_within_digits, is_digit, is_plain}
 
 -- one byte after another, where each lengthens the token
 lengthened : (test : ℕ → Bool) (mode : List ℕ → Mode) (levels : List Bool)

@@ -5,8 +5,9 @@ use Rattle.std.proofs.Common.{◌≡◌, ℕ, suc, ◌+◌, ◌<◌, List, [], �
 use Rattle.std.proofs.Common.{inr, refl, sym, ◌∙◌, ap, arith}
 use Rattle.std.proofs.Math.Seq.{drop-cons}
 use Rattle.json_grammar.specs.Tree.{key}
-use Rattle.json_laws.specs.Machine.{State, st, Mode, first_key, next_key, colon, string, plain, is_plain, step, go}
-use Rattle.json_laws.specs.Machine.{tell, run, run_then}
+use Rattle.json_grammar.specs.laws.Machine.{State, st, Mode, first_key, next_key, colon, string, plain, is_plain, step}
+use Rattle.json_grammar.specs.laws.Machine.{go}
+use Rattle.json_grammar.specs.laws.Machine.{tell, run, run_then}
 use Rattle.json_machine.specs.Machines.{mode_of}
 use Rattle.json_machine.specs.NumberRuns.{TakesNumber}
 use Rattle.json_machine.specs.declared.machine.Mode as modes

@@ -1,8 +1,8 @@
 -- The machine's words for the reader's values. Not part of any promise: only private functions cite it.
 use Rattle.std.specs.Prelude.{◌≡◌, ℕ, ◌+◌, ◌<◌, ◌≤◌, length, List, [], ◌∷◌, reverse, Bool, true, false, Option, Some}
 use Rattle.std.specs.Prelude.{None}
-use Rattle.json_laws.specs.Machine as machine
-use Rattle.json_laws.specs.Machine.{State, st, Move}
+use Rattle.json_grammar.specs.laws.Machine as machine
+use Rattle.json_grammar.specs.laws.Machine.{State, st, Move}
 use Rattle.json_grammar.specs.Tree as tree
 use Rattle.json_machine.specs.Views.{phase_of, within_of, Holds}
 use Rattle.json_machine.specs.declared.literal_token.Begun.{Begun}

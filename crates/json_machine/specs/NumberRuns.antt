@@ -4,8 +4,8 @@ use Rattle.std.specs.Prelude.{true, Some}
 use Rattle.std.specs.List.{prefix_len}
 use Rattle.json_grammar.specs.Tree as json
 use Rattle.json_grammar.specs.Grammar.{IsDigit}
-use Rattle.json_laws.specs.Machine.{State, st, Phase, want, number, minus, may_end, go, step, after_step, run}
-use Rattle.json_laws.specs.Machine.{is_plain}
+use Rattle.json_grammar.specs.laws.Machine.{State, st, Phase, want, number, minus, may_end, go, step, after_step, run}
+use Rattle.json_grammar.specs.laws.Machine.{is_plain}
 use Rattle.json_machine.specs.Machines.{levels_of}
 use Rattle.json_machine.specs.declared.machine.Machine.{Machine}
 use Rattle.json_machine.specs.declared.machine.Mode.TheVariants.{Want, First}

@@ -1,7 +1,7 @@
 -- The machine's words for Rust's values inside a token. Not part of any promise: only private functions cite it.
 use Rattle.std.specs.Prelude.{ℕ, ◌≤◌, ◌<◌, ◌⊎◌, List, [], ◌∷◌, cond, Option, Some, None}
 use Rattle.std.specs.Char.{encode_utf8, digit_value}
-use Rattle.json_laws.specs.Machine as machine
+use Rattle.json_grammar.specs.laws.Machine as machine
 use Rattle.json_machine.specs.declared.phase.Phase.{Phase}
 use Rattle.json_machine.specs.declared.phase.Phase.TheVariants.{Minus, LoneZero, Whole, Point, Fraction, Mark, Sign}
 use Rattle.json_machine.specs.declared.phase.Phase.TheVariants.{Exponent}

@@ -2,7 +2,7 @@
 
 ghost use Rattle.std.specs.Prelude.{◌≡◌};
 ghost use Rattle.std.specs.List.{prefix_len};
-ghost use Rattle.json_laws.specs.Machine as machine;
+ghost use Rattle.json_grammar.specs.laws.Machine as machine;
 
 pub(crate) fn is_blank(byte: u8) -> bool
     ensures { result ≡ machine.is_blank byte }

@@ -2,7 +2,7 @@
 
 ghost use Rattle.std.specs.Prelude.{◌≡◌, ℕ, ◌+◌};
 ghost use Rattle.json_machine.specs.Machines.{state_of, levels_of, answer_of, begun_of, IsSound, AnswerNear};
-ghost use Rattle.json_laws.specs.Machine.{step};
+ghost use Rattle.json_grammar.specs.laws.Machine.{step};
 
 use crate::machine::{Machine, Mode};
 use crate::raw_event::{Answer, RawEvent};
@@ -24,7 +24,7 @@ pub enum Begun {
 
 impl Machine {
     /// The byte behind those of a word.
-    #[tactic(auto, unfolding(json_laws::specs::Machine::step))]
+    #[tactic(auto, unfolding(json_grammar::specs::laws::Machine::step))]
     pub(crate) fn literal_step(&mut self, byte: u8, begun: Begun) -> Answer
         requires mode { self.old.mode ≡ Mode.Literal begun }
         ensures moves { (k : ℕ) → step k (levels_of self.old.levels.items) (begun_of begun self.old.at) byte

@@ -4,8 +4,8 @@ ghost use Rattle.std.specs.Prelude.{◌≡◌, [], IfOk, OnOk, OnErr, ℕ, IsTru
 ghost use Rattle.std.specs.Prelude.{◌^◌};
 ghost use Rattle.json_machine.specs.Machines.{state_of, answer_of, IsSound, SameMachine, AnswerNear, EventNear};
 ghost use Rattle.json_machine.specs.Machines.{told_last};
-ghost use Rattle.json_laws.specs.Machine as machine;
-ghost use Rattle.json_laws.specs.Machine.{step};
+ghost use Rattle.json_grammar.specs.laws.Machine as machine;
+ghost use Rattle.json_grammar.specs.laws.Machine.{step};
 
 use crate::characters::is_blank;
 use crate::literal_token::Begun;
@@ -57,7 +57,7 @@ impl Machine {
     }
 
     /// The byte at k. Behind `Refused` the machine is of no more use.
-    #[tactic(auto, unfolding(json_laws::specs::Machine::step))]
+    #[tactic(auto, unfolding(json_grammar::specs::laws::Machine::step))]
     pub fn step(&mut self, alloc: Global, k: u64, byte: u8) -> Result<Answer, AllocError>
         requires sound { IsSound k self.old }
         requires room { k + 1 < 2 ^ 64 }
@@ -108,7 +108,7 @@ impl Machine {
     }
 
     /// Whether the bytes may end here.
-    #[tactic(auto, unfolding(json_laws::specs::Machine::ending))]
+    #[tactic(auto, unfolding(json_grammar::specs::laws::Machine::ending))]
     pub fn may_finish(&self) -> bool
         ensures { result ≡ is_some (machine.ending (state_of self.now).levels (state_of self.now).mode) }
     {
@@ -123,7 +123,7 @@ impl Machine {
     }
 
     /// What is told at the end.
-    #[tactic(auto, unfolding(json_laws::specs::Machine::ending))]
+    #[tactic(auto, unfolding(json_grammar::specs::laws::Machine::ending))]
     pub fn last_event(&self, alloc: Global) -> Result<Option<RawEvent>, AllocError>
         requires { IsTrue (is_some (machine.ending (state_of self.now).levels (state_of self.now).mode)) }
         ensures tells { IfOk result (λ told. machine.ending (state_of self.now).levels (state_of self.now).mode

@@ -6,8 +6,8 @@ ghost use Rattle.json_machine.specs.Machines.{state_of, levels_of, answer_of, ev
 ghost use Rattle.json_machine.specs.Machines.{AnswerNear};
 ghost use Rattle.json_machine.specs.Views.{phase_of};
 ghost use Rattle.json_machine.specs.NumberRuns.{TakesNumber, IsBeforeComma, AwaitsItem};
-ghost use Rattle.json_laws.specs.Machine as machine;
-ghost use Rattle.json_laws.specs.Machine.{step};
+ghost use Rattle.json_grammar.specs.laws.Machine as machine;
+ghost use Rattle.json_grammar.specs.laws.Machine.{step};
 ghost use Rattle.json_grammar.specs.Tree as json;
 
 use crate::machine::{Machine, Mode};
@@ -26,7 +26,7 @@ pub struct TakenToken {
 
 impl Machine {
     /// The byte at k, behind the bytes of a number.
-    #[tactic(auto, unfolding(json_laws::specs::Machine::step))]
+    #[tactic(auto, unfolding(json_grammar::specs::laws::Machine::step))]
     pub(crate) fn number_step(
         &mut self,
         alloc: Global,

@@ -2,7 +2,7 @@
 
 ghost use Rattle.std.specs.Prelude.{◌≡◌, option_map};
 ghost use Rattle.json_machine.specs.Views.{phase_of};
-ghost use Rattle.json_laws.specs.Machine.{phase_step, may_end, is_within_digits};
+ghost use Rattle.json_grammar.specs.laws.Machine.{phase_step, may_end, is_within_digits};
 
 #[derive(Clone, Copy, Drop)]
 pub enum Phase {
@@ -17,7 +17,7 @@ pub enum Phase {
 }
 
 impl Phase {
-    #[tactic(auto, unfolding(json_laws::specs::Machine::phase_step))]
+    #[tactic(auto, unfolding(json_grammar::specs::laws::Machine::phase_step))]
     pub fn step(self, byte: u8) -> Option<Phase>
         ensures { option_map phase_of result ≡ phase_step (phase_of self) byte }
     {

@@ -2,8 +2,8 @@
 
 ghost use Rattle.std.specs.Prelude.{◌≡◌, ℕ};
 ghost use Rattle.json_machine.specs.Machines.{answer_of, event_of, IsAtMostOne, AnswerNear, EventNear};
-ghost use Rattle.json_laws.specs.Machine as machine;
-ghost use Rattle.json_laws.specs.Machine.{State};
+ghost use Rattle.json_grammar.specs.laws.Machine as machine;
+ghost use Rattle.json_grammar.specs.laws.Machine.{State};
 
 use json_grammar::Token;
 

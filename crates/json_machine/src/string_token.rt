@@ -3,8 +3,8 @@
 ghost use Rattle.std.specs.Prelude.{◌≡◌, ◌++◌, IfOk, OnOk, OnErr, ◌+◌, ◌<◌, ◌^◌};
 ghost use Rattle.json_machine.specs.Machines.{state_of, levels_of, answer_of, IsSound, SameMachine, AnswerNear};
 ghost use Rattle.json_machine.specs.Views.{Holds, within_of, bytes_of};
-ghost use Rattle.json_laws.specs.Machine as machine;
-ghost use Rattle.json_laws.specs.Machine.{step};
+ghost use Rattle.json_grammar.specs.laws.Machine as machine;
+ghost use Rattle.json_grammar.specs.laws.Machine.{step};
 
 use crate::machine::{Machine, Mode};
 use crate::raw_event::{Answer, RawEvent};
@@ -13,7 +13,7 @@ use std::alloc::{AllocError, Global};
 
 impl Machine {
     /// The byte at k, in a string.
-    #[tactic(auto, unfolding(json_laws::specs::Machine::step))]
+    #[tactic(auto, unfolding(json_grammar::specs::laws::Machine::step))]
     pub(crate) fn string_step(
         &mut self,
         alloc: Global,

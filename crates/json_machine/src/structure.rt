@@ -5,8 +5,8 @@ ghost use Rattle.std.specs.Prelude.{◌⊎◌};
 ghost use Rattle.std.specs.Prelude.{drop};
 ghost use Rattle.json_machine.specs.Machines.{state_of, mode_of, levels_of, answer_of, IsSound, SameMachine};
 ghost use Rattle.json_machine.specs.Machines.{IsAtMostOne, AnswerNear};
-ghost use Rattle.json_laws.specs.Machine as machine;
-ghost use Rattle.json_laws.specs.Machine.{step, value_step, after_step, go};
+ghost use Rattle.json_grammar.specs.laws.Machine as machine;
+ghost use Rattle.json_grammar.specs.laws.Machine.{step, value_step, after_step, go};
 
 use crate::characters::is_blank;
 use crate::literal_token::Begun;
@@ -18,7 +18,7 @@ use std::alloc::AllocError;
 
 impl Machine {
     /// The byte at k, where a value is wanted.
-    #[tactic(auto, using(crate::proofs::Levels::pushed), unfolding(json_laws::specs::Machine::value_step))]
+    #[tactic(auto, using(crate::proofs::Levels::pushed), unfolding(json_grammar::specs::laws::Machine::value_step))]
     pub(crate) fn value_step(&mut self, k: u64, byte: u8) -> Result<Answer, AllocError>
         requires { self.old.token.items ≡ [] }
         ensures sound { IsSound k self.old → OnOk result (IsSound (k + 1) self.new) }
@@ -61,7 +61,7 @@ impl Machine {
     }
 
     /// The byte at k, after a value.
-    #[tactic(auto, using(crate::proofs::Levels::levels), unfolding(json_laws::specs::Machine::after_step))]
+    #[tactic(auto, using(crate::proofs::Levels::levels), unfolding(json_grammar::specs::laws::Machine::after_step))]
     pub(crate) fn after_step(&mut self, k: u64, byte: u8) -> Answer
         ensures moves { after_step k (levels_of self.old.levels.items) byte
             ≡ answer_of result (state_of self.new) }
@@ -120,7 +120,7 @@ impl Machine {
 
     /// A byte between tokens that tells nothing: a comma or colon, as by `pass_separator`, or the quote before a key.
     /// It is a shorter way than `step`. False: the byte is left to that.
-    #[tactic(auto, using(crate::proofs::Levels::levels), unfolding(json_laws::specs::Machine::step, json_laws::specs::Machine::after_step))]
+    #[tactic(auto, using(crate::proofs::Levels::levels), unfolding(json_grammar::specs::laws::Machine::step, json_grammar::specs::laws::Machine::after_step))]
     #[inline]
     pub fn pass_between(&mut self, k: u64, byte: u8) -> bool
         requires { IsSound k self.old }
@@ -142,7 +142,7 @@ impl Machine {
 
     /// The comma behind a value that stands in a list or an object, or the colon behind a key: bytes that tell nothing.
     /// False: the byte is left to `step`.
-    #[tactic(auto, using(crate::proofs::Levels::levels), unfolding(json_laws::specs::Machine::step, json_laws::specs::Machine::after_step))]
+    #[tactic(auto, using(crate::proofs::Levels::levels), unfolding(json_grammar::specs::laws::Machine::step, json_grammar::specs::laws::Machine::after_step))]
     #[inline]
     pub fn pass_separator(&mut self, k: u64, byte: u8) -> bool
         requires { IsSound k self.old }
@@ -199,7 +199,7 @@ impl Machine {
     }
 
     /// The mode behind a comma that follows a value; none outside all brackets.
-    #[tactic(auto, using(crate::proofs::Levels::levels), unfolding(json_laws::specs::Machine::after_step))]
+    #[tactic(auto, using(crate::proofs::Levels::levels), unfolding(json_grammar::specs::laws::Machine::after_step))]
     pub(crate) fn behind_comma(&self) -> Option<Mode>
         ensures moves { IfSome result (λ mode. (k at : ℕ) (token : List ℕ) →
             after_step k (levels_of self.now.levels.items) 44

@@ -2,8 +2,8 @@
 
 ghost use Rattle.std.specs.Prelude.{◌≡◌, [], ◌++◌, Ok, false, true, Some, ℕ, ◌+◌, ◌≤◌, length, take, IfOk, OnOk, OnErr};
 ghost use Rattle.json_machine.specs.Machines.{state_of, IsSound, SameMachine};
-ghost use Rattle.json_laws.specs.Machine as machine;
-ghost use Rattle.json_laws.specs.Machine.{step, run};
+ghost use Rattle.json_grammar.specs.laws.Machine as machine;
+ghost use Rattle.json_grammar.specs.laws.Machine.{step, run};
 
 use crate::characters::{blank_count, is_plain, plain_count};
 use crate::machine::{Machine, Mode};
@@ -13,7 +13,7 @@ use std::alloc::AllocError;
 
 impl Machine {
     /// A byte within a token of which nothing is told yet: the way of most bytes. False: it is left to `step`.
-    #[tactic(auto, unfolding(json_laws::specs::Machine::step))]
+    #[tactic(auto, unfolding(json_grammar::specs::laws::Machine::step))]
     #[inline]
     pub fn quiet_step(&mut self, k: u64, byte: u8) -> Result<bool, AllocError>
         requires sound { IsSound k self.old }

@@ -3,8 +3,8 @@
 ghost use Rattle.std.specs.Prelude.{◌≡◌, ◌<◌, ◌∷◌, [], Some, None, cond, option_map, IfSome};
 ghost use Rattle.std.specs.Char.{IsScalar};
 ghost use Rattle.json_machine.specs.Views.{moved, within_of, Holds, hex_of};
-ghost use Rattle.json_laws.specs.Machine.{inside_step, may_close};
-ghost use Rattle.json_laws.specs.Machine as machine;
+ghost use Rattle.json_grammar.specs.laws.Machine.{inside_step, may_close};
+ghost use Rattle.json_grammar.specs.laws.Machine as machine;
 
 #[derive(Clone, Copy, Drop)]
 pub enum Within {
@@ -42,7 +42,7 @@ impl Within {
         matches!(self, Within::Plain)
     }
 
-    #[tactic(auto, unfolding(json_laws::specs::Machine::inside_step))]
+    #[tactic(auto, unfolding(json_grammar::specs::laws::Machine::inside_step))]
     pub fn step(self, byte: u8) -> Option<(Within, Told)>
         requires { Holds self }
         ensures moves { option_map moved result ≡ inside_step (within_of self) byte }
@@ -85,7 +85,7 @@ impl Within {
     }
 }
 
-#[tactic(auto, unfolding(json_laws::specs::Machine::inside_step))]
+#[tactic(auto, unfolding(json_grammar::specs::laws::Machine::inside_step))]
 fn plain_step(byte: u8) -> Option<(Within, Told)>
     ensures moves { option_map moved result ≡ inside_step machine.plain byte }
     ensures holds { IfSome result (λ r. Holds r.0) }
@@ -106,7 +106,7 @@ fn plain_step(byte: u8) -> Option<(Within, Told)>
 }
 
 /// A byte of UTF-8 behind the first one, with so many more behind it.
-#[tactic(auto, unfolding(json_laws::specs::Machine::inside_step))]
+#[tactic(auto, unfolding(json_grammar::specs::laws::Machine::inside_step))]
 fn tail_step(byte: u8, more: u8) -> Option<(Within, Told)>
     ensures moves { option_map moved result ≡ inside_step (machine.tails more) byte }
     ensures holds { IfSome result (λ r. Holds r.0) }
@@ -133,7 +133,7 @@ fn narrow_tail(byte: u8, low: u8, high: u8, more: u8) -> Option<(Within, Told)>
 }
 
 /// The second digit of `\u`: no low surrogate comes first.
-#[tactic(auto, unfolding(json_laws::specs::Machine::inside_step))]
+#[tactic(auto, unfolding(json_grammar::specs::laws::Machine::inside_step))]
 fn second_digit(byte: u8, value: u32) -> Option<(Within, Told)>
     requires { value < 16 }
     ensures moves { option_map moved result ≡ inside_step (machine.unit2 value) byte }
@@ -147,7 +147,7 @@ fn second_digit(byte: u8, value: u32) -> Option<(Within, Told)>
 }
 
 /// The last digit of `\u`: a high surrogate waits for a low one.
-#[tactic(auto, unfolding(json_laws::specs::Machine::inside_step))]
+#[tactic(auto, unfolding(json_grammar::specs::laws::Machine::inside_step))]
 fn last_digit(byte: u8, value: u32) -> Option<(Within, Told)>
     requires { Holds (Within.Unit4 value) }
     ensures moves { option_map moved result ≡ inside_step (machine.unit4 value) byte }
@@ -161,7 +161,7 @@ fn last_digit(byte: u8, value: u32) -> Option<(Within, Told)>
 }
 
 /// The second digit of the low surrogate: with it, it is one.
-#[tactic(auto, unfolding(json_laws::specs::Machine::inside_step))]
+#[tactic(auto, unfolding(json_grammar::specs::laws::Machine::inside_step))]
 fn second_low_digit(byte: u8, high: u32) -> Option<(Within, Told)>
     requires { Holds (Within.Low2 high) }
     ensures moves { option_map moved result ≡ inside_step (machine.low2 high) byte }
@@ -175,7 +175,7 @@ fn second_low_digit(byte: u8, high: u32) -> Option<(Within, Told)>
 }
 
 /// The last digit of the low surrogate, and the character of the pair.
-#[tactic(auto, unfolding(json_laws::specs::Machine::inside_step))]
+#[tactic(auto, unfolding(json_grammar::specs::laws::Machine::inside_step))]
 fn last_low_digit(byte: u8, high: u32, value: u32) -> Option<(Within, Told)>
     requires { Holds (Within.Low4 high value) }
     ensures moves { option_map moved result ≡ inside_step (machine.low4 high value) byte }
@@ -186,7 +186,7 @@ fn last_low_digit(byte: u8, high: u32, value: u32) -> Option<(Within, Told)>
     Some((Within::Plain, Told::Character(character(code))))
 }
 
-#[tactic(auto, unfolding(json_laws::specs::Machine::inside_step))]
+#[tactic(auto, unfolding(json_grammar::specs::laws::Machine::inside_step))]
 fn escape_step(byte: u8) -> Option<(Within, Told)>
     ensures moves { option_map moved result ≡ inside_step machine.escape byte }
     ensures holds { IfSome result (λ r. Holds r.0) }

@@ -5,7 +5,7 @@ use Rattle.json_grammar.specs.Trees.{tree_view, trees_view, member_view, members
 use Rattle.json_grammar.specs.Tree.{no_trees, and_tree, and_member}
 use Rattle.json_grammar.specs.declared.tree.Member.{Member, roll-Member, the_lemmas}
 use Rattle.json_grammar.specs.declared.tree.Tree as Rust
-use Rattle.json_laws.specs.Builder.{tree_last, member_last}
+use Rattle.json_grammar.specs.laws.Builder.{tree_last, member_last}
 use Rattle.json_tree.specs.Building.{level_of, levels_of}
 use Rattle.json_tree.specs.declared.builder.Level.{Level}
 

@@ -1,7 +1,7 @@
 -- What a builder stands for. Not part of any promise: only private functions cite it.
 use Rattle.std.specs.Prelude.{List, map, reverse, option_map, ◌<◌, ◌^◌, ◌+◌, length}
 use Rattle.json_grammar.specs.Trees.{tree_view, trees_view, members_view}
-use Rattle.json_laws.specs.Builder.{Open, open_list, open_object, open_member, Built, bt}
+use Rattle.json_grammar.specs.laws.Builder.{Open, open_list, open_object, open_member, Built, bt}
 use Rattle.json_tree.specs.declared.builder.Level.{Level}
 use Rattle.json_tree.specs.declared.builder.Level.TheVariants.{List as Listed, Object, Pair}
 use Rattle.json_machine.specs.declared.raw_event.RawEvent.{RawEvent}

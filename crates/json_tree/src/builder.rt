@@ -1,12 +1,12 @@
 //! A tree from its events.
 
 ghost use Rattle.std.specs.Prelude.{◌≡◌, [], None, OnOk, option_map, ◌<◌, ◌+◌, ◌^◌};
-ghost use Rattle.json_grammar.specs.Tree as tree;
-ghost use Rattle.json_grammar.specs.Trees.{tree_view};
-ghost use Rattle.json_laws.specs.Builder.{bt, attach, feed};
 ghost use Rattle.json_tree.specs.Building.{built_of, HasRoom};
 ghost use Rattle.std.specs.Str.{IsUtf8};
-ghost use Rattle.json_laws.specs.Sound.{IsSoundEvent};
+ghost use Rattle.json_grammar.specs.Tree as tree;
+ghost use Rattle.json_grammar.specs.Trees.{tree_view};
+ghost use Rattle.json_grammar.specs.laws.Builder.{bt, attach, feed};
+ghost use Rattle.json_grammar.specs.laws.Sound.{IsSoundEvent};
 ghost use Rattle.json_machine.specs.Machines.{event_of};
 
 use json_grammar::{Member, Node, NumText, Text, Tree};
@@ -63,7 +63,7 @@ impl Builder {
         Ok(())
     }
 
-    #[tactic(auto, using(crate::proofs::Levelling::levelling), unfolding(json_laws::specs::Builder::feed))]
+    #[tactic(auto, using(crate::proofs::Levelling::levelling), unfolding(json_grammar::specs::laws::Builder::feed))]
     pub fn feed(&mut self, alloc: Global, event: RawEvent) -> Result<(), AllocError>
         requires room { HasRoom event }
         requires sound { IsSoundEvent (event_of event) }
@@ -98,7 +98,7 @@ impl Builder {
         Ok(())
     }
 
-    #[tactic(auto, using(crate::proofs::Levelling::levelling), unfolding(json_laws::specs::Builder::feed))]
+    #[tactic(auto, using(crate::proofs::Levelling::levelling), unfolding(json_grammar::specs::laws::Builder::feed))]
     fn close(&mut self, at: u64) -> Result<(), AllocError>
         requires { at + 1 < 2 ^ 64 }
         ensures { OnOk result (built_of self.new ≡ feed (tree.finish at) (built_of self.old)) }
@@ -119,7 +119,7 @@ impl Builder {
         })
     }
 
-    #[tactic(auto, using(crate::proofs::Levelling::levelling), unfolding(json_laws::specs::Builder::feed))]
+    #[tactic(auto, using(crate::proofs::Levelling::levelling), unfolding(json_grammar::specs::laws::Builder::feed))]
     fn key(&mut self, at: u64, end: u64, bytes: Vec<u8>) -> Result<(), AllocError>
         requires { IsUtf8 bytes.items }
         ensures { OnOk result (built_of self.new ≡ feed (tree.key at end bytes.items) (built_of self.old)) }

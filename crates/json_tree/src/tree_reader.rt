@@ -2,15 +2,15 @@
 
 ghost use Rattle.std.specs.Prelude.{◌≡◌, ℕ, List, ◌<◌, ◌+◌, ◌^◌, IfOk, OnOk, Err, Some, None, IsTrue, is_some};
 ghost use Rattle.std.specs.Prelude.{option_map, MatchResult};
+ghost use Rattle.json_tree.specs.Building.{built_of};
 ghost use Rattle.json_grammar.specs.Prefix.{IsSyntaxFault, IsDepthFault, IsShallow, first_past};
 ghost use Rattle.json_grammar.specs.Grammar.{IsText};
-ghost use Rattle.json_laws.specs.Machine.{ending, step, State};
+ghost use Rattle.json_grammar.specs.laws.Machine.{ending, step, State};
 ghost use Rattle.json_grammar.specs.Tree as json;
 ghost use Rattle.json_grammar.specs.Tree.{Event};
-ghost use Rattle.json_laws.specs.Sound.{AreSound};
+ghost use Rattle.json_grammar.specs.laws.Sound.{AreSound};
 ghost use Rattle.json_grammar.specs.Trees.{tree_view};
-ghost use Rattle.json_tree.specs.Building.{built_of};
-ghost use Rattle.json_laws.specs.Builder.{Advances, Concludes};
+ghost use Rattle.json_grammar.specs.laws.Builder.{Advances, Concludes};
 ghost use Rattle.json_machine.specs.Machines.{state_of, IsSound};
 
 use crate::builder::Builder;

@@ -5,9 +5,9 @@ use Rattle.std.specs.Str.{IsUtf8}
 use Rattle.std.proofs.lemmas.List.Elements.{All-nil, All-cons, All-weaker}
 use Rattle.json_grammar.specs.Tree.{Tree, tree, Node, Members, no_members, and_member, Event, events_of}
 use Rattle.json_grammar.specs.Tree.{members_events}
-use Rattle.json_laws.specs.Sound.{AreSound}
-use Rattle.json_laws.proofs.Laws.{last_sound}
-use Rattle.json_laws.specs.Spellable.{IsSpellableText}
+use Rattle.json_grammar.specs.laws.Sound.{AreSound}
+use Rattle.json_grammar.proofs.LawsOfTexts.{last_sound}
+use Rattle.json_grammar.specs.laws.Spellable.{IsSpellableText}
 use Rattle.instance_model.specs.Fitting.{IsName}
 use Rattle.instance_shape.specs.declared.fault.Known.{Known}
 use Rattle.instance_shape.specs.Keys.{text_of}

@@ -4,7 +4,6 @@ use Rattle.std.proofs.Common.{pos, unsigned_abs, false}
 use Rattle.std.specs.Prelude.{◌+ℤ◌, ◌-ℤ◌, map}
 use Rattle.std.proofs.lemmas.List.Elements.{All-weaker, All-map, All-replicate}
 use Rattle.fixed_num.proofs.SignedLemmas.{signed_arith}
-use Rattle.json_grammar.specs.Tree.{Tree}
 use Rattle.instance_model.specs.declared.limits.Limits.{Limits}
 use Rattle.instance_model.specs.Tables.{Tables, scenarios_before, periods_before, all_entries}
 use Rattle.instance_model.specs.Fitting.{IsFitting, AreNames}
@@ -22,7 +21,8 @@ use Rattle.instance_shape.proofs.ListsBelow.{all_over}
 use Rattle.instance_shape.proofs.NamesFit.{names_fit}
 use Rattle.instance_shape.proofs.RootNumbers.{Between, periods_range, scenarios_range}
 use Rattle.instance_writer.specs.text.Conditions.{HasSpellableNames, IsUnrounded, IsWithin}
-use Rattle.json_laws.proofs.Laws.{text_sound}
+use Rattle.json_grammar.specs.Tree.{Tree}
+use Rattle.json_grammar.proofs.LawsOfTexts.{text_sound}
 use Rattle.plan_roll.specs.Rolled.{with_rolled_durations, rolled}
 use Rattle.plan_roll.specs.Texts.{HasSmallBands}
 use Rattle.plan_roll.proofs.FitLaw.{few_loads}

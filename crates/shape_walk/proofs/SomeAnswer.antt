@@ -2,10 +2,10 @@
 use Rattle.std.specs.Prelude.{◌≡◌, ℕ, ℤ, List, [], Option, Some, None}
 use Rattle.std.proofs.Common.{inl, inr, refl}
 use Rattle.json_grammar.specs.Tree.{Tree}
-use Rattle.json_laws.specs.Answers as text
-use Rattle.json_laws.specs.Answers.{TextAnswer, IsAnswerTo}
-use Rattle.json_laws.proofs.Ascending.{events_ascend}
-use Rattle.json_laws.proofs.Settling as settling
+use Rattle.json_grammar.specs.laws.Answers as text
+use Rattle.json_grammar.specs.laws.Answers.{TextAnswer, IsAnswerTo}
+use Rattle.json_grammar.proofs.LawsAscending.{events_ascend}
+use Rattle.json_grammar.proofs.LawsSettling as settling
 use Rattle.instance_model.specs.declared.limits.Limits.{Limits}
 use Rattle.instance_shape.specs.declared.fault.Fault.{Fault}
 use Rattle.instance_shape.specs.ShapeFaults.{shape_faults}

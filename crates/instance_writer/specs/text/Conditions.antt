@@ -1,9 +1,9 @@
 -- Defines for which instances and limits the text of an instance is read as that instance.
 use Rattle.std.specs.Prelude.{◌≡◌, ℕ, ◌<◌, ◌≤◌, ℤ, ◌+ℤ◌, ◌-ℤ◌, false, [], Some, length, map, All}
 use Rattle.std.specs.Prelude.{slice_index_or}
-use Rattle.json_grammar.specs.Grammar.{IsNumber}
 use Rattle.decimal_numbers.specs.Exact.{fixed, millionths}
-use Rattle.json_laws.specs.Spellable.{IsSpellableText}
+use Rattle.json_grammar.specs.Grammar.{IsNumber}
+use Rattle.json_grammar.specs.laws.Spellable.{IsSpellableText}
 use Rattle.instance_model.specs.declared.limits.Limits.{Limits}
 use Rattle.instance_model.specs.Naturals.{count_sum}
 use Rattle.instance_model.specs.Tables.{Tables}

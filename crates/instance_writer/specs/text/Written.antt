@@ -2,8 +2,8 @@
 use Rattle.std.specs.Prelude.{ℕ, ◌+◌, ℤ, ◌&&◌, List, [], ◌∷◌, Option, Some, None, cond, map, length, find, option_map}
 use Rattle.std.specs.Prelude.{slice_index_or, decimal}
 use Rattle.fixed_num.specs.Sums.{list_of}
-use Rattle.json_laws.specs.Value.{Value, values_of, Field, field, fields_of}
-use Rattle.json_laws.specs.Spelling.{spell}
+use Rattle.json_grammar.specs.laws.Value.{Value, values_of, Field, field, fields_of}
+use Rattle.json_grammar.specs.laws.Spelling.{spell}
 use Rattle.instance_model.specs.declared.parts.Exclusion.{Exclusion}
 use Rattle.instance_model.specs.declared.parts.LoadCell.{LoadCell}
 use Rattle.instance_model.specs.Tables.{Tables, scenarios_of, durations, tmax, is_allowed, in_run, risk_of, is_cell_of}

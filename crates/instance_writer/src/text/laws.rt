@@ -11,7 +11,7 @@ ghost use Rattle.instance_writer.specs.text.Conditions.{SpellsPart, widened};
 ghost use Rattle.instance_writer.specs.text.Styles.{Style, decimals};
 ghost use Rattle.instance_writer.specs.text.Written.{instance_text};
 
-use json_laws::spelled_is_read;
+use json_grammar::spelled_is_read;
 
 /// The text of an instance without rounded numbers and within the limits is read as that instance, for each style that
 /// spells its numbers. What is read has its bands widened by the slack that it is read with.

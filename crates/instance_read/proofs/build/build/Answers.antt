@@ -1,5 +1,5 @@
 use Rattle.std.proofs.Common.{◌≡◌, ℕ, List, [], None, sym, ◌∙◌}
-use Rattle.json_laws.proofs.Ascending.{events_ascend}
+use Rattle.json_grammar.proofs.LawsAscending.{events_ascend}
 use Rattle.instance_model.specs.declared.limits.Limits.{Limits}
 use Rattle.instance_rows.specs.Views.{AreRowsOf, rows_view}
 use Rattle.instance_rows.specs.declared.rows.FileRows.{FileRows}

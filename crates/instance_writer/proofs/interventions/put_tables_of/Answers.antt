@@ -1,7 +1,7 @@
 use Rattle.std.proofs.Common.{[], ◌∷◌, List, true, false, refl, sym, ◌∙◌, ap, codes, decimal}
 use Rattle.std.proofs.lemmas.List.{append-nil}
-use Rattle.json_laws.specs.Value.{Field}
-use Rattle.json_laws.specs.Spelling.{spell}
+use Rattle.json_grammar.specs.laws.Value.{Field}
+use Rattle.json_grammar.specs.laws.Spelling.{spell}
 use Rattle.instance_model.specs.Tables.{Tables, tmax, durations}
 use Rattle.instance_shape.specs.declared.fault.Known.TheVariants as known
 use Rattle.instance_writer.specs.text.Written.{whole_number, whole_list, workload_value, risk_value, under}

@@ -1,7 +1,7 @@
 use Rattle.std.proofs.Common.{◌≡◌, Some, refl, ◌∙◌, sym, ap, arith, decimal}
 use Rattle.std.specs.Prelude.{option_map}
 use Rattle.fixed_num.proofs.SignedLemmas.{back_from_abs}
-use Rattle.json_laws.specs.Spelling.{spell}
+use Rattle.json_grammar.specs.laws.Spelling.{spell}
 use Rattle.instance_writer.specs.text.Written.{count_number}
 use Rattle.instance_writer.specs.Steps.{start_load}
 use Rattle.instance_writer.proofs.ViewLemmas.{start_load_is}

@@ -1,5 +1,5 @@
 use Rattle.std.proofs.Common.{sym}
-use Rattle.json_laws.specs.Spelling.{escaped}
+use Rattle.json_grammar.specs.laws.Spelling.{escaped}
 use Rattle.instance_writer.proofs.TextLemmas.{escaped-more}
 use Rattle.instance_writer.proofs.LoopLemmas.{respelled, two}
 use Rattle.instance_writer.proofs.marks.put_escaped.Goals as goal

@@ -1,5 +1,5 @@
 use Rattle.std.proofs.Common.{take}
-use Rattle.json_laws.specs.Spelling.{escaped}
+use Rattle.json_grammar.specs.laws.Spelling.{escaped}
 use Rattle.instance_writer.proofs.marks.put_escaped.Given as goal
 
 abbrev pub invariant-loop-b : goal.invariant-loop-b

@@ -1,4 +1,4 @@
-use Rattle.json_laws.specs.Spelling.{quoted}
+use Rattle.json_grammar.specs.laws.Spelling.{quoted}
 use Rattle.instance_writer.proofs.LoopLemmas.{two}
 use Rattle.instance_writer.proofs.marks.put_quoted.Goals as goal
 

@@ -1,7 +1,7 @@
 use Rattle.std.proofs.Common.{◌+◌, refl, ◌∙◌, sym, ap, decimal}
 use Rattle.std.specs.Prelude.{ℤ, List}
 use Rattle.fixed_num.specs.Sums.{list_of}
-use Rattle.json_laws.specs.Spelling.{spell}
+use Rattle.json_grammar.specs.laws.Spelling.{spell}
 use Rattle.instance_model.specs.Tables.{scenarios_of, risk_of}
 use Rattle.instance_writer.specs.text.Written.{count_list, risks_of}
 use Rattle.instance_writer.proofs.LoopLemmas.{respelled, put_some, put_none, first_some, first_none}

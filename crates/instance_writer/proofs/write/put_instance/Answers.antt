@@ -1,6 +1,6 @@
 use Rattle.std.proofs.Common.{[], ◌∷◌, List, Some, true, false, refl, ◌∙◌, ap, codes}
-use Rattle.json_laws.specs.Value.{Field}
-use Rattle.json_laws.specs.Spelling.{spell}
+use Rattle.json_grammar.specs.laws.Value.{Field}
+use Rattle.json_grammar.specs.laws.Spelling.{spell}
 use Rattle.instance_model.specs.Tables.{Tables}
 use Rattle.instance_shape.specs.declared.fault.Known.TheVariants as known
 use Rattle.instance_writer.specs.text.Written.{object_of, named, under, intervention_value}

@@ -1,7 +1,7 @@
 use Rattle.std.proofs.Common.{[], ◌∷◌, true, false, refl, ◌∙◌, ap, codes, decimal}
 use Rattle.std.proofs.lemmas.List.{append-nil}
-use Rattle.json_laws.specs.Value.{Value}
-use Rattle.json_laws.specs.Spelling.{spell}
+use Rattle.json_grammar.specs.laws.Value.{Value}
+use Rattle.json_grammar.specs.laws.Spelling.{spell}
 use Rattle.instance_shape.specs.declared.fault.Known.TheVariants as known
 use Rattle.instance_writer.specs.text.Written.{whole_number, whole_list, under}
 use Rattle.instance_writer.specs.Steps.{values_text}

@@ -1,6 +1,6 @@
 use Rattle.std.specs.Option.{option_map}
 use Rattle.std.proofs.Common.{sym, ◌∙◌, ap, subst, ◌+◌, ℕ, arith}
-use Rattle.json_laws.specs.Machine.{step}
+use Rattle.json_grammar.specs.laws.Machine.{step}
 use Rattle.json_machine.specs.Machines.{state_of, IsSound}
 use Rattle.json_events.specs.Readings.{told_events}
 use Rattle.json_events.proofs.ReadingLemmas.{byte_refused, byte_deep, byte_read}

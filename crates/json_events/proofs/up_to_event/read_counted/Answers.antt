@@ -4,7 +4,7 @@ use Rattle.std.specs.Prelude.{◌-◌, ◌^◌, ℤ, pos}
 use Rattle.std.specs.List.{prefix_len}
 use Rattle.std.proofs.lemmas.List.Sums.{prefix_len-le-length}
 use Rattle.json_grammar.specs.Tree as json
-use Rattle.json_laws.specs.Machine.{is_blank}
+use Rattle.json_grammar.specs.laws.Machine.{is_blank}
 use Rattle.json_events.specs.CountedNumbers.{finishes, TellsCount}
 use Rattle.json_events.specs.Unreads.{unread_of}
 use Rattle.json_machine.proofs.PlainNumbers.{behind}

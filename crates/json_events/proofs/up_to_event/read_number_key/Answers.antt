@@ -3,7 +3,7 @@ use Rattle.std.proofs.Common.{length-drop}
 use Rattle.std.specs.Prelude.{◌-◌}
 use Rattle.std.specs.List.{prefix_len}
 use Rattle.std.proofs.lemmas.List.Sums.{prefix_len-le-length}
-use Rattle.json_laws.specs.Machine.{is_blank}
+use Rattle.json_grammar.specs.laws.Machine.{is_blank}
 use Rattle.json_events.specs.NumberKeys.{TellsKey}
 use Rattle.json_events.specs.Unreads.{unread_of}
 use Rattle.json_machine.proofs.PlainNumbers.{behind}

@@ -1,5 +1,5 @@
 use Rattle.std.proofs.Common.{◌≡◌, ◌≤◌, List, ℕ, [], length, take, Some, subst}
-use Rattle.json_laws.specs.Machine.{run}
+use Rattle.json_grammar.specs.laws.Machine.{run}
 use Rattle.json_machine.specs.Machines.{state_of}
 use Rattle.json_events.proofs.ReadingLemmas.{after_run}
 use Rattle.json_events.proofs.up_to_event.read_run.Goals as goal

@@ -1,6 +1,6 @@
 use Rattle.std.proofs.Common.{◌≡◌, ◌+◌, [], ◌∷◌, take, drop, get_or, inl, inr, refl, sym, subst, length-drop, arith}
 use Rattle.json_grammar.specs.Tree as json
-use Rattle.json_laws.specs.Machine.{State, st, after}
+use Rattle.json_grammar.specs.laws.Machine.{State, st, after}
 use Rattle.json_machine.specs.Machines.{state_of, levels_of, mode_of}
 use Rattle.json_machine.specs.NumberRuns.{TakesWithEnd}
 use Rattle.json_machine.proofs.PlainNumbers.{number_ended, with_end, value_mode, list_closes}

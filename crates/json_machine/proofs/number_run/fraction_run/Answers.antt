@@ -1,9 +1,9 @@
 use Rattle.std.proofs.Common.{◌≡◌, ◌⊎◌, inl, inr, ◌≤◌, ℕ, List, length, arith, subst, sym, ap, ◌∙◌}
-use Rattle.json_grammar.specs.Token.{digit_count}
 use Rattle.json_machine.specs.Views.{phase_of}
 use Rattle.json_machine.specs.declared.phase.Phase.{Phase}
 use Rattle.json_machine.specs.declared.phase.Phase.TheVariants.{LoneZero, Whole}
-use Rattle.json_laws.proofs.Forward.{AfterWhole}
+use Rattle.json_grammar.specs.Token.{digit_count}
+use Rattle.json_grammar.proofs.LawsForward.{AfterWhole}
 use Rattle.json_machine.proofs.PlainNumbers.{behind, fraction_ends, nothing_ends}
 use Rattle.json_machine.proofs.number_run.fraction_run.Goals as goal
 

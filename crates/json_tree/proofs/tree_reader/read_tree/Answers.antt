@@ -1,9 +1,9 @@
 use Rattle.std.proofs.Common.{arith, ◌≡◌, subst, sym, ◌∙◌}
-use Rattle.json_grammar.specs.Prefix.{IsSyntaxFault, IsDepthFault, IsShallow}
 use Rattle.json_machine.specs.Machines.{state_of}
 use Rattle.json_tree.specs.Building.{built_of}
-use Rattle.json_laws.proofs.Loop as loop
-use Rattle.json_laws.proofs.Laws.{one_tree}
+use Rattle.json_grammar.specs.Prefix.{IsSyntaxFault, IsDepthFault, IsShallow}
+use Rattle.json_grammar.proofs.LawsLoop as loop
+use Rattle.json_grammar.proofs.LawsOfTexts.{one_tree}
 use Rattle.json_tree.proofs.tree_reader.read_tree.Goals as goal
 
 pub loop-i-init : goal.loop-i-init

@@ -1,5 +1,5 @@
 use Rattle.std.proofs.Common.{rules, [], ap, ◌∙◌}
-use Rattle.json_laws.specs.Machine.{go}
+use Rattle.json_grammar.specs.laws.Machine.{go}
 use Rattle.json_machine.specs.Machines.{levels_of, mode_of}
 use Rattle.json_machine.specs.declared.machine.Mode.{Mode}
 use Rattle.json_machine.proofs.machine.Machine.awaits_item.Goals as goal

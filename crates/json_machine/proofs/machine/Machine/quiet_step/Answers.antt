@@ -1,5 +1,5 @@
 use Rattle.std.proofs.Common.{◌≡◌, ◌∙◌, sym, ap, true, Bool, ℕ, List, [], ◌∷◌, ◌++◌}
-use Rattle.json_laws.specs.Machine.{step, go, is_plain}
+use Rattle.json_grammar.specs.laws.Machine.{step, go, is_plain}
 use Rattle.json_machine.specs.Machines.{mode_of}
 use Rattle.json_machine.specs.declared.machine.Mode.{Mode}
 use Rattle.json_machine.specs.declared.machine.Mode.TheVariants.{Str}

@@ -2,7 +2,7 @@ use Rattle.std.specs.Prelude.{◌-◌}
 use Rattle.std.specs.List.{prefix_len}
 use Rattle.std.proofs.Common.{◌≡◌, ℕ, ◌+◌, ◌≤◌, List, length, take, drop, refl, ◌∙◌, ap, arith, rules, length-drop}
 use Rattle.std.proofs.lemmas.List.Sums.{prefix_len-le-length}
-use Rattle.json_laws.specs.Machine.{is_plain}
+use Rattle.json_grammar.specs.laws.Machine.{is_plain}
 use Rattle.json_machine.specs.Machines.{levels_of, mode_of}
 use Rattle.json_machine.proofs.PlainNumbers.{behind}
 use Rattle.json_machine.proofs.WholeKeys.{key_mode, key_taken}

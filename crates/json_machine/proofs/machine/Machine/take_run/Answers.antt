@@ -1,6 +1,6 @@
 use Rattle.std.proofs.Common.{sym, ◌∙◌, ◌+◌, arith}
 use Rattle.std.proofs.lemmas.List.Sums.{prefix_len-le-length}
-use Rattle.json_laws.specs.Machine.{is_plain, is_blank}
+use Rattle.json_grammar.specs.laws.Machine.{is_plain, is_blank}
 use Rattle.json_machine.specs.Machines.{levels_of}
 use Rattle.json_machine.proofs.Runs.{number_taken, string_taken, blanks_taken, between, still_sound}
 use Rattle.json_machine.proofs.machine.Machine.take_run.Goals as goal

@@ -1,9 +1,0 @@
-pub mod Machine
-pub mod Builder
-pub mod Sound
-pub mod Reads
-pub mod Answers
-pub mod Value
-pub mod Spelling
-pub mod Spellable
-pub mod Placed
