@@ -123,7 +123,7 @@ raises_writes limits inst given out turns part cert a (raised handed_in answer i
   only = writes_one (out_write inst out answer.cert);
   opened = λ opens. absurd (opens (status_opens answer.cert.bound));
 }
-raises_writes limits inst given out turns part cert a (too_long handed_in answer is) =
+raises_writes limits inst given out turns part cert a (too_long handed_in answer plan_is long) =
     none_written out a refl
 
 cert_writes : (limits : Limits) (met : Meeting) (cert : Option (List ℕ)) (out : List ℕ) (turns : ℕ) (part : Part)
@@ -180,7 +180,7 @@ kept_status : (limits : Limits) (inst : Tables) (given : Option (List (Option �
     → RaisesBound limits inst given out turns part cert a → (a.status ≡ 12) ⊎ (a.status ≡ 0)
 kept_status limits inst given out turns part cert plan a keeps (raised handed_in answer is) =
     inr (number_status answer.cert.bound (λ e. is.checkable.bounds.none e plan keeps))
-kept_status limits inst given out turns part cert plan a keeps (too_long handed_in answer is) = inl refl
+kept_status limits inst given out turns part cert plan a keeps (too_long handed_in answer plan_is is) = inl refl
 
 -- where none does, a bound that is the least score is none
 none_least : (inst : Tables) (bound : Bound) → ((plan : List (Option ℕ)) → IsKeptPlan inst plan → ⊥)
@@ -195,8 +195,8 @@ spent_status : (limits : Limits) (inst : Tables) (given : Option (List (Option �
     → (a.status ≡ 12) ⊎ (a.status ≡ 10)
 spent_status limits inst given out turns part cert a none one enough (raised handed_in answer is) =
     inr (none_status answer.cert.bound (none_least inst answer.cert.bound none
-    (least_of_one inst handed_in cert turns part answer is.is one (is.enough enough))))
-spent_status limits inst given out turns part cert a none one enough (too_long handed_in answer is) = inl refl
+    (least_of_one inst handed_in cert turns part is.most answer is.is one (is.enough enough))))
+spent_status limits inst given out turns part cert a none one enough (too_long handed_in answer plan_is is) = inl refl
 
 module _ (limits : Limits) (source : Source) (name cert_name : Option (List ℕ)) (out : List ℕ) (turns : ℕ) (part : Part)
     (old new : Shown) (names : TellsNames old) where
@@ -222,13 +222,15 @@ module _ (limits : Limits) (source : Source) (name cert_name : Option (List ℕ)
     handed_in = handed_in;
     plan = is.plan;
     answer = answer;
+    most = is.most;
+    left_out = is.left_out;
     is = is.is;
     bound_is = e;
     bounds = subst (BoundsEveryPlan files.inst) e is.checkable.bounds;
     spent = subst (λ (b : Bound). (answer.splits ≡ turns) ⊎ IsLeastScore files.inst b
-        ⊎ LeavesTheRest files.inst handed_in files.cert turns part answer is.is) e is.spent;
+        ⊎ LeavesTheRest files.inst handed_in files.cert turns part is.most answer is.is) e is.spent;
     enough = λ enough. subst (λ (b : Bound). IsLeastScore files.inst b
-        ⊎ LeavesTheRest files.inst handed_in files.cert turns part answer is.is) e (is.enough enough);
+        ⊎ LeavesTheRest files.inst handed_in files.cert turns part is.most answer is.is) e (is.enough enough);
     within = is.within;
     held = one_held Due old new (out_write files.inst out answer.cert).file names writes;
     accepted = stands files.reads.bytes files.inst (reply 0 (accepted_report files.inst bound None)) refl
@@ -254,14 +256,13 @@ module _ (limits : Limits) (source : Source) (name cert_name : Option (List ℕ)
       → new.output ≡ (after_writes (files_of a.writes) old).output → Says a.text old new → Stand a.status
   raises_behind files a (raised handed_in answer is) writes says =
       by_bound files handed_in answer answer.cert.bound refl is writes says
-  raises_behind files a (too_long handed_in answer is) writes says =
+  raises_behind files a (too_long handed_in answer plan is) writes says =
       behind_too_long (record {
         files = files;
         handed_in = handed_in;
-        plan = is.plan;
+        plan = plan;
         answer = answer;
-        is = is.is;
-        long = is.long;
+        too_long = is;
         says = says;
       })
 

@@ -31,8 +31,8 @@ reached inst incumbent (Some plan) is bounds =
     ((map Some plan, kept_plan inst plan is.feasible, refl), bounds.least (score_of inst (map Some plan)) refl)
 
 module _ (inst : Tables) (handed_in : Option (List ℕ)) (cert : Option RefinedCertificate) (turns : ℕ) (part : Part)
-    (answer : Raised)
-    (is : IsRaised inst handed_in cert turns part answer) (bounds : BoundsEveryPlan inst answer.cert.bound) where
+    (most : ℕ) (answer : Raised)
+    (is : IsRaised inst handed_in cert turns part most answer) (bounds : BoundsEveryPlan inst answer.cert.bound) where
   finished : answer.unfinished ≡ false → IsLeastScore inst answer.cert.bound
   finished e =
       let same = OnFalse_at e is.finished in
@@ -42,34 +42,35 @@ module _ (inst : Tables) (handed_in : Option (List ℕ)) (cert : Option RefinedC
       (subst (BoundsEveryPlan inst) same bounds))
 
   pub least_or_spent : (answer.splits ≡ turns) ⊎ IsLeastScore inst answer.cert.bound
-      ⊎ LeavesTheRest inst handed_in cert turns part answer is
+      ⊎ LeavesTheRest inst handed_in cert turns part most answer is
   least_or_spent = at answer.unfinished refl
     where
-      when : (answer.splits ≡ turns) ⊎ LeavesTheRest inst handed_in cert turns part answer is
+      when : (answer.splits ≡ turns) ⊎ LeavesTheRest inst handed_in cert turns part most answer is
           → (answer.splits ≡ turns) ⊎ IsLeastScore inst answer.cert.bound
-          ⊎ LeavesTheRest inst handed_in cert turns part answer is
+          ⊎ LeavesTheRest inst handed_in cert turns part most answer is
       when (inl e) = inl e
       when (inr o) = inr (inr o)
 
       at : (b : Bool) → answer.unfinished ≡ b → (answer.splits ≡ turns) ⊎ IsLeastScore inst answer.cert.bound
-          ⊎ LeavesTheRest inst handed_in cert turns part answer is
+          ⊎ LeavesTheRest inst handed_in cert turns part most answer is
       at true e = when (is.spent e)
       at false e = inr (inl (finished e))
 
   pub least_enough : AreEnough inst turns → IsLeastScore inst answer.cert.bound
-      ⊎ LeavesTheRest inst handed_in cert turns part answer is
+      ⊎ LeavesTheRest inst handed_in cert turns part most answer is
   least_enough enough = at answer.unfinished refl
     where
       at : (b : Bool) → answer.unfinished ≡ b → IsLeastScore inst answer.cert.bound
-          ⊎ LeavesTheRest inst handed_in cert turns part answer is
+          ⊎ LeavesTheRest inst handed_in cert turns part most answer is
       at true e = inr (is.enough enough e)
       at false e = inl (finished e)
 
 -- where there is one part alone, nothing is left to others
 pub least_of_one : (inst : Tables) (handed_in : Option (List ℕ)) (cert : Option RefinedCertificate) (turns : ℕ)
-    (part : Part) (answer : Raised) (is : IsRaised inst handed_in cert turns part answer) → part.count ≡ 1
-    → IsLeastScore inst answer.cert.bound ⊎ LeavesTheRest inst handed_in cert turns part answer is
+    (part : Part) (most : ℕ) (answer : Raised) (is : IsRaised inst handed_in cert turns part most answer)
+    → part.count ≡ 1
+    → IsLeastScore inst answer.cert.bound ⊎ LeavesTheRest inst handed_in cert turns part most answer is
     → IsLeastScore inst answer.cert.bound
-least_of_one inst handed_in cert turns part answer is one (inl least) = least
-least_of_one inst handed_in cert turns part answer is one (inr rest) =
+least_of_one inst handed_in cert turns part most answer is one (inl least) = least
+least_of_one inst handed_in cert turns part most answer is one (inr rest) =
     absurd (let l = rest.others in omega (arith, l, one))

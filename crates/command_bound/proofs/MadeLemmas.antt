@@ -1,6 +1,7 @@
 -- What is told of a certificate that is made.
-use Rattle.std.proofs.Common.{◌≡◌, ◌⊎◌, inl, inr, ◌<◌, ◌≤◌, ◌-◌, ◌^◌, ℕ, subst, List, [], ◌∷◌, length, arith}
-use Rattle.std.proofs.Common.{Option}
+use Rattle.std.proofs.Common.{◌≡◌, ◌⊎◌, inl, inr, ◌<◌, ◌≤◌, ◌-◌, ◌^◌, ◌↔◌, ℕ, sym, ◌∙◌, subst, List, [], ◌∷◌, length}
+use Rattle.std.proofs.Common.{arith, Option, Bool, false, IsTrue}
+use Rattle.std.proofs.lemmas.Bool.{false≢true}
 use Rattle.std.proofs.Math.Nat.{min-le_left}
 use Rattle.std.specs.Prelude.{Ok, Err}
 use Rattle.plan_desk.specs.Desk.{Shown}
@@ -13,6 +14,7 @@ use Rattle.certificate_text.proofs.CountLemmas.{counted_small, counted_large}
 use Rattle.branch_search.specs.declared.part.Part.{Part}
 use Rattle.refined_check.specs.declared.certificate.certificate.RefinedCertificate.{RefinedCertificate}
 use Rattle.refined_text.specs.text.Text.{refined_text}
+use Rattle.refined_search.specs.Raising.{IsRaised}
 use Rattle.command_frame.specs.Lines.{write_line}
 use Rattle.command_frame.specs.Ending.{Answer, reply}
 use Rattle.command_frame.specs.Refusals.{SaysOrFails}
@@ -39,8 +41,16 @@ counted_within n m most e small l = at (below_or_not n (2 ^ 64 - 1))
     at (inl h) = let same = counted_small n (omega (arith, h)) in omega (arith, same, e, l)
     at (inr h) = let same = counted_large n h in absurd (omega (arith, same, e, l, small))
 
+-- a length that isn't found within a limit is above it
+pub not_within : (found : Bool) (n most : ℕ) → (IsTrue found ↔ n ≤ most) → found ≡ false → most < n
+not_within found n most same e = at (below_or_not most n)
+  where
+    at : (most < n) ⊎ (n ≤ most) → most < n
+    at (inl above) = above
+    at (inr within) = absurd (false≢true (sym e ∙ same.1 within))
+
 module _ (limits : Limits) (inst : Tables) (given : Option (List (Option ℕ))) (cert : Option RefinedCertificate)
-    (out : List ℕ) (turns : ℕ) (part : Part) (made : Made) (is : IsMade inst given cert turns part made) where
+    (out : List ℕ) (turns : ℕ) (part : Part) (made : Made) (is : IsMade limits inst given cert turns part made) where
   abbrev text : List ℕ
   text = refined_text inst made.raised.cert
 
@@ -50,7 +60,10 @@ module _ (limits : Limits) (inst : Tables) (given : Option (List (Option ℕ))) 
       → TellsBound limits inst given out turns part cert old new status
   long_told old new status long keeps says =
       told (reply 12 (long_output_line 5))
-      (too_long is.handed_in made.raised (record { plan = is.plan; is = is.is; long = long }))
+      (too_long is.handed_in made.raised is.plan (record {
+        is = subst (λ (n : ℕ). IsRaised inst is.handed_in cert turns part n made.raised) (is.within.one long) is.within.is;
+        long = long;
+      }))
       (written old (puts_none {T = Unit {0}} tt old) keeps says)
 
   abbrev answer : Answer
@@ -60,16 +73,21 @@ module _ (limits : Limits) (inst : Tables) (given : Option (List (Option ℕ))) 
     writes = out_write inst out made.raised.cert ∷ [];
   }
 
+  raising : IsRaised inst is.handed_in cert turns part is.within.most made.raised
+  raising = is.within.is
+
   is_answer : length text ≤ limits.certificate_bytes → RaisesBound limits inst given out turns part cert answer
   is_answer within =
       let checkable = (is.acceptable limits made.raised.cert
-      (record { in_range = is.is.in_range; valid = is.is.valid; within = within })).checkable in
+      (record { in_range = raising.in_range; valid = raising.valid; within = within })).checkable in
       raised is.handed_in made.raised (record {
         plan = is.plan;
-        is = is.is;
+        most = is.within.most;
+        left_out = is.within.left_out;
+        is = raising;
         checkable = checkable;
-        spent = least_or_spent inst is.handed_in cert turns part made.raised is.is checkable.bounds;
-        enough = least_enough inst is.handed_in cert turns part made.raised is.is checkable.bounds;
+        spent = least_or_spent inst is.handed_in cert turns part is.within.most made.raised raising checkable.bounds;
+        enough = least_enough inst is.handed_in cert turns part is.within.most made.raised raising checkable.bounds;
         within = within;
       })
 

@@ -83,36 +83,45 @@ out_write inst out cert = record { word = 5; file = record { name = out; bytes =
 -- what is left is left to other parts, of which there are some: no leaf that stands where the tree that was gone on
 -- with had a leaf of this part may have a better plan than the best one
 abbrev pub LeavesTheRest : (inst : Tables) (handed_in : Option (List ℕ)) (cert : Option RefinedCertificate) (turns : ℕ)
-    (part : Part) (answer : Raised) → IsRaised inst handed_in cert turns part answer → Type 0
-LeavesTheRest inst handed_in cert turns part answer is =
+    (part : Part) (most : ℕ) (answer : Raised) → IsRaised inst handed_in cert turns part most answer → Type 0
+LeavesTheRest inst handed_in cert turns part most answer is =
     LeavesToOthers inst answer part is.gone_on.given is.gone_on.by.tree
 
--- The certificate is one that is made of the plan and the old certificate, whose leaves of this part alone were split,
--- and its text is within the limit of certificate files. `check` without a plan accepts that text, and its bound holds
--- for every plan. Exactly these turns were spent, or the bound is the least score, or what is left is left to other
--- parts; and where they are enough for all plans it is one of these two.
+-- a certificate is made with so many further lists at most, and its text has more bytes than certificate files may have
+pub record IsTooLong (limits : Limits) (inst : Tables) (cert : Option RefinedCertificate) (turns : ℕ) (part : Part)
+    (handed_in : Option (List ℕ)) (most : ℕ) (answer : Raised) : Type 0 where
+  pub is : IsRaised inst handed_in cert turns part most answer
+  pub long : limits.certificate_bytes < length (refined_text inst answer.cert)
+
+-- Up to 16 further lists may be added. Fewer may be, and one at least, only if a text with more lists was too long.
+pub data LeavesOut (limits : Limits) (inst : Tables) (cert : Option RefinedCertificate) (turns : ℕ) (part : Part)
+    (handed_in : Option (List ℕ)) : ℕ → Type 0 where
+  none : LeavesOut limits inst cert turns part handed_in 16
+  some : (most fewer : ℕ) (answer : Raised) → 1 ≤ fewer → fewer < most
+      → IsTooLong limits inst cert turns part handed_in most answer
+      → LeavesOut limits inst cert turns part handed_in fewer
+
+-- The certificate is one that is made of the plan and the old certificate, whose leaves of this part alone were split.
+-- Its text is within the limit of certificate files, and lists that would make the text too long are left out. `check`
+-- without a plan accepts that text, and its bound holds for every plan. Exactly these turns were spent, or the bound is
+-- the least score, or what is left is left to other parts. If the turns are enough for all plans, it is one of the last
+-- two.
 pub record IsBounded (limits : Limits) (inst : Tables) (given : Option (List (Option ℕ)))
     (cert : Option RefinedCertificate) (turns : ℕ) (part : Part) (handed_in : Option (List ℕ)) (answer : Raised)
     : Type 0 where
   pub plan : IsHandedIn inst given handed_in
-  pub is : IsRaised inst handed_in cert turns part answer
+  pub most : ℕ
+  pub left_out : LeavesOut limits inst cert turns part handed_in most
+  pub is : IsRaised inst handed_in cert turns part most answer
   pub checkable : IsCheckableBy refined_kind limits inst answer.cert
   pub spent : (answer.splits ≡ turns) ⊎ IsLeastScore inst answer.cert.bound
-      ⊎ LeavesTheRest inst handed_in cert turns part answer is
+      ⊎ LeavesTheRest inst handed_in cert turns part most answer is
   pub enough : AreEnough inst turns → IsLeastScore inst answer.cert.bound
-      ⊎ LeavesTheRest inst handed_in cert turns part answer is
+      ⊎ LeavesTheRest inst handed_in cert turns part most answer is
   pub within : length (refined_text inst answer.cert) ≤ limits.certificate_bytes
 
--- Its text has more bytes than certificate files may have.
-pub record IsTooLong (limits : Limits) (inst : Tables) (given : Option (List (Option ℕ)))
-    (cert : Option RefinedCertificate) (turns : ℕ) (part : Part) (handed_in : Option (List ℕ)) (answer : Raised)
-    : Type 0 where
-  pub plan : IsHandedIn inst given handed_in
-  pub is : IsRaised inst handed_in cert turns part answer
-  pub long : limits.certificate_bytes < length (refined_text inst answer.cert)
-
--- to an instance, a plan if one is given, and a certificate if one is: 12 where the text of the certificate that is
--- made is too long; else that text as a file, with 10 where the bound is none, and 0 where it is a number
+-- to an instance, a plan if one is given, and a certificate if one is: 12 if the text is too long with the old lists
+-- and one further list at most; else the text as a file, with 10 if the bound is none, and 0 if it is a number
 pub data RaisesBound (limits : Limits) (inst : Tables) (given : Option (List (Option ℕ))) (out : List ℕ) (turns : ℕ)
     (part : Part)
     (cert : Option RefinedCertificate) : Answer → Type 0 where
@@ -123,8 +132,8 @@ pub data RaisesBound (limits : Limits) (inst : Tables) (given : Option (List (Op
         text = bound_report inst handed_in answer;
         writes = out_write inst out answer.cert ∷ [];
       })
-  too_long : (handed_in : Option (List ℕ)) (answer : Raised)
-      → IsTooLong limits inst given cert turns part handed_in answer
+  too_long : (handed_in : Option (List ℕ)) (answer : Raised) → IsHandedIn inst given handed_in
+      → IsTooLong limits inst cert turns part handed_in 1 answer
       → RaisesBound limits inst given out turns part cert (reply 12 (long_output_line 5))
 
 -- to the files, with a slack in 10^-12: the instance is word 2, the plan word 3, the certificate word 4, and what is
@@ -157,8 +166,9 @@ pub record ReadsBound (limits : Limits) (source : Source) (name cert_name : Opti
 
 -- The files were read, a certificate that is made of them was written, and the report was said. Every plan that keeps
 -- the rules has a score of at least its bound, or where that is none, no plan keeps the rules; and `check` with the
--- same instance and slack accepts what was written. Exactly these turns were spent, or the bound is the least score, or
--- what is left is left to other parts; and where they are enough for all plans it is one of these two.
+-- same instance and slack accepts what was written. Lists that would make the text too long are left out. Exactly these
+-- turns were spent, or the bound is the least score, or what is left is left to other parts. If the turns are enough for
+-- all plans, it is one of the last two.
 pub record WritesBound (limits : Limits) (source : Source) (name cert_name : Option (List ℕ)) (out : List ℕ)
     (turns : ℕ) (part : Part)
     (bound : Bound) (old new : Shown) : Type 0 where
@@ -166,29 +176,30 @@ pub record WritesBound (limits : Limits) (source : Source) (name cert_name : Opt
   pub handed_in : Option (List ℕ)
   pub plan : IsHandedIn files.inst files.plan handed_in
   pub answer : Raised
-  pub is : IsRaised files.inst handed_in files.cert turns part answer
+  pub most : ℕ
+  pub left_out : LeavesOut limits files.inst files.cert turns part handed_in most
+  pub is : IsRaised files.inst handed_in files.cert turns part most answer
   pub bound_is : answer.cert.bound ≡ bound
   pub bounds : BoundsEveryPlan files.inst bound
   pub spent : (answer.splits ≡ turns) ⊎ IsLeastScore files.inst bound
-      ⊎ LeavesTheRest files.inst handed_in files.cert turns part answer is
+      ⊎ LeavesTheRest files.inst handed_in files.cert turns part most answer is
   pub enough : AreEnough files.inst turns → IsLeastScore files.inst bound
-      ⊎ LeavesTheRest files.inst handed_in files.cert turns part answer is
+      ⊎ LeavesTheRest files.inst handed_in files.cert turns part most answer is
   pub within : length (refined_text files.inst answer.cert) ≤ limits.certificate_bytes
   pub held : HoldsBytes new out (refined_text files.inst answer.cert)
   pub accepted : AnswersCheckBy refined_kind limits by_bytes source.slack files.reads.bytes None
       (refined_text files.inst answer.cert) (reply 0 (accepted_report files.inst bound None))
   pub says : Says (bound_report files.inst handed_in answer) old new
 
--- 12: the files were read, and the text of the certificate that is made of them is longer than the limit of certificate
--- files
+-- 12: the files were read. The text of a certificate that is made of them, with the old lists and one further list at
+-- most, is longer than the limit of certificate files.
 pub record RefusesLong (limits : Limits) (source : Source) (name cert_name : Option (List ℕ)) (turns : ℕ) (part : Part)
     (old new : Shown) : Type 0 where
   pub files : ReadsBound limits source name cert_name old
   pub handed_in : Option (List ℕ)
   pub plan : IsHandedIn files.inst files.plan handed_in
   pub answer : Raised
-  pub is : IsRaised files.inst handed_in files.cert turns part answer
-  pub long : limits.certificate_bytes < length (refined_text files.inst answer.cert)
+  pub too_long : IsTooLong limits files.inst files.cert turns part handed_in 1 answer
   pub says : Says (long_output_line 5) old new
 
 pub data BehindBound (limits : Limits) (source : Source) (name cert_name : Option (List ℕ)) (out : List ℕ) (turns : ℕ)

@@ -9,7 +9,9 @@ use Rattle.branch_search.specs.declared.part.Part.{Part}
 use Rattle.branch_search.specs.Best.{IsFeasiblePlan}
 use Rattle.refined_check.specs.declared.certificate.certificate.RefinedCertificate.{RefinedCertificate}
 use Rattle.refined_check.specs.certificate.Ranges.{IsRefinedInRange}
+use Rattle.refined_text.specs.text.Text.{refined_text}
 use Rattle.refined_files.specs.RefinedKind.{refined_kind}
+use Rattle.refined_search.specs.declared.raised.Raised.{Raised}
 use Rattle.refined_search.specs.Raising.{IsRaised}
 use Rattle.command_frame.specs.Sources.{Source}
 use Rattle.command_frame.specs.Lines.{memory_line}
@@ -21,7 +23,7 @@ use Rattle.command_answers.specs.Accepting.{ValidWithinIsAcceptableBy}
 use Rattle.command_bound.specs.declared.incumbent.Incumbent.{Incumbent}
 use Rattle.command_bound.specs.declared.making.Made.{Made}
 use Rattle.command_bound.specs.Given.{ReadsGivenCertificateBy}
-use Rattle.command_bound.specs.Bounding.{IsHandedIn, bound_report, bound_status, RaisesBound}
+use Rattle.command_bound.specs.Bounding.{IsHandedIn, LeavesOut, bound_report, bound_status, RaisesBound}
 
 -- the files were read
 pub record AreRead (limits : Limits) (source : Source) (name cert_name : Option (List ℕ)) (old : Shown) (inst : Tables)
@@ -47,13 +49,21 @@ pub record IsChosen (inst : Tables) (given : Option (List (Option ℕ))) (chosen
   pub is : IsHandedIn inst given (starts_of chosen)
   pub incumbent : IfSome chosen (IsIncumbent inst)
 
+-- a certificate that is made with as many further lists as its text has room for: its text may be too long only with
+-- one at most
+pub record IsWithin (limits : Limits) (inst : Tables) (handed_in : Option (List ℕ)) (cert : Option RefinedCertificate)
+    (turns : ℕ) (part : Part) (answer : Raised) : Type 0 where
+  pub most : ℕ
+  pub left_out : LeavesOut limits inst cert turns part handed_in most
+  pub is : IsRaised inst handed_in cert turns part most answer
+  pub one : limits.certificate_bytes < length (refined_text inst answer.cert) → most ≡ 1
+
 -- a certificate that is made, and the report on it
-pub record IsMade (inst : Tables) (given : Option (List (Option ℕ))) (cert : Option RefinedCertificate) (turns : ℕ)
-    (part : Part)
-    (made : Made) : Type 0 where
+pub record IsMade (limits : Limits) (inst : Tables) (given : Option (List (Option ℕ)))
+    (cert : Option RefinedCertificate) (turns : ℕ) (part : Part) (made : Made) : Type 0 where
   pub handed_in : Option (List ℕ)
   pub plan : IsHandedIn inst given handed_in
-  pub is : IsRaised inst handed_in cert turns part made.raised
+  pub within : IsWithin limits inst handed_in cert turns part made.raised
   pub acceptable : ValidWithinIsAcceptableBy refined_kind inst
   pub report : IsReport (bound_status made.raised.cert.bound) (bound_report inst handed_in made.raised) made.report
 

@@ -33,8 +33,8 @@ struct Files {
     cert: Option<VersionedCertificate>,
 }
 
-/// Reads the instance, then the plan if one is given, then the certificate of any version if one is, makes a
-/// certificate by refined price lists with so many turns for the leaves of this part of its tree, writes it to the file of this
+/// Reads the instance, then the plan if one is given, then the certificate of any version if one is. Makes a certificate
+/// by refined price lists with so many turns for the leaves of this part of its tree, writes it to the file of this
 /// name, and says the report.
 ///
 /// The instance file is word 2, the plan word 3, the certificate word 4, and the file that is written word 5. No memory
@@ -106,7 +106,15 @@ fn bound_read<D: Desk>(
     ensures { TellsBound limits.now files.now.inst files.now.plan out.now turns part files.now.cert (D.shows desk.old)
         (D.shows desk.new) result }
 {
-    match make(alloc, &files.inst, &files.plan, &files.cert, turns, part) {
+    match make(
+        alloc,
+        limits,
+        &files.inst,
+        &files.plan,
+        &files.cert,
+        turns,
+        part,
+    ) {
         Ok(made) => tell(limits, files, made, out, turns, part, desk),
         Err(_) => say(desk, 11, MEMORY_LINE.as_bytes()),
     }
@@ -123,7 +131,7 @@ fn tell<D: Desk>(
     desk: &mut D,
 ) -> u8
     requires bytes { limits.now.certificate_bytes ≤ standard_limits.certificate_bytes }
-    requires made { IsMade files.now.inst files.now.plan files.now.cert turns part made }
+    requires made { IsMade limits.now files.now.inst files.now.plan files.now.cert turns part made }
     ensures { TellsBound limits.now files.now.inst files.now.plan out.now turns part files.now.cert (D.shows desk.old)
         (D.shows desk.new) result }
 {

@@ -8,5 +8,6 @@ mod bound;
 mod given;
 mod incumbent;
 mod making;
+mod within;
 
 pub use bound::bound_files;

@@ -1,6 +1,7 @@
 //! What is made of an instance, a plan and a certificate.
 ghost use Rattle.std.specs.Prelude.{◌≡◌, ◌≤◌, ◌<◌, ◌^◌, ◌++◌, ℤ, Option, length, option_map, IfOk, IfSome, OnOk};
 ghost use Rattle.std.specs.Prelude.{unsigned_abs};
+ghost use Rattle.instance_model.specs.Limits.{standard_limits};
 ghost use Rattle.certificate_tree.specs.Ranges.{IsBoundInRange};
 ghost use Rattle.refined_check.specs.certificate.Ranges.{IsRefinedInRange};
 ghost use Rattle.command_frame.specs.Reports.{bound_or_none_line, gap_text};
@@ -8,15 +9,16 @@ ghost use Rattle.command_bound.specs.Bounding.{counts_text, bound_status};
 ghost use Rattle.command_bound.specs.Made.{starts_of, IsMade};
 
 use crate::incumbent::{Incumbent, incumbent_of};
+use crate::within::raise_within;
 use branch_search::Part;
 use certificate_text::Bound;
 use command_answers::valid_is_accepted;
 use command_frame::{Report, Text, push_bound_or_none, push_gap, push_numbered, push_rounded};
-use instance_model::Instance;
+use instance_model::{Instance, Limits};
 use plan_text::Plan;
 use refined_check::RefinedCertificate;
 use refined_files::VersionedCertificate;
-use refined_search::{Raised, raise_bound};
+use refined_search::Raised;
 use std::alloc::{AllocError, Global};
 
 /// A certificate that is made, and what is said of it.
@@ -56,24 +58,27 @@ fn given_in(cert: &Option<VersionedCertificate>) -> Option<&RefinedCertificate>
     }
 }
 
-/// Makes a certificate of an instance, a plan if one is given, and a certificate if one is, with so many turns
-/// for the leaves of this part of its tree.
+/// Makes a certificate of an instance, a plan if one is given, and a certificate if one is, with so many turns for the
+/// leaves of this part of its tree. Lists that would make its text longer than certificate files may be are left out.
 pub(crate) fn make(
     alloc: Global,
+    limits: &Limits,
     inst: &Instance,
     plan: &Option<Plan>,
     cert: &Option<VersionedCertificate>,
     turns: u32,
     part: Part,
 ) -> Result<Made, AllocError>
+    requires bytes { limits.now.certificate_bytes ≤ standard_limits.certificate_bytes }
     requires plan { IfSome plan.now (λ p. length p ≡ length inst.now.names) }
     requires cert { IfSome cert.now (IsRefinedInRange inst.now) }
     requires part { part.number < part.count }
-    ensures { IfOk result (IsMade inst.now plan.now cert.now turns part) }
+    ensures { IfOk result (IsMade limits.now inst.now plan.now cert.now turns part) }
 {
     valid_is_accepted::<VersionedCertificate>(inst);
     let chosen = incumbent_of(alloc, inst, plan)?;
-    let raised = raise_bound(alloc, inst, handed_in(&chosen), given_in(cert), turns, part)?;
+    let incumbent = handed_in(&chosen);
+    let raised = raise_within(alloc, limits, inst, incumbent, given_in(cert), turns, part)?;
     let text = report_on(alloc, inst, score_in(&chosen), &raised)?;
     let status = status_of(raised.cert.bound);
     Ok(Made {

@@ -65,7 +65,7 @@ statuses : (inst : Tables) (given : Option (List (Option ℕ))) (out : List ℕ)
     (cert : Option RefinedCertificate) (a : Answer) → RaisesBound standard_limits inst given out turns part cert a
     → IsOneOf (0 ∷ 10 ∷ 12 ∷ []) a.status
 statuses inst given out turns part cert a (raised handed_in answer is) = status_of answer.cert.bound
-statuses inst given out turns part cert a (too_long handed_in answer is) = inr (inr (inl refl))
+statuses inst given out turns part cert a (too_long handed_in answer plan long) = inr (inr (inl refl))
 
 -- ---- a run
 

@@ -1,5 +1,6 @@
 -- Two refined price lists price alike exactly where their tables have the same rows and the same constant.
-use Rattle.std.proofs.Common.{◌≡◌, ℕ, zero, suc, ◌+◌, ◌-◌, ◌<◌, ◌≤◌, refl, sym, ◌∙◌, ap, arith, ℤ}
+use Rattle.std.proofs.Common.{◌≡◌, ℕ, zero, suc, ◌+◌, ◌-◌, ◌<◌, ◌≤◌, refl, sym, ◌∙◌, ap, subst, arith, ℤ}
+use Rattle.std.specs.Prelude.{Any}
 use Rattle.std.proofs.Common.{List, [], ◌∷◌, length, get_or, map, Bool, true, false, IsTrue, cond, Option, Some, None}
 use Rattle.std.specs.List.{range_with_len}
 use Rattle.std.proofs.lemmas.List.FromFn.{get_or-map-range_with_len}
@@ -85,3 +86,20 @@ rows_from_alike inst other list rows constant a h = record {
 -- a list prices alike with itself
 pub alike_itself : (inst : Tables) (list : RefinedList) → PriceAlike inst list list
 alike_itself inst list = record { prices = λ i s l t. refl; constant = refl }
+
+-- ---- one of several lists that prices alike, or none
+
+pub any_first : {A : Type 0} (P : A → Type 0) (x : A) (xs : List A) → P x → Any P (x ∷ xs)
+any_first P x xs p = (0, x, omega arith, refl, p)
+
+pub any_behind : {A : Type 0} (P : A → Type 0) (y : A) (xs : List A) → Any P xs → Any P (y ∷ xs)
+any_behind P y xs (k, x, l, e, p) = (suc k, x, omega (arith, l), e, p)
+
+pub none_of_all : (inst : Tables) (list first : RefinedList) (lists : List RefinedList)
+    → (PriceAlike inst first list → ⊥)
+    → ((k : ℕ) (d : RefinedList) → k < length lists → PriceAlike inst (get_or lists k d) list → ⊥)
+    → Any (λ other. PriceAlike inst other list) (first ∷ lists) → ⊥
+none_of_all inst list first lists unlike none (zero, x, l, e, alike) =
+    unlike (subst (λ (other : RefinedList). PriceAlike inst other list) (sym e) alike)
+none_of_all inst list first lists unlike none (suc k, x, l, e, alike) =
+    none k x (omega (arith, l)) (subst (λ (other : RefinedList). PriceAlike inst other list) (sym e) alike)

@@ -1,23 +1,27 @@
 -- Lists that are added behind others.
-use Rattle.std.proofs.Common.{◌≡◌, inl, inr, ℕ, ◌+◌, ◌<◌, ◌≤◌, refl, sym, ◌∙◌, ap, subst, arith, List, [], ◌∷◌, ◌++◌}
+use Rattle.std.proofs.Common.{◌≡◌, inl, inr, ℕ, ◌+◌, ◌*◌, ◌<◌, ◌≤◌, ◌≤ℤ◌, refl, sym, ◌∙◌, ap, subst, arith, List, []}
+use Rattle.std.proofs.Common.{◌∷◌}
+use Rattle.std.proofs.Common.{◌++◌, ◌⊎◌, ◌-◌, min}
 use Rattle.std.proofs.Common.{length, get_or, Option, Some, None, Bor, length-append, append_assoc}
 use Rattle.std.specs.Prelude.{Any, IfSome, option_map}
 use Rattle.std.proofs.lemmas.List.{get_or_append_left, get_or-append-add, get_or_default}
 use Rattle.std.proofs.lemmas.List.Elements.{All-push}
 use Rattle.std.proofs.lemmas.Grind.{same_number_lists}
+use Rattle.std.proofs.Math.Nat.{min-le_left, le-min, eq-or-lt_of_le}
 use Rattle.instance_model.specs.Tables.{Tables}
 use Rattle.instance_model.specs.Keys.{IsOpening}
 use Rattle.lagrange_bound.specs.Prices.{PriceList}
 use Rattle.certificate_tree.proofs.Refuting.{feasible_allowed}
-use Rattle.price_ladder.specs.Raised.{IsRaised as IsRaisedFor}
+use Rattle.price_ladder.specs.Raised.{IsRaised as IsRaisedFor, least_total, root_worth}
 use Rattle.branch_search.specs.Best.{IsFeasiblePlan}
 use Rattle.local_search.specs.Openings.{IsWithoutStart}
-use Rattle.refined_prices.specs.RefinedLists.{RefinedList, IsRefinedList}
+use Rattle.refined_prices.specs.RefinedLists.{RefinedList, IsRefinedList, zero_refined}
 use Rattle.refined_check.specs.certificate.Orders.{IsInOrder}
 use Rattle.refined_check.specs.Singles.{refined_of}
 use Rattle.refined_search.specs.Alike.{PriceAlike, IsUnlike, AddUnlike}
-use Rattle.refined_search.specs.Lists.{HasRaised, AreListsFor}
-use Rattle.refined_search.specs.Steps.{MayStand, AddsOne, AddsSome, AddsRaised, FindsPlan}
+use Rattle.refined_search.specs.Lists.{HasRaised, AreListsFor, short_searches}
+use Rattle.refined_search.specs.Steps.{MayStand, AddsOne, AddsSome, AddsAtMostOne, AddsRaised, AddsSearched}
+use Rattle.refined_search.specs.Steps.{AddsSearchedTo, FindsPlan}
 use Rattle.refined_search.proofs.AlikeLemmas.{alike_itself}
 
 append-nil : {A : Type 0} (xs : List A) → xs ++ [] ≡ xs
@@ -98,55 +102,162 @@ adds_more inst old mid new a b = record {
   may_stand = b.may_stand;
   more = a.more ++ b.more;
   behind = b.behind ∙ ap (λ (ls : List RefinedList). ls ++ b.more) a.behind ∙ append_assoc old a.more b.more;
-  unlike = unlike_more inst old a.more b.more a.unlike
-      (subst (λ (ls : List RefinedList). AddUnlike inst ls b.more) a.behind b.unlike);
+  unlike = unlike_more inst (zero_refined inst ∷ old) a.more b.more a.unlike
+      (subst (λ (ls : List RefinedList). AddUnlike inst (zero_refined inst ∷ ls) b.more) a.behind b.unlike);
 }
+
+-- how long they are
+adds_length : (inst : Tables) (old new : List RefinedList) (adds : AddsSome inst old new)
+    → length new ≡ length old + length adds.more
+adds_length inst old new adds = ap length adds.behind ∙ length-append old adds.more
+
+one_longer : (inst : Tables) (list : RefinedList) (old new : List RefinedList) → AddsOne inst list old new
+    → length new ≤ length old + 1
+one_longer inst list old new (inl (e, found)) = omega (arith, ap length e)
+one_longer inst list old new (inr (e, unlike)) = omega (arith, ap length e, length-append old (list ∷ []))
+
+-- one at most is, as long as there are fewer than so many
+pub adds_at_most_one : (inst : Tables) (list : RefinedList) (end : ℕ) (old new : List RefinedList)
+    → MayStand inst old → IsRefinedList inst list → IsInOrder list → end ≤ 16 → length old < end
+    → AddsOne inst list old new → AddsAtMostOne inst end old new
+adds_at_most_one inst list end old new may range order few room is =
+    let longer = one_longer inst list old new is in
+    record {
+      adds = adds_one inst list old new may range order (omega (arith, few, room)) is;
+      one = longer;
+      within = omega (arith, longer, room);
+    }
+
+pub stays_at_most_one : (inst : Tables) (end : ℕ) (lists : List RefinedList) → MayStand inst lists
+    → length lists ≤ end → AddsAtMostOne inst end lists lists
+stays_at_most_one inst end lists may within =
+    record { adds = adds_none inst lists may; one = omega arith; within = within }
+
+-- ---- lists for which there are turns
+
+pub searched_none : (inst : Tables) (turns end : ℕ) (lists : List RefinedList) → MayStand inst lists
+    → length lists ≤ end → AddsSearchedTo inst turns end 0 lists lists
+searched_none inst turns end lists may within = record {
+  adds = adds_none inst lists may;
+  within = within;
+  counted = omega arith;
+  searched = λ k l. absurd (omega (arith, l));
+}
+
+searched_next : (turns index : ℕ) → get_or short_searches index 0 * 4 ≤ turns
+    → ((k : ℕ) → k < index → get_or short_searches k 0 * 4 ≤ turns)
+    → (k : ℕ) → k < index + 1 → get_or short_searches k 0 * 4 ≤ turns
+searched_next turns index here before k l =
+    let below : k ≤ index = omega (arith, l) in at (eq-or-lt_of_le below)
+  where
+    at : (k ≡ index) ⊎ (k < index) → get_or short_searches k 0 * 4 ≤ turns
+    at (inl e) = subst (λ (j : ℕ). get_or short_searches j 0 * 4 ≤ turns) (sym e) here
+    at (inr less) = before k less
+
+pub searched_more : (inst : Tables) (turns end index : ℕ) (old mid new : List RefinedList)
+    → get_or short_searches index 0 * 4 ≤ turns → AddsSearchedTo inst turns end index old mid
+    → AddsAtMostOne inst end mid new → AddsSearchedTo inst turns end (index + 1) old new
+searched_more inst turns end index old mid new asked a b =
+    let counted = a.counted in
+    let one = b.one in
+    record {
+      adds = adds_more inst old mid new a.adds b.adds;
+      within = b.within;
+      counted = omega (arith, counted, one);
+      searched = searched_next turns index asked a.searched;
+    }
+
+pub searched_all : (inst : Tables) (turns end index : ℕ) (old new : List RefinedList)
+    → AddsSearchedTo inst turns end index old new → AddsSearched inst turns end old new
+searched_all inst turns end index old new a =
+    let counted = a.counted in
+    record { adds = a.adds; within = a.within; searched = λ k l. a.searched k (omega (arith, counted, l)) }
 
 -- ---- the one that is raised
 
 -- one that prices alike with the list that is told stands among them
 among_added : (inst : Tables) (prices : PriceList) (list : RefinedList) (old new : List RefinedList)
     → list ≡ refined_of inst prices → AddsOne inst list old new
-    → Any (λ (other : RefinedList). PriceAlike inst other (refined_of inst prices)) new
+    → Any (λ (other : RefinedList). PriceAlike inst other (refined_of inst prices)) (zero_refined inst ∷ new)
 among_added inst prices list old new told (inl (e, found)) =
     let Alike : RefinedList → RefinedList → Type 0 = λ l other. PriceAlike inst other l in
-    subst (λ (ls : List RefinedList). Any (Alike (refined_of inst prices)) ls) (sym e)
-    (subst (λ (l : RefinedList). Any (Alike l) old) told found)
+    subst (λ (ls : List RefinedList). Any (Alike (refined_of inst prices)) (zero_refined inst ∷ ls)) (sym e)
+    (subst (λ (l : RefinedList). Any (Alike l) (zero_refined inst ∷ old)) told found)
 among_added inst prices list old new told (inr (e, unlike)) =
     let Alike : RefinedList → RefinedList → Type 0 = λ l other. PriceAlike inst other l in
-    subst (λ (ls : List RefinedList). Any (Alike (refined_of inst prices)) ls) (sym e)
-    (any_last (Alike (refined_of inst prices)) old list (subst (PriceAlike inst list) told (alike_itself inst list)))
+    subst (λ (ls : List RefinedList). Any (Alike (refined_of inst prices)) (zero_refined inst ∷ ls)) (sym e)
+    (any_last (Alike (refined_of inst prices)) (zero_refined inst ∷ old) list
+    (subst (PriceAlike inst list) told (alike_itself inst list)))
 
 pub has_raised_from : (inst : Tables) (starts : List ℕ) (prices : PriceList) (list : RefinedList)
-    (old new : List RefinedList) → IsRaisedFor inst starts prices → list ≡ refined_of inst prices
-    → AddsOne inst list old new → HasRaised inst starts new
-has_raised_from inst starts prices list old new raised told adds =
-    record { prices = prices; raised = raised; among = among_added inst prices list old new told adds }
+    (old new : List RefinedList) → IsRaisedFor inst starts prices → least_total inst ≤ℤ root_worth inst prices
+    → list ≡ refined_of inst prices → AddsOne inst list old new → HasRaised inst starts new
+has_raised_from inst starts prices list old new raised not_below told adds = record {
+  prices = prices;
+  raised = raised;
+  not_below_zeros = not_below;
+  among = among_added inst prices list old new told adds;
+}
 
 has_raised_more : (inst : Tables) (starts : List ℕ) (lists more : List RefinedList) → HasRaised inst starts lists
     → HasRaised inst starts (lists ++ more)
 has_raised_more inst starts lists more h = record {
   prices = h.prices;
   raised = h.raised;
-  among = any_left (λ (other : RefinedList). PriceAlike inst other (refined_of inst h.prices)) lists more h.among;
+  not_below_zeros = h.not_below_zeros;
+  among = any_left (λ (other : RefinedList). PriceAlike inst other (refined_of inst h.prices))
+      (zero_refined inst ∷ lists) more h.among;
 }
 
 -- ---- all of them
 
-pub lists_are : (inst : Tables) (incumbent : Option (List ℕ)) (old mid new : List RefinedList)
-    → AddsRaised inst incumbent old mid → AddsSome inst mid new → AreListsFor inst incumbent old new
-lists_are inst incumbent old mid new a b =
-    let both = adds_more inst old mid new a.adds b in
-    record {
-      few = both.may_stand.few;
-      in_range = both.may_stand.in_range;
-      in_order = both.may_stand.in_order;
-      more = both.more;
-      behind = both.behind;
-      unlike = both.unlike;
-      raised = λ room starts plan. subst (HasRaised inst starts) (sym b.behind)
-          (has_raised_more inst starts mid b.more (a.raised room starts plan));
-    }
+module _ (inst : Tables) (incumbent : Option (List ℕ)) (turns most end : ℕ) (old ladder groups new : List RefinedList)
+    (ends : end ≡ length old + min most (16 - length old)) (a : AddsRaised inst incumbent end old ladder)
+    (b : AddsAtMostOne inst end ladder groups) (d : AddsSearched inst turns end groups new) where
+  first_two : AddsSome inst old groups
+  first_two = adds_more inst old ladder groups a.adds.adds b.adds
+
+  all_more : AddsSome inst old new
+  all_more = adds_more inst old groups new first_two d.adds
+
+  added_counted : length all_more.more ≤ most
+  added_counted =
+      let same = adds_length inst old new all_more in
+      let within = d.within in
+      let least = min-le_left most (16 - length old) in
+      omega (arith, same, within, least, ends)
+
+  added_searched : (k : ℕ) → k + 2 < length all_more.more → get_or short_searches k 0 * 4 ≤ turns
+  added_searched k l =
+      let same = adds_length inst old new all_more in
+      let one = a.adds.one in
+      let two = b.one in
+      d.searched k (omega (arith, same, one, two, l))
+
+  room_left : length old < 16 → 1 ≤ most → length old < end
+  room_left room some =
+      let least : 1 ≤ min most (16 - length old) = le-min some (omega (arith, room)) in
+      omega (arith, ends, least)
+
+  later_lists : new ≡ ladder ++ (b.adds.more ++ d.adds.more)
+  later_lists =
+      let later = adds_more inst ladder groups new b.adds d.adds in
+      d.adds.behind ∙ ap (λ (ls : List RefinedList). ls ++ d.adds.more) b.adds.behind
+      ∙ append_assoc ladder b.adds.more d.adds.more
+
+  pub lists_are : AreListsFor inst incumbent old turns most new
+  lists_are = record {
+    few = all_more.may_stand.few;
+    in_range = all_more.may_stand.in_range;
+    in_order = all_more.may_stand.in_order;
+    more = all_more.more;
+    behind = all_more.behind;
+    unlike = all_more.unlike;
+    counted = added_counted;
+    searched = added_searched;
+    raised = λ room some starts plan. subst (HasRaised inst starts) (sym later_lists)
+        (has_raised_more inst starts ladder (b.adds.more ++ d.adds.more) (a.raised (room_left room some) starts plan));
+  }
 
 -- ---- the plan
 
@@ -194,24 +305,25 @@ no_plan inst i without starts opens =
     without.none (get_or starts i 0) (opens.allowed.allowed i (omega (arith, without.number, opens.allowed.each)))
 
 -- a list raised for the plan that was found is one for the plan
-pub raised_for : (inst : Tables) (incumbent : Option (List ℕ)) (found : List ℕ) (old new : List RefinedList)
-    → FindsPlan inst incumbent (Some found) → AddsSome inst old new → HasRaised inst found new
-    → AddsRaised inst incumbent old new
-raised_for inst incumbent found old new plan adds has = record {
+pub raised_for : (inst : Tables) (incumbent : Option (List ℕ)) (found : List ℕ) (end : ℕ) (old new : List RefinedList)
+    → FindsPlan inst incumbent (Some found) → AddsAtMostOne inst end old new → HasRaised inst found new
+    → AddsRaised inst incumbent end old new
+raised_for inst incumbent found end old new plan adds has = record {
   adds = adds;
   raised = λ room starts is. subst (λ (s : List ℕ). HasRaised inst s new) (sym (plan.1 starts is)) has;
 }
 
-pub none_raised : (inst : Tables) (incumbent : Option (List ℕ)) (lists : List RefinedList) → MayStand inst lists
-    → FindsPlan inst incumbent None → AddsRaised inst incumbent lists lists
-none_raised inst incumbent lists may none = record {
-  adds = adds_none inst lists may;
+pub none_raised : (inst : Tables) (incumbent : Option (List ℕ)) (end : ℕ) (lists : List RefinedList)
+    → MayStand inst lists → length lists ≤ end → FindsPlan inst incumbent None
+    → AddsRaised inst incumbent end lists lists
+none_raised inst incumbent end lists may within none = record {
+  adds = stays_at_most_one inst end lists may within;
   raised = λ room starts is. absurd (none starts is);
 }
 
-pub no_room : (inst : Tables) (incumbent : Option (List ℕ)) (lists : List RefinedList) → MayStand inst lists
-    → 16 ≤ length lists → AddsRaised inst incumbent lists lists
-no_room inst incumbent lists may full = record {
-  adds = adds_none inst lists may;
+pub no_room : (inst : Tables) (incumbent : Option (List ℕ)) (end : ℕ) (lists : List RefinedList) → MayStand inst lists
+    → length lists ≤ end → end ≤ length lists → AddsRaised inst incumbent end lists lists
+no_room inst incumbent end lists may within full = record {
+  adds = stays_at_most_one inst end lists may within;
   raised = λ room starts is. absurd (omega (arith, room, full));
 }

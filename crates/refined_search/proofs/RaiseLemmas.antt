@@ -53,7 +53,7 @@ use Rattle.refined_check.specs.Worths.{refined_pricing_at, refined_worths, AreRe
 use Rattle.refined_check.specs.Validity.{refined_claim, IsRefinedValid}
 use Rattle.refined_check.specs.Laws.{RefinedListsBoundBoxes}
 use Rattle.refined_search.specs.declared.raised.Raised.{Raised}
-use Rattle.refined_search.specs.Lists.{lists_of, AreListsFor}
+use Rattle.refined_search.specs.Lists.{lists_of, most_added, AreListsFor}
 use Rattle.refined_search.specs.Raising.{most_bound, within_range, BeginsWith, IsRaised}
 use Rattle.refined_search.specs.Steps.{IsBegun}
 use Rattle.refined_search.proofs.TreeLemmas.{nodes_wider, min_small, cut_proved, cut_reaches, cut_no_lower}
@@ -249,11 +249,11 @@ small_bound bound b range e = at_most (subst IsBoundInRange e range)
 
 -- what the steps came to
 pub record IsEnded (inst : Tables) (incumbent : Option (List ℕ)) (cert : Option RefinedCertificate) (turns : ℕ)
-    (part : Part) (lists : List RefinedList) (tables : List PriceRows) (begun : ReboundTree) (ended : SearchEnd)
-    (splits : ℕ)
+    (part : Part) (most : ℕ) (lists : List RefinedList) (tables : List PriceRows) (begun : ReboundTree)
+    (ended : SearchEnd) (splits : ℕ)
     : Type 0 where
   pub old_ok : (old : RefinedCertificate) → cert ≡ Some old → IsRefinedInRange inst old
-  pub lists_are : AreListsFor inst incumbent (lists_of cert) lists
+  pub lists_are : AreListsFor inst incumbent (lists_of cert) turns (most_added cert part most) lists
   pub tables_are : AreRefinedTables inst lists tables
   pub begun_is : IsBegun inst tables cert begun
   pub proved : IsProved risk_value inst (claim_by ended.bound tables ended.nodes)
@@ -275,8 +275,9 @@ pub record Laws (inst : Tables) : Type 0 where
   pub values : ValuesAreSmall risk_value
 
 module _ (inst : Tables) (incumbent : Option (List ℕ)) (cert : Option RefinedCertificate) (turns : ℕ) (part : Part)
-    (lists : List RefinedList) (tables : List PriceRows) (begun : ReboundTree) (ended : SearchEnd) (splits : ℕ)
-    (laws : Laws inst) (is : IsEnded inst incumbent cert turns part lists tables begun ended splits) where
+    (most : ℕ) (lists : List RefinedList) (tables : List PriceRows) (begun : ReboundTree) (ended : SearchEnd)
+    (splits : ℕ) (laws : Laws inst)
+    (is : IsEnded inst incumbent cert turns part most lists tables begun ended splits) where
   abbrev worths : Worths
   worths = refined_worths inst lists
 
@@ -383,7 +384,7 @@ module _ (inst : Tables) (incumbent : Option (List ℕ)) (cert : Option RefinedC
       at (inl e) = inl (counted ∙ e)
       at (inr o) = inr o
 
-  is_raised : IsRaised inst incumbent cert turns part (answer (within_range ended.bound) lists)
+  is_raised : IsRaised inst incumbent cert turns part most (answer (within_range ended.bound) lists)
   is_raised = record {
     in_range = in_range;
     valid = valid;
@@ -418,11 +419,11 @@ module _ (inst : Tables) (incumbent : Option (List ℕ)) (cert : Option RefinedC
 
   -- with the bound and the lists as they are made
   pub is_raised_as : (bound : Bound) (made : List RefinedList) → bound ≡ within_range ended.bound → made ≡ lists
-      → IsRaised inst incumbent cert turns part (answer bound made)
+      → IsRaised inst incumbent cert turns part most (answer bound made)
   is_raised_as bound made b l =
-      subst (λ (x : Bound). IsRaised inst incumbent cert turns part (answer x made)) (sym b)
-      (subst (λ (ls : List RefinedList). IsRaised inst incumbent cert turns part (answer (within_range ended.bound) ls))
-      (sym l) is_raised)
+      subst (λ (x : Bound). IsRaised inst incumbent cert turns part most (answer x made)) (sym b)
+      (subst (λ (ls : List RefinedList).
+      IsRaised inst incumbent cert turns part most (answer (within_range ended.bound) ls)) (sym l) is_raised)
 
 -- ---- the splits that were made
 

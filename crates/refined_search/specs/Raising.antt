@@ -26,7 +26,7 @@ use Rattle.refined_check.specs.certificate.Ranges.{IsRefinedInRange}
 use Rattle.refined_check.specs.Worths.{refined_worths}
 use Rattle.refined_check.specs.Validity.{IsRefinedValid}
 use Rattle.refined_search.specs.declared.raised.Raised.{Raised}
-use Rattle.refined_search.specs.Lists.{lists_of, AreListsFor}
+use Rattle.refined_search.specs.Lists.{lists_of, most_added, AreListsFor}
 
 -- the greatest number that a bound may be
 abbrev pub most_bound : ℤ
@@ -51,15 +51,15 @@ LeavesToOthers inst answer part given tree =
     IsLeftToOthers risk_value inst (refined_worths inst answer.cert.lists) answer.best part given tree
 
 -- the answer to a feasible plan or none and a certificate in range or none, with so many turns for the leaves of a part
--- of its tree
+-- of its tree, and so many further lists at most
 pub record IsRaised (inst : Tables) (incumbent : Option (List ℕ)) (cert : Option RefinedCertificate) (turns : ℕ)
-    (part : Part) (answer : Raised) : Type 0 where
+    (part : Part) (most : ℕ) (answer : Raised) : Type 0 where
   -- the new certificate is in range and valid, and bounds every feasible plan
   pub in_range : IsRefinedInRange inst answer.cert
   pub valid : IsRefinedValid inst answer.cert
   pub bounds : BoundsPlans risk_value inst answer.cert.bound
   -- its lists: the old ones, and more behind them
-  pub lists : AreListsFor inst incumbent (lists_of cert) answer.cert.lists
+  pub lists : AreListsFor inst incumbent (lists_of cert) turns (most_added cert part most) answer.cert.lists
   -- the tree that the search went on from, by the worths of these lists, and what it came to
   pub begun : ReboundTree
   pub begins : BeginsWith inst (length answer.cert.lists) (refined_worths inst answer.cert.lists) cert begun

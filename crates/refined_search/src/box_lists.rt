@@ -1,11 +1,11 @@
 //! Price lists that are raised over boxes which short searches leave open.
-ghost use Rattle.std.specs.Prelude.{◌<◌, length, IfOk, IfSome, OnOk};
+ghost use Rattle.std.specs.Prelude.{◌<◌, ◌≤◌, length, IfOk, IfSome, OnOk};
 ghost use Rattle.lagrange_bound.specs.Boxes.{IsBox};
 ghost use Rattle.branch_search.specs.Best.{IsFeasiblePlan};
-ghost use Rattle.refined_search.specs.Steps.{MayStand, AddsSome};
+ghost use Rattle.refined_search.specs.Steps.{MayStand, AddsAtMostOne, AddsSearched};
 
 use crate::begin::whole;
-use crate::lists::{MOST_LISTS, add_list};
+use crate::lists::add_list;
 use crate::open_box::open_box;
 use crate::order::is_in_order;
 use branch_search::go_on;
@@ -74,12 +74,14 @@ fn add_box_list(
     alloc: Global,
     inst: &Instance,
     spans: &[Span],
+    end: usize,
     lists: &mut Vec<RefinedPrices>,
 ) -> Result<(), AllocError>
     requires spans { IsBox inst.now spans.now }
     requires lists { MayStand inst.now lists.old.items }
-    requires room { length lists.old.items < 16 }
-    ensures { OnOk result (AddsSome inst.now lists.old.items lists.new.items) }
+    requires few { end ≤ 16 }
+    requires room { length lists.old.items < end }
+    ensures { OnOk result (AddsAtMostOne inst.now end lists.old.items lists.new.items) }
 {
     let list = raise_groups_in(alloc, inst, spans, 0)?;
     if !is_in_order(&list) {
@@ -89,28 +91,31 @@ fn add_box_list(
     Ok(())
 }
 
-/// Adds lists that are raised over boxes which short searches leave open, as long as there is room, and turns for
-/// longer searches, and a box is left.
+/// Adds lists that are raised over boxes which short searches leave open, as long as there are fewer than so many, and
+/// turns for longer searches, and a box is left.
 pub(crate) fn add_box_lists(
     alloc: Global,
     inst: &Instance,
     incumbent: Option<&[u32]>,
     turns: u32,
+    end: usize,
     lists: &mut Vec<RefinedPrices>,
 ) -> Result<(), AllocError>
     requires incumbent { IfSome incumbent (λ given. IsFeasiblePlan inst.now given.now) }
     requires lists { MayStand inst.now lists.old.items }
-    ensures { OnOk result (AddsSome inst.now lists.old.items lists.new.items) }
+    requires few { end ≤ 16 }
+    requires within { length lists.old.items ≤ end }
+    ensures { OnOk result (AddsSearched inst.now turns end lists.old.items lists.new.items) }
 {
     let mut part = STRIDE;
     for splits in SHORT {
-        if lists.len() >= MOST_LISTS || splits > turns / SHARE {
+        if lists.len() >= end || splits > turns / SHARE {
             break;
         }
         let Some(spans) = box_left(alloc, inst, incumbent, lists.as_slice(), splits, part)? else {
             break;
         };
-        add_box_list(alloc, inst, spans.as_slice(), lists)?;
+        add_box_list(alloc, inst, spans.as_slice(), end, lists)?;
         part = part.wrapping_add(STRIDE);
     }
     Ok(())

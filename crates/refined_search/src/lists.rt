@@ -1,11 +1,11 @@
 //! The price lists: those of the old certificate, and more behind them.
-ghost use Rattle.std.specs.Prelude.{◌≡◌, ◌<◌, length, option_map, IfOk, IfSome, OnOk};
+ghost use Rattle.std.specs.Prelude.{◌≡◌, ◌<◌, ◌≤◌, length, option_map, IfOk, IfSome, OnOk};
 ghost use Rattle.branch_search.specs.Best.{IsFeasiblePlan};
 ghost use Rattle.refined_prices.specs.RefinedLists.{IsRefinedList};
 ghost use Rattle.refined_check.specs.certificate.Ranges.{IsRefinedInRange};
 ghost use Rattle.instance_model.specs.Plans.{AreAllowedStarts};
 ghost use Rattle.refined_search.specs.Lists.{lists_of, HasRaised, AreListsFor};
-ghost use Rattle.refined_search.specs.Steps.{MayStand, AddsOne, AddsSome, AddsRaised};
+ghost use Rattle.refined_search.specs.Steps.{MayStand, AddsOne, AddsAtMostOne, AddsRaised};
 
 use crate::box_lists::add_box_lists;
 use crate::compare::has_alike;
@@ -20,7 +20,7 @@ use refined_text::{refined_list, versions_stay_in_range};
 use std::alloc::{AllocError, Global};
 
 /// How many lists a certificate may have.
-pub(crate) const MOST_LISTS: usize = 16;
+pub const MOST_LISTS: usize = 16;
 
 /// A copy of some lists.
 fn copy_of(alloc: Global, lists: &[RefinedPrices]) -> Result<Vec<RefinedPrices>, AllocError>
@@ -49,7 +49,7 @@ fn old_lists(
     }
 }
 
-/// Adds a list, unless one stands there that prices alike.
+/// Adds a list, unless the zeros or a list that stands there price alike.
 pub(crate) fn add_list(
     alloc: Global,
     inst: &Instance,
@@ -72,12 +72,14 @@ fn add_raised(
     alloc: Global,
     inst: &Instance,
     starts: &Starts,
+    end: usize,
     lists: &mut Vec<RefinedPrices>,
 ) -> Result<(), AllocError>
     requires starts { AreAllowedStarts inst.now starts.now }
     requires lists { MayStand inst.now lists.old.items }
-    requires room { length lists.old.items < 16 }
-    ensures adds { OnOk result (AddsSome inst.now lists.old.items lists.new.items) }
+    requires few { end ≤ 16 }
+    requires room { length lists.old.items < end }
+    ensures adds { OnOk result (AddsAtMostOne inst.now end lists.old.items lists.new.items) }
     ensures raised { OnOk result (HasRaised inst.now starts.now lists.new.items) }
 {
     versions_stay_in_range();
@@ -87,41 +89,47 @@ fn add_raised(
     Ok(())
 }
 
-/// Adds that list, where there is room and a plan of allowed starts.
+/// Adds that list, if there are fewer than so many and there is a plan of allowed starts.
 fn add_ladder_list(
     alloc: Global,
     inst: &Instance,
     incumbent: Option<&[u32]>,
+    end: usize,
     lists: &mut Vec<RefinedPrices>,
 ) -> Result<(), AllocError>
     requires incumbent { IfSome incumbent (λ given. IsFeasiblePlan inst.now given.now) }
     requires lists { MayStand inst.now lists.old.items }
-    ensures { OnOk result (AddsRaised inst.now (option_map (λ given. given.now) incumbent.entry) lists.old.items
+    requires few { end ≤ 16 }
+    requires within { length lists.old.items ≤ end }
+    ensures { OnOk result (AddsRaised inst.now (option_map (λ given. given.now) incumbent.entry) end lists.old.items
         lists.new.items) }
 {
-    if lists.len() >= MOST_LISTS {
+    if lists.len() >= end {
         return Ok(());
     }
     match ladder_plan(alloc, inst, incumbent)? {
         Some(starts) => {
-            add_raised(alloc, inst, &starts, lists)?;
+            add_raised(alloc, inst, &starts, end, lists)?;
             Ok(())
         }
         None => Ok(()),
     }
 }
 
-/// Adds the list that is raised by groups, where there is room.
+/// Adds the list that is raised by groups, if there are fewer than so many.
 fn add_group_list(
     alloc: Global,
     inst: &Instance,
     turns: u32,
+    end: usize,
     lists: &mut Vec<RefinedPrices>,
 ) -> Result<(), AllocError>
-    requires { MayStand inst.now lists.old.items }
-    ensures { OnOk result (AddsSome inst.now lists.old.items lists.new.items) }
+    requires lists { MayStand inst.now lists.old.items }
+    requires few { end ≤ 16 }
+    requires within { length lists.old.items ≤ end }
+    ensures { OnOk result (AddsAtMostOne inst.now end lists.old.items lists.new.items) }
 {
-    if lists.len() >= MOST_LISTS {
+    if lists.len() >= end {
         return Ok(());
     }
     let list = raise_groups(alloc, inst, turns)?;
@@ -132,24 +140,28 @@ fn add_group_list(
     Ok(())
 }
 
-/// The lists of the old certificate, if there is one, and behind them, where there is room, one that the ladder of
-/// prices raises for the plan handed in, or for that of the least allowed starts, one that is raised by groups, and
-/// more over boxes that short searches leave open. A list that prices alike with one before it is left out.
+/// The lists of the old certificate, if there is one, and at most so many behind them, if there is room. The ladder of
+/// prices raises the first further list for the plan handed in, or else for the plan of the least allowed starts. The
+/// second one is raised by groups, and the others over boxes that short searches leave open. A list that prices alike
+/// with the zeros or a list before it is left out.
 pub(crate) fn lists_for(
     alloc: Global,
     inst: &Instance,
     incumbent: Option<&[u32]>,
     cert: Option<&RefinedCertificate>,
     turns: u32,
+    most: usize,
 ) -> Result<Vec<RefinedPrices>, AllocError>
     requires incumbent { IfSome incumbent (λ given. IsFeasiblePlan inst.now given.now) }
     requires cert { IfSome cert (λ old. IsRefinedInRange inst.now old.now) }
     ensures { IfOk result (λ lists. AreListsFor inst.now (option_map (λ given. given.now) incumbent.entry)
-        (lists_of (option_map (λ old. old.now) cert.entry)) lists.items) }
+        (lists_of (option_map (λ old. old.now) cert.entry)) turns most lists.items) }
 {
     let mut lists = old_lists(alloc, cert)?;
-    add_ladder_list(alloc, inst, incumbent, &mut lists)?;
-    add_group_list(alloc, inst, turns, &mut lists)?;
-    add_box_lists(alloc, inst, incumbent, turns, &mut lists)?;
+    let room = MOST_LISTS - lists.len();
+    let end = lists.len() + most.min(room);
+    add_ladder_list(alloc, inst, incumbent, end, &mut lists)?;
+    add_group_list(alloc, inst, turns, end, &mut lists)?;
+    add_box_lists(alloc, inst, incumbent, turns, end, &mut lists)?;
     Ok(lists)
 }

@@ -2,6 +2,7 @@
 ghost use Rattle.std.specs.Prelude.{◌≡◌, ◌<◌, IfOk, IfSome, option_map};
 ghost use Rattle.branch_search.specs.Best.{IsFeasiblePlan};
 ghost use Rattle.refined_check.specs.certificate.Ranges.{IsRefinedInRange};
+ghost use Rattle.refined_search.specs.Lists.{most_added};
 ghost use Rattle.refined_search.specs.Raising.{within_range, IsRaised};
 
 use crate::Raised;
@@ -31,8 +32,19 @@ fn within_range(bound: Bound) -> Bound
     }
 }
 
-/// Makes a certificate by refined price lists for the scores of all plans, or goes on with one: given a feasible plan
-/// or none, a certificate in range or none, how many splits to make at most, and of which leaves of its tree.
+/// How many lists may be added: none to a certificate whose leaves are in several parts.
+fn most_added(cert: Option<&RefinedCertificate>, part: Part, most: usize) -> usize
+    ensures { result ≡ most_added (option_map (λ old. old.now) cert.entry) part most }
+{
+    match cert {
+        Some(_) => { if part.count > 1 { 0 } else { most } }
+        None => most,
+    }
+}
+
+/// Makes a certificate by refined price lists for the scores of all plans, or goes on with one. Given are a feasible
+/// plan or none, a certificate in range or none, how many splits to make at most, of which leaves of its tree, and how
+/// many lists to add at most.
 ///
 /// Takes memory for a table of each list, for each node and each leaf that waits, and for the search of each new list.
 pub fn raise_bound(
@@ -42,12 +54,13 @@ pub fn raise_bound(
     cert: Option<&RefinedCertificate>,
     turns: u32,
     part: Part,
+    most: usize,
 ) -> Result<Raised, AllocError>
     requires incumbent { IfSome incumbent (λ given. IsFeasiblePlan inst.now given.now) }
     requires cert { IfSome cert (λ old. IsRefinedInRange inst.now old.now) }
     requires part { part.number < part.count }
     ensures raised { IfOk result (IsRaised inst.now (option_map (λ given. given.now) incumbent.entry)
-        (option_map (λ old. old.now) cert.entry) turns part) }
+        (option_map (λ old. old.now) cert.entry) turns part most) }
 {
     inst.fits();
     nodes_are_one_tree();
@@ -56,7 +69,8 @@ pub fn raise_bound(
     tables_bound_boxes();
     refined_lists_bound_boxes();
     worths_are_small(&RiskGoal);
-    let lists = lists_for(alloc, inst, incumbent, cert, turns)?;
+    let more = most_added(cert, part, most);
+    let lists = lists_for(alloc, inst, incumbent, cert, turns, more)?;
     let tables = refined_tables_of(alloc, inst, lists.as_slice())?;
     let rows = tables.as_slice();
     let begun = begin(alloc, inst, cert, rows)?;

@@ -5,10 +5,10 @@ use Rattle.command_bound.proofs.MadeLemmas.{counted_above, counted_within, long_
 use Rattle.command_bound.proofs.bound.tell.Goals as goal
 
 pub text_length-requires : goal.text_length-requires
-text_length-requires g c = rw c.from_refined-cert.ensures c.requires.made.is.in_range
+text_length-requires g c = rw c.from_refined-cert.ensures c.requires.made.within.is.in_range
 
 pub put_certificate-requires : goal.put_certificate-requires
-put_certificate-requires g c = rw c.from_refined-cert.ensures (record { in_range = c.requires.made.is.in_range })
+put_certificate-requires g c = rw c.from_refined-cert.ensures (record { in_range = c.requires.made.within.is.in_range })
 
 pub returns-then-limits-text_length : goal.returns-then-limits-text_length
 returns-then-limits-text_length g c =

@@ -1,4 +1,4 @@
-use Rattle.std.proofs.Common.{sym, subst, List, All}
+use Rattle.std.proofs.Common.{sym, subst, ℕ, List, All}
 use Rattle.std.specs.Prelude.{option_map}
 use Rattle.certificate_lines.specs.declared.line.Bound.TheVariants.{NoPlan}
 use Rattle.certificate_tree.specs.declared.node.Node.{Node}
@@ -7,6 +7,7 @@ use Rattle.certificate_tree.specs.Validity.{IsTreeOfClaim}
 use Rattle.certificate_tree.specs.PriceTables.{claim_by}
 use Rattle.refined_prices.specs.RefinedLists.{RefinedList, IsRefinedList}
 use Rattle.refined_check.specs.Worths.{AreRefinedTables}
+use Rattle.refined_search.specs.Lists.{lists_of, AreListsFor}
 use Rattle.refined_search.proofs.BeginLemmas.{tables_ready}
 use Rattle.refined_search.proofs.LentLemmas.{seen, lent_ok, lent_trees}
 use Rattle.refined_search.proofs.RaiseLemmas.{IsEnded, Laws, is_raised_as, one_table_more, grows_by}
@@ -89,9 +90,10 @@ returns c =
       values = c.worths_are_small.ensures.values;
     } in
     let is : IsEnded inst (option_map (λ given. given.now) c.args.incumbent) (seen c.args.cert) c.args.turns c.args.part
-    lists rows begun end c.new_splits-splits.result = record {
+    c.args.most lists rows begun end c.new_splits-splits.result = record {
       old_ok = lent_ok inst c.args.cert c.requires.cert;
-      lists_are = c.in_ok-lists.ensures;
+      lists_are = subst (λ (n : ℕ). AreListsFor inst (option_map (λ given. given.now) c.args.incumbent)
+          (lists_of (seen c.args.cert)) c.args.turns n lists) c.most_added-more.ensures c.in_ok-lists.ensures;
       tables_are = subst (AreRefinedTables inst lists) (sym c.as_slice-rows.ensures.value) made;
       begun_is = c.in_ok-begun.ensures;
       proved = ends.proved;
@@ -103,6 +105,6 @@ returns c =
     } in
     record {
       raised = is_raised_as inst (option_map (λ given. given.now) c.args.incumbent) (seen c.args.cert) c.args.turns
-          c.args.part lists rows begun end c.new_splits-splits.result laws is c.within_range.result c.from_vec.result
+          c.args.part c.args.most lists rows begun end c.new_splits-splits.result laws is c.within_range.result c.from_vec.result
           c.within_range.ensures c.from_vec.ensures;
     }
