@@ -1,9 +1,7 @@
 """The tables of a comparison: runs.csv, table.md and table.html, from its records."""
 from __future__ import annotations
 
-import csv
 import html
-import io
 import math
 import re
 import statistics
@@ -12,7 +10,7 @@ from typing import Any, Dict, Iterable, Iterator, List, Mapping, Optional, Seque
 
 from ..model.exact import SCORES
 from ..model.scores import percent_of
-from ..tables.cells import plain_text
+from ..tables.cells import plain_text, rows_text
 from .tasks import Record, Task
 
 # A row by columns, and the head and the lines of a table.
@@ -81,12 +79,7 @@ def cell(column: str, it: Any) -> Any:
 
 def csv_text(rows: Iterable[Row]) -> str:
     """The text of runs.csv."""
-    out = io.StringIO()
-    writer = csv.writer(out, lineterminator="\n")
-    writer.writerow(COLUMNS)
-    for row in rows:
-        writer.writerow([cell(name, row[name]) for name in COLUMNS])
-    return out.getvalue()
+    return rows_text(COLUMNS, ([cell(name, row[name]) for name in COLUMNS] for row in rows))
 
 
 def best_scores(rows: Iterable[Row]) -> Dict[Tuple[str, str], int]:

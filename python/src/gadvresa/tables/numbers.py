@@ -17,14 +17,12 @@ written.
 """
 from __future__ import annotations
 
-import csv
-import io
 import json
 import os
 import signal
 import subprocess
 import sys
-from typing import Any, Dict, Iterable, List, Mapping, Optional, Sequence, Tuple
+from typing import Any, Dict, List, Mapping, Optional, Sequence, Tuple
 
 from ..cli import PLANNER, complain, say, status_of, stop
 from ..model.exact import shown
@@ -33,7 +31,7 @@ from ..reports.tables import Period, Periods
 from ..running.statuses import Status
 from ..whole_files import write_named
 from .asking import no_table
-from .cells import plain_text
+from .cells import plain_text, rows_text
 
 REPORTS = ("evaluate", "check", "solve", "repair")
 TEXTS = ("verdict", "rule", "name", "resource", "exclusion")
@@ -175,10 +173,3 @@ def load_rows(period: Period) -> List[List[Any]]:
     loads = [[plain_text(it.resource), shown(it.load), shown(it.lower), shown(it.upper), it.state]
              for it in period.loads]
     return [[*begin, *load] for load in loads or [[""] * len(LOADS)]]
-
-
-def rows_text(heads: Sequence[str], rows: Iterable[Sequence[Any]]) -> str:
-    """Rows below their heads, as CSV."""
-    text = io.StringIO()
-    csv.writer(text, lineterminator="\n").writerows([heads, *rows])
-    return text.getvalue()
