@@ -2,11 +2,12 @@
 import json
 import os
 import pickle
+import threading
 from fractions import Fraction
 
 import gadvresa
 import pytest
-from gadvresa import Instance, Plan
+from gadvresa import Certificate, Instance, Plan, whole_files
 
 HOSTILE = ["slack=0.001", "S1", "end", "-", "--help", "a\u2028b", "c\u0085d", "e\u00a0f", "</script>", "\"'`$(x)", "\\",
            "\u202eright-to-left", "x" * 128, "\U0001f4a1", "rounded", "g\u2003h", "%s{}", "../../etc", "i\ufeff"]
@@ -260,3 +261,38 @@ def test_an_interrupt_behind_the_writing_stays_one(tmp_path, monkeypatch):
     with pytest.raises(KeyboardInterrupt):
         Plan({"a": 1}).write(tmp_path / "plan")
     assert (tmp_path / "plan").read_text() == "a 1\n"
+
+
+@pytest.mark.parametrize("read", [Plan.read, Certificate.read, Instance.read, Instance.mapped])
+def test_a_device_is_no_file(read):
+    with pytest.raises(OSError, match="is no "):
+        read("/dev/zero")
+
+
+@pytest.mark.parametrize("read", [Instance.read, Instance.mapped])
+def test_an_instance_is_no_pipe(read, tmp_path):
+    os.mkfifo(tmp_path / "pipe")
+    with pytest.raises(OSError, match="is no regular file"):
+        read(tmp_path / "pipe")
+
+
+def test_plans_and_certificates_of_pipes(tmp_path):
+    os.mkfifo(tmp_path / "pipe")
+    for read, data, wanted in ((Plan.read, b"a 1\n", Plan({"a": 1})), (Certificate.read, b"c", Certificate(b"c"))):
+        writer = threading.Thread(target=(tmp_path / "pipe").write_bytes, args=(data,))
+        writer.start()
+        assert read(tmp_path / "pipe") == wanted
+        writer.join()
+
+
+def test_a_file_without_an_end_is_read_up_to_a_bound(monkeypatch, tmp_path):
+    monkeypatch.setattr(whole_files, "LARGEST", 10)
+    monkeypatch.setattr(whole_files, "AT_ONCE", 4)
+    path = tmp_path / "plan"
+    for text, fits in ((b"a 12345678", True), (b"a 123456789", False)):
+        path.write_bytes(text)
+        if fits:
+            assert Plan.read(path) == Plan({"a": 12345678})
+        else:
+            with pytest.raises(OSError, match="has more than 10 bytes"):
+                Plan.read(path)

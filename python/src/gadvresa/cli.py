@@ -15,7 +15,7 @@ import traceback
 from typing import Any, Callable, List, NoReturn, Sequence, Tuple
 
 from .running.statuses import SIGNALLED, Status
-from .whole_files import write_all
+from .whole_files import read_named, write_all
 
 # The top folder of the clone, or of the Debian package, that this stands in, and the launcher there.
 TOP = os.path.normpath(os.path.join(os.path.dirname(os.path.abspath(__file__)), "..", "..", ".."))
@@ -79,8 +79,7 @@ def say(text: str) -> None:
 def held(path: str) -> bytes:
     """What a file holds. Ends the script where it can't be read."""
     try:
-        with open(path, "rb") as file:
-            return file.read()
+        return read_named(path)
     except OSError as error:
         stop(Status.SCRIPT_UNREAD, f"{path}: {error.strerror}")
 

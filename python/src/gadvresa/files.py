@@ -7,7 +7,7 @@ from dataclasses import dataclass, field
 from typing import Dict, Iterable, Iterator, Mapping, Tuple, Union
 
 from .running import Path, tidied
-from .whole_files import permissions, replacing
+from .whole_files import permissions, read_named, replacing
 
 # The line of a plan: a name without blanks, one blank or more, and the start. Only a line feed ends a line.
 LINE = re.compile(r"([^ ]+) +([0-9]{1,9}) *")
@@ -49,8 +49,7 @@ class Plan(Mapping[str, int]):
     @classmethod
     def read(cls, path: Path) -> Plan:
         """The plan of a file. Raises ValueError, with the line, where it has a fault, and OSError."""
-        with open(path, "rb") as file:
-            return cls.of_text(file.read().decode("utf-8", "surrogateescape"))
+        return cls.of_text(read_named(path).decode("utf-8", "surrogateescape"))
 
     @classmethod
     def of_text(cls, text: str) -> Plan:
@@ -122,8 +121,7 @@ class Certificate:
     @classmethod
     def read(cls, path: Path) -> Certificate:
         """The certificate of a file. Raises OSError where it can't be read."""
-        with open(path, "rb") as file:
-            return cls(file.read())
+        return cls(read_named(path))
 
     def write(self, path: Path) -> None:
         """Writes the certificate whole, or not at all."""

@@ -18,6 +18,8 @@ from typing import BinaryIO, Callable, Iterator, Optional, Union
 BESIDE = ".part-"
 # The permissions of a new file, before the umask takes its part away.
 NEW = 0o666
+# The most bytes that are read of a file that a caller names, and how many at a time.
+LARGEST, AT_ONCE = 1 << 30, 1 << 20
 
 
 def write_whole(path: str, data: Union[str, bytes]) -> None:
@@ -153,10 +155,42 @@ def open_regular(path: str, more: int = os.O_NOFOLLOW) -> BinaryIO:
     with `more` as 0 a link to a regular file is followed.
     """
     number = os.open(path, os.O_RDONLY | os.O_NONBLOCK | os.O_CLOEXEC | more)
-    if not stat.S_ISREG(os.fstat(number).st_mode):
+    form = os.fstat(number).st_mode
+    if not stat.S_ISREG(form):
         os.close(number)
+        if stat.S_ISDIR(form):
+            raise IsADirectoryError(errno.EISDIR, os.strerror(errno.EISDIR), path)
         raise OSError(errno.EINVAL, "is no regular file", path)
     return os.fdopen(number, "rb")
+
+
+def open_named(path: Union[str, "os.PathLike[str]"]) -> BinaryIO:
+    """Opens a file that a caller names for reading; a pipe or a terminal will do. Raises OSError for a folder, and for
+    any other device, which may have no end.
+    """
+    file = open(path, "rb")
+    form = os.fstat(file.fileno()).st_mode
+    if stat.S_ISBLK(form) or stat.S_ISCHR(form) and not file.isatty():
+        file.close()
+        raise OSError(errno.EINVAL, "is no file and no pipe", path)
+    return file
+
+
+def read_named(path: Union[str, "os.PathLike[str]"]) -> bytes:
+    """What a file holds that a caller names, or a pipe. Raises OSError as `open_named`, and where it is too long."""
+    with open_named(path) as file:
+        return read_bounded(file, path)
+
+
+def read_bounded(file: BinaryIO, path: Union[str, "os.PathLike[str]"]) -> bytes:
+    """What is left of an open file. Raises OSError where that is more than can be of use, or has no end."""
+    parts, left = [], LARGEST
+    for part in iter(lambda: file.read(AT_ONCE), b""):
+        left -= len(part)
+        if left < 0:
+            raise OSError(errno.EFBIG, f"has more than {LARGEST} bytes", path)
+        parts.append(part)
+    return b"".join(parts)
 
 
 def remove_any(path: str) -> None:

@@ -15,7 +15,7 @@ import re
 import shlex
 from typing import Any, Dict, List, Mapping, Optional, Sequence
 
-from ..whole_files import sum_of
+from ..whole_files import read_named, sum_of
 
 # What is to be run, and what came of it, as they stand in files of JSON.
 Task = Dict[str, Any]
@@ -31,22 +31,21 @@ class Fault(Exception):
 def read_methods(path: str) -> Dict[str, List[str]]:
     """The methods of a file, each with its words, in order."""
     methods: Dict[str, List[str]] = {}
-    with open(path, encoding="utf-8") as file:
-        for number, line in enumerate(file, 1):
-            try:
-                words = shlex.split(line, comments=True)
-            except ValueError as fault:
-                raise Fault(f"{path}, line {number}: {fault}") from None
-            if not words:
-                continue
-            name = words.pop(0)
-            if not METHOD.fullmatch(name):
-                raise Fault(f"{path}, line {number}: {name!r} is no name of a method: letters, digits and _.+- only")
-            if name in methods:
-                raise Fault(f"{path}, line {number}: there is a method {name} above")
-            if not words or not any("{plan}" in word for word in words):
-                raise Fault(f"{path}, line {number}: the command of {name} has no {{plan}}, which it is to write")
-            methods[name] = words
+    for number, line in enumerate(read_named(path).decode("utf-8").split("\n"), 1):
+        try:
+            words = shlex.split(line, comments=True)
+        except ValueError as fault:
+            raise Fault(f"{path}, line {number}: {fault}") from None
+        if not words:
+            continue
+        name = words.pop(0)
+        if not METHOD.fullmatch(name):
+            raise Fault(f"{path}, line {number}: {name!r} is no name of a method: letters, digits and _.+- only")
+        if name in methods:
+            raise Fault(f"{path}, line {number}: there is a method {name} above")
+        if not words or not any("{plan}" in word for word in words):
+            raise Fault(f"{path}, line {number}: the command of {name} has no {{plan}}, which it is to write")
+        methods[name] = words
     if not methods:
         raise Fault(f"{path} has no method")
     return methods

@@ -30,6 +30,7 @@ from ..cli import say, stop
 from ..model.exact import COUNTS
 from ..model.json_text import Broken, Data
 from ..running.statuses import Status
+from ..whole_files import open_regular, read_bounded
 from . import certificate, instance, lines
 from .case import Case, Judge, Question
 from .finding import Finding
@@ -64,7 +65,7 @@ def too_long(case: Case) -> Finding:
 
 def unread(case: Case) -> Finding:
     try:
-        with open(case.name, "rb") as file:
+        with open_regular(case.name, 0) as file:
             file.read(1)
     except OSError as error:
         return Finding().say("found", f"{case.name}: {error.strerror}")
@@ -192,7 +193,7 @@ def labelled(label: str, text: str) -> List[str]:
 def standard_input() -> bytes:
     """All of standard input."""
     with open(0, "rb", closefd=False) as file:
-        return file.read()
+        return read_bounded(file, "standard input")
 
 
 def known_page() -> Page:

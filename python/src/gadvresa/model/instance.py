@@ -14,6 +14,7 @@ from functools import cached_property
 from typing import Any, Callable, Dict, FrozenSet, List, Mapping, Tuple, TypeVar
 
 from ..running.finding import Path
+from ..whole_files import open_regular
 from .exact import counted, kept, kept_whole
 from .json_text import Broken, Data, Value, mapped
 
@@ -167,10 +168,10 @@ class Instance:
     def read(cls, path: Path) -> Instance:
         """The instance of a file, whose tables are read once they are asked for.
 
-        Raises OSError where it can't be opened. What is wrong with its text is said by the calls that take it; a table
-        that can't be read raises Unreadable.
+        Raises OSError where it can't be opened, or is no regular file, as it is read more than once. What is wrong with
+        its text is said by the calls that take it; a table that can't be read raises Unreadable.
         """
-        with open(path, "rb"):
+        with open_regular(os.fspath(path), 0):
             return cls(path)
 
     @classmethod
@@ -196,7 +197,7 @@ class Instance:
         if self._is_mapped:
             text: Data = mapped(self.path)
         else:
-            with open(self.path, "rb") as file:
+            with open_regular(self.path, 0) as file:
                 text = file.read()
         try:
             return Value.of(text).members()

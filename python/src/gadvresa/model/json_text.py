@@ -13,6 +13,8 @@ import re
 import stat
 from typing import Any, Dict, Iterator, List, Optional, Tuple, Union
 
+from ..whole_files import open_named, read_bounded
+
 # The bytes of a text: those in memory, or a file that is mapped.
 Data = Union[bytes, mmap.mmap]
 
@@ -31,11 +33,11 @@ BLANKS = re.compile(rb'[ \t\n\r]*')
 
 def mapped(path: str) -> Data:
     """The bytes of a file, without a copy if it can be mapped; it mustn't be changed while they are used."""
-    with open(path, "rb") as file:
+    with open_named(path) as file:
         status = os.fstat(file.fileno())
         if stat.S_ISREG(status.st_mode) and status.st_size > 0:
             return mmap.mmap(file.fileno(), 0, access=mmap.ACCESS_READ)
-        return file.read()
+        return read_bounded(file, path)
 
 
 class Broken(Exception):

@@ -11,7 +11,7 @@ import re
 from dataclasses import dataclass
 from typing import BinaryIO, Collection, Dict, List, Mapping, Optional, Sequence, Tuple
 
-from ..whole_files import open_regular
+from ..whole_files import open_named, open_regular
 
 HEADS = (b"mpcert 1", b"mpcert 2", b"mpcert 3")
 NEWEST = HEADS[-1]
@@ -69,7 +69,7 @@ class Lines:
 
 def read_certificate(path: str) -> Certificate:
     """The certificate that a file holds. A file that is none is read up to the line that shows it."""
-    with open(path, "rb") as file:
+    with open_named(path) as file:
         lines = Lines(file, path)
         head = lines.needed()
         if head not in HEADS:

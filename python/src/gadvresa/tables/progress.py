@@ -5,6 +5,7 @@ import re
 from typing import List, NamedTuple, Optional
 
 from ..reports import NoReport
+from ..whole_files import read_named
 
 SECONDS = re.compile(r"[0-9]+(\.[0-9]+)?")
 WHOLE = re.compile(r"-?[0-9]{1,40}")
@@ -20,8 +21,7 @@ class Round(NamedTuple):
 
 def read_progress(path: str) -> List[Round]:
     """The rounds of a file. A last line without an end isn't whole yet. Raises NoReport, and OSError."""
-    with open(path, encoding="utf-8", errors="replace") as file:
-        lines = file.read().split("\n")[:-1]
+    lines = read_named(path).decode("utf-8", "replace").split("\n")[:-1]
     rounds: List[Round] = []
     for number, line in enumerate(lines, 1):
         cells = line.rstrip("\r").split("\t")
