@@ -98,7 +98,11 @@ def _note(number: int, _: object) -> None:
 
 
 def end_all_of(process: "subprocess.Popen[bytes]") -> None:
-    """Kills a program that leads a session of its own, and what it started; what is in its session also behind it."""
+    """Kills a program that leads a session of its own, and what it started; what is in its session also behind it.
+
+    A process that left the session, and whose parent has ended, is left: to take it in, this process would have to
+    take in all orphans of its caller too. The proved programs start no other process.
+    """
     if process.returncode is None:
         send(below(process.pid), signal.SIGKILL)
     with contextlib.suppress(ProcessLookupError, PermissionError):
