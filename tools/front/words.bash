@@ -1,3 +1,4 @@
+# Made by dev/commands --write of dev/commands.toml: change the table, and not this file.
 # The words that `planner` takes, and how its runs end: the one table from which words are checked and help is printed.
 
 # The programs, first the one that is meant where none is named.

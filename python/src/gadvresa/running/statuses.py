@@ -1,3 +1,4 @@
+# Made by dev/commands --write of dev/commands.toml: change the table, and not this file.
 """How a program or a script ends. tools/front/words.bash has the same table for people."""
 from __future__ import annotations
 

@@ -1,0 +1,1 @@
+"""What `dev/commands` makes of the table of commands, a module for each file, and what it compares with the table."""
