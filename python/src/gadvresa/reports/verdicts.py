@@ -8,20 +8,13 @@ from typing import Dict, List, Optional, Tuple, Union
 
 from ..model.exact import COUNTS, SCORES, Range, decimal_of, shown, whole_of
 from .lines import Form, NoReport, Report
+from .words import COUNT_WORDS, HEADS, VALUES
 
 # What is read of a report without a form of its own: texts by name, and those of a broken rule below `rule`.
 Texts = Dict[str, Union[str, Dict[str, str]]]
 
-# The first line of a report on a plan or a certificate.
-HEADS = ("feasible", "infeasible", "accepted", "plan found", "plan repaired", "nothing found", "no plan exists")
-# The words of each other line, by its first one: what each value behind it is called.
-VALUES = {
-    "score": ["score"], "bound": ["bound"], "bound-cost": ["bound_cost"], "gap": ["gap"],
-    "cost": ["cost_low", "cost_high"], "mean": ["mean_low", "mean_high"], "excess": ["excess_low", "excess_high"],
-    "splits": ["splits"], "moves": ["moves"], "changed": ["changed"], "least": ["least"], "rounded": ["rounded"],
-}
 # Values that count things, and so are small; all other numbers may be larger than a float holds exactly.
-COUNTED = {"splits", "moves", "changed", "least", "rounded", "start", "period"}
+COUNTED = {*COUNT_WORDS, "start", "period"}
 NUMBER = re.compile(r"-?[0-9]+(\.[0-9]+)?")
 # What of any text is taken for a number, where a script looks a single one up.
 WHOLE, DECIMAL = re.compile(r"-?[0-9]{1,60}"), re.compile(r"-?[0-9]{1,60}\.[0-9]{12}")
